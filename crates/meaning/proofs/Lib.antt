@@ -1,0 +1,3 @@
+-- Theorems about the definition.
+pub mod Computing
+pub mod Starred

@@ -1,0 +1,45 @@
+-- 01, "Outcome": refusals 1 to 6, checked over the whole input in that order.
+use Prim.Native.Nat.{ℕ, _+_, _-_, _*_}
+use mathlib.Core.Bool.{Bool, _&&_, cond}
+use mathlib.Core.List.{List}
+use lib.ListN.{length}
+use lib.Dec.{ltb, eqb}
+use Rattle.meaning.specs.Base.{lowest}
+use Rattle.meaning.specs.Fields.{Field, fields, left}
+use Rattle.meaning.specs.Grammar.{shape-at}
+use Rattle.meaning.specs.Tree.{tree-at, depth-at}
+use Rattle.meaning.specs.declared.Cause.{Cause}
+use Rattle.meaning.specs.declared.Cause.the-variants.{Frame, Many, Shape, Tree, Depth, Work}
+use Rattle.meaning.specs.declared.Outcome.{Outcome}
+use Rattle.meaning.specs.declared.Outcome.the-variants.{Accepted, Refused}
+
+-- there is a field, and nothing stands after the last whole one
+unfoldable pub framed : List ℕ → Bool
+framed s = ltb 0 (length (fields s)) && eqb (length (left s)) 0
+
+-- refused where a number below n fails the test, at the lowest such number; else what is answered otherwise
+unfoldable pub unless : Cause → (ℕ → Bool) → (n : ℕ) → Outcome → Outcome
+unless cause p n other = cond (ltb (lowest p n) n) (Refused cause (lowest p n)) other
+
+-- the words of a work area that n nodes ask
+unfoldable pub work-for : ℕ → ℕ
+work-for n = 12288 + 16 * n
+
+-- 6 Work
+unfoldable pub checked-work : (n work : ℕ) → Outcome
+checked-work n work = cond (ltb work (work-for n)) (Refused Work 0) (Accepted n)
+
+-- 3 Shape, 4 Tree, 5 Depth
+unfoldable pub checked-fields : List Field → (work : ℕ) → Outcome
+checked-fields fs work =
+    unless Shape (shape-at fs) (length fs)
+    (unless Tree (tree-at fs) (length fs - 1)
+    (unless Depth (depth-at fs) (length fs)
+    (checked-work (length fs) work)))
+
+-- 1 Frame, 2 Many; accepted with the number of nodes
+unfoldable pub checked : (tree : List ℕ) (work : ℕ) → Outcome
+checked tree work =
+    cond (framed tree)
+    (cond (ltb 32768 (length (fields tree))) (Refused Many 32768) (checked-fields (fields tree) work))
+    (Refused Frame (length (fields tree)))

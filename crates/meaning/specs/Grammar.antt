@@ -1,0 +1,217 @@
+-- 01, the table of tags: what each tag's payload holds, item by item; what it is to fit; the children that a payload names.
+use Prim.Native.Nat.{ℕ, zero, suc, _+_, _*_}
+use mathlib.Core.Bool.{Bool, true, false, not, _&&_, cond}
+use mathlib.Core.List.{List, [], _∷_, _++_, map}
+use lib.ListN.{length, getD, drop}
+use lib.Dec.{eqb, leb, ltb}
+use Rattle.meaning.specs.Fields.{Field, field-at}
+
+-- ---- the kinds of words
+
+abbrev pub none : ℕ
+none = 0
+
+-- a mark, a piece of a number, a text, another literal
+abbrev pub any : ℕ
+any = 1
+
+abbrev pub mark : ℕ
+mark = 1
+
+abbrev pub name : ℕ
+name = 2
+
+-- the operator of a unary or a logical node
+abbrev pub op : ℕ
+op = 3
+
+-- the operator of a binary one
+abbrev pub op12 : ℕ
+op12 = 4
+
+abbrev pub count : ℕ
+count = 5
+
+-- the children
+abbrev pub expr : ℕ
+expr = 6
+
+abbrev pub stmt : ℕ
+stmt = 7
+
+abbrev pub elif : ℕ
+elif = 8
+
+abbrev pub method : ℕ
+method = 9
+
+-- these two may be absent
+abbrev pub super : ℕ
+super = 10
+
+abbrev pub init : ℕ
+init = 11
+
+-- of each kind the lowest, the highest and one more that is not lawful: of the word, and from `expr` on of the child's tag
+unfoldable pub bounds : List ℕ
+bounds =
+    -- none
+    1 ∷ 0 ∷ 65536 ∷
+    -- any, mark
+    0 ∷ 65535 ∷ 65536 ∷
+    -- name: not 65,535
+    0 ∷ 65535 ∷ 65535 ∷
+    -- op, op12
+    1 ∷ 2 ∷ 65536 ∷
+    1 ∷ 12 ∷ 65536 ∷
+    -- count
+    0 ∷ 65535 ∷ 65536 ∷
+    -- expr: tags 01 to 09
+    0x01 ∷ 0x09 ∷ 65536 ∷
+    -- stmt: tags 10 to 1D without 1A
+    0x10 ∷ 0x1D ∷ 0x1A ∷
+    -- elif
+    0x1A ∷ 0x1A ∷ 65536 ∷
+    -- method: a function statement
+    0x1C ∷ 0x1C ∷ 65536 ∷
+    -- super: a variable
+    0x04 ∷ 0x04 ∷ 65536 ∷
+    -- init: an expression statement or a let
+    0x10 ∷ 0x11 ∷ 65536 ∷
+    []
+
+unfoldable pub bound : (kind column : ℕ) → ℕ
+bound kind column = getD bounds (kind * 3 + column) 0
+
+-- a number is within a kind's bounds
+unfoldable pub inside : (kind v : ℕ) → Bool
+inside kind v = leb (bound kind 0) v && leb v (bound kind 1) && not (eqb v (bound kind 2))
+
+abbrev pub absent : ℕ → Bool
+absent w = eqb w 65535
+
+-- the word names a child
+unfoldable pub names : (kind w : ℕ) → Bool
+names kind w = cond (ltb kind expr) false (cond (ltb kind super) true (not (absent w)))
+
+-- the word w is lawful at a kind in node i: a child stands below i, and its tag has the right role
+unfoldable pub lawful : (tags : List ℕ) (i kind w : ℕ) → Bool
+lawful tags i kind w = cond (names kind w) (ltb w i && inside kind (getD tags w 0)) (cond (ltb kind expr) (inside kind w) true)
+
+-- ---- payloads
+
+pub data Item : Type 0 where
+  -- a word of a kind
+  one : ℕ → Item
+  -- such a word, or the end
+  perhaps : ℕ → Item
+  -- any number of groups of words of these kinds, to the end
+  many : List ℕ → Item
+  -- a count, and as many groups
+  counted : List ℕ → Item
+
+-- what fits no payload
+abbrev pub never : List Item
+never = one none ∷ []
+
+-- the payload of each tag, from 00 on
+unfoldable pub grammar : List (List Item)
+grammar =
+    never ∷
+    -- 01 number: 8 bytes binary64
+    (one any ∷ one any ∷ one any ∷ one any ∷ []) ∷
+    -- 02 text, 03 other literal
+    (one any ∷ []) ∷
+    (one any ∷ []) ∷
+    -- 04 variable
+    (one name ∷ one mark ∷ []) ∷
+    -- 05 unary, 06 binary, 07 logical
+    (one op ∷ one mark ∷ one expr ∷ []) ∷
+    (one op12 ∷ one mark ∷ one expr ∷ one expr ∷ []) ∷
+    (one op ∷ one mark ∷ one expr ∷ one expr ∷ []) ∷
+    -- 08 call, 09 function
+    (one expr ∷ one mark ∷ many (expr ∷ []) ∷ []) ∷
+    (counted (name ∷ mark ∷ []) ∷ many (stmt ∷ []) ∷ []) ∷
+    never ∷ never ∷ never ∷ never ∷ never ∷ never ∷
+    -- 10 expression, 11 let, 12 block
+    (one expr ∷ []) ∷
+    (one name ∷ one mark ∷ perhaps expr ∷ []) ∷
+    (many (stmt ∷ []) ∷ []) ∷
+    -- 13 while, 14 for, 15 for-in
+    (one mark ∷ one expr ∷ one stmt ∷ []) ∷
+    (one mark ∷ one init ∷ one expr ∷ one expr ∷ one stmt ∷ []) ∷
+    (one mark ∷ one expr ∷ one stmt ∷ one name ∷ one mark ∷ many (name ∷ mark ∷ []) ∷ []) ∷
+    -- 16 break, 17 continue, 18 return
+    (one mark ∷ []) ∷
+    (one mark ∷ []) ∷
+    (one mark ∷ perhaps expr ∷ []) ∷
+    -- 19 if, 1A elif, 1B try
+    (one mark ∷ one expr ∷ counted (stmt ∷ []) ∷ counted (elif ∷ []) ∷ many (stmt ∷ []) ∷ []) ∷
+    (one expr ∷ many (stmt ∷ []) ∷ []) ∷
+    (one stmt ∷ one name ∷ one mark ∷ one stmt ∷ []) ∷
+    -- 1C function statement, 1D class, 1E program
+    (one name ∷ one mark ∷ counted (name ∷ mark ∷ []) ∷ many (stmt ∷ []) ∷ []) ∷
+    (one name ∷ one mark ∷ one super ∷ counted (method ∷ []) ∷ many (method ∷ []) ∷ []) ∷
+    (many (stmt ∷ []) ∷ []) ∷
+    []
+
+unfoldable pub items-of : (tag : ℕ) → List Item
+items-of tag = getD grammar tag never
+
+-- the last node is a program, and no other is
+unfoldable pub items-for : (tag : ℕ) → (last : Bool) → List Item
+items-for tag true = cond (eqb tag 0x1E) (items-of tag) never
+items-for tag false = cond (eqb tag 0x1E) never (items-of tag)
+
+-- ---- what it is to fit
+
+abbrev pub ones : List ℕ → List Item → List Item
+ones [] is = is
+ones (k ∷ ks) is = one k ∷ ones ks is
+
+abbrev pub copies : ℕ → List ℕ → List Item → List Item
+copies zero ks is = is
+copies (suc n) ks is = ones ks (copies n ks is)
+
+-- the payload may end before these items
+unfoldable pub ends : List Item → Bool
+ends [] = true
+ends (one k ∷ is) = false
+ends (perhaps k ∷ is) = ends is
+ends (many ks ∷ is) = ends is
+ends (counted ks ∷ is) = false
+
+-- the kind of the next word
+unfoldable pub kind-of : List Item → ℕ
+kind-of [] = none
+kind-of (one k ∷ is) = k
+kind-of (perhaps k ∷ is) = k
+kind-of (many ks ∷ is) = getD ks 0 none
+kind-of (counted ks ∷ is) = count
+
+-- what is due after the next word w
+unfoldable pub due-after : List Item → (w : ℕ) → List Item
+due-after [] w = []
+due-after (one k ∷ is) w = is
+due-after (perhaps k ∷ is) w = is
+due-after (many ks ∷ is) w = ones (drop 1 ks) (many ks ∷ is)
+due-after (counted ks ∷ is) w = copies w ks is
+
+-- a payload's bytes fit, where `ok` says which word is lawful at which kind
+unfoldable pub fits : (ok : ℕ → ℕ → Bool) → List Item → List ℕ → Bool
+fits ok is [] = ends is
+fits ok is (a ∷ []) = false
+fits ok is (a ∷ b ∷ p) = ok (kind-of is) (a * 256 + b) && fits ok (due-after is (a * 256 + b)) p
+
+-- the children that a payload names, in order
+unfoldable pub kids : List Item → List ℕ → List ℕ
+kids is [] = []
+kids is (a ∷ []) = []
+kids is (a ∷ b ∷ p) = cond (names (kind-of is) (a * 256 + b)) ((a * 256 + b) ∷ []) [] ++ kids (due-after is (a * 256 + b)) p
+
+abbrev pub tags-of : List Field → List ℕ
+tags-of fs = map (λ f. f .tag) fs
+
+-- "A node has the right shape when .."
+unfoldable pub shape-at : List Field → ℕ → Bool
+shape-at fs i = fits (lawful (tags-of fs) i) (items-for (field-at fs i .tag) (eqb (i + 1) (length fs))) (field-at fs i .payload)

@@ -1,0 +1,182 @@
+-- src/instruction.rs: opcodes, instructions with their marks, the 16-bit offset. An opcode is its number, from 0 (Move) to 50 (GetExcept), in the order of `OpCode`.
+use Prim.Native.Nat.{ℕ, _+_, _-_, _*_, _/_, _%_}
+use mathlib.Core.Bool.{Bool, _&&_}
+use mathlib.Core.List.{List, [], _∷_}
+use lib.ListN.{getD}
+use lib.Dec.{eqb}
+use Rattle.meaning.specs.declared.Instruction.{Instruction}
+
+-- ---- enum OpCode: the opcodes that this lowering writes
+
+abbrev pub Move : ℕ
+Move = 0
+
+abbrev pub LoadK : ℕ
+LoadK = 1
+
+abbrev pub LoadNil : ℕ
+LoadNil = 2
+
+abbrev pub Jmp : ℕ
+Jmp = 3
+
+abbrev pub Test : ℕ
+Test = 4
+
+abbrev pub Add : ℕ
+Add = 5
+
+abbrev pub Sub : ℕ
+Sub = 6
+
+abbrev pub Div : ℕ
+Div = 7
+
+abbrev pub Mod : ℕ
+Mod = 8
+
+abbrev pub Mul : ℕ
+Mul = 9
+
+abbrev pub Pow : ℕ
+Pow = 10
+
+abbrev pub Lt : ℕ
+Lt = 11
+
+abbrev pub Gt : ℕ
+Gt = 12
+
+abbrev pub Lte : ℕ
+Lte = 13
+
+abbrev pub Gte : ℕ
+Gte = 14
+
+abbrev pub Eq : ℕ
+Eq = 15
+
+abbrev pub Neq : ℕ
+Neq = 16
+
+abbrev pub Not : ℕ
+Not = 17
+
+abbrev pub Neg : ℕ
+Neg = 18
+
+abbrev pub Call : ℕ
+Call = 19
+
+abbrev pub Return : ℕ
+Return = 20
+
+abbrev pub GetUpval : ℕ
+GetUpval = 22
+
+abbrev pub Closure : ℕ
+Closure = 23
+
+abbrev pub Class : ℕ
+Class = 31
+
+abbrev pub ClassMeth : ℕ
+ClassMeth = 32
+
+abbrev pub ClassStMeth : ℕ
+ClassStMeth = 33
+
+abbrev pub Addi : ℕ
+Addi = 36
+
+abbrev pub GetIter : ℕ
+GetIter = 38
+
+abbrev pub GetIterk : ℕ
+GetIterk = 39
+
+abbrev pub GetIteri : ℕ
+GetIteri = 40
+
+abbrev pub Length : ℕ
+Length = 41
+
+abbrev pub GetGlobal : ℕ
+GetGlobal = 44
+
+abbrev pub SetGlobal : ℕ
+SetGlobal = 45
+
+abbrev pub GetCurrentFunc : ℕ
+GetCurrentFunc = 46
+
+abbrev pub GetBuiltin : ℕ
+GetBuiltin = 47
+
+abbrev pub RegisterTryCatch : ℕ
+RegisterTryCatch = 48
+
+abbrev pub DeregisterTryCatch : ℕ
+DeregisterTryCatch = 49
+
+abbrev pub GetExcept : ℕ
+GetExcept = 50
+
+-- ---- struct Instruction, with its mark (struct InstSrc)
+
+abbrev pub inst : (opcode a b c mark : ℕ) → Instruction
+inst opcode a b c mark = record { opcode = opcode; a = a; b = b; c = c; mark = mark }
+
+-- the mark that stands for `None`
+abbrev pub no-mark : ℕ
+no-mark = 65535
+
+-- an instruction whose b and c hold a 16-bit number, high byte first
+abbrev pub wide : (opcode a n mark : ℕ) → Instruction
+wide opcode a n mark = inst opcode a (n / 256 % 256) (n % 256) mark
+
+-- fn bx: the number that b and c hold
+abbrev pub bx : Instruction → ℕ
+bx x = x .b * 256 + x .c
+
+-- "A backward offset of n is stored as 65,536 minus n", wrapping
+abbrev pub back : ℕ → ℕ
+back n = (65536 - n % 65536) % 65536
+
+-- the marks of an unfinished jump
+abbrev pub JMP-CONTINUE : ℕ
+JMP-CONTINUE = 1
+
+abbrev pub JMP-BREAK : ℕ
+JMP-BREAK = 2
+
+-- fn is_continue, fn is_break
+abbrev pub is-continue : Instruction → Bool
+is-continue x = eqb (x .opcode) Jmp && eqb (x .a) JMP-CONTINUE
+
+abbrev pub is-break : Instruction → Bool
+is-break x = eqb (x .opcode) Jmp && eqb (x .a) JMP-BREAK
+
+-- the jump to the end of an if or a try, before it is patched: Jmp 0 0 0
+abbrev pub is-end-jump : Instruction → Bool
+is-end-jump x = eqb (x .opcode) Jmp && eqb (x .a) 0 && eqb (x .b) 0 && eqb (x .c) 0
+
+-- ---- the operators, as numbered in the tree file
+
+-- 1 Not, 2 Minus
+abbrev pub unary-opcode : ℕ → ℕ
+unary-opcode op = getD (0 ∷ Not ∷ Neg ∷ []) op 0
+
+-- 1 Plus, 2 Less, 3 EqualEqual, 4 BangEqual, 5 Greater, 6 GreaterEqual, 7 LessEqual, 8 Minus, 9 Slash, 10 Mod, 11 Star, 12 Power
+abbrev pub binary-opcode : ℕ → ℕ
+binary-opcode op = getD (0 ∷ Add ∷ Lt ∷ Eq ∷ Neq ∷ Gt ∷ Gte ∷ Lte ∷ Sub ∷ Div ∷ Mod ∷ Mul ∷ Pow ∷ []) op 0
+
+-- the operators that `visit_binary_expr` and `visit_logical_expr` ask for by name
+abbrev pub plus : ℕ
+plus = 1
+
+abbrev pub minus : ℕ
+minus = 8
+
+abbrev pub or : ℕ
+or = 1

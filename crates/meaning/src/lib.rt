@@ -1,0 +1,53 @@
+// The types that the crates share. The definitions of specs/ give document 01's number and values for each case of an enum.
+
+// A constant. A number is its f64; a NaN keeps its 64 bits in a case of its own (docs/DECISIONS.md).
+pub enum Literal {
+    Number(f64),
+    NotANumber(u64),
+    Text(u16),
+    Other(u16),
+}
+
+// The causes of refusal, in the order of their numbers, 1 to 18.
+pub enum Cause {
+    Frame,
+    Many,
+    Shape,
+    Tree,
+    Depth,
+    Work,
+    Registers,
+    Captures,
+    Undefined,
+    Redefined,
+    Stray,
+    Empty,
+    Returned,
+    Constants,
+    Prototypes,
+    Nesting,
+    Long,
+    Room,
+}
+
+// Accepted with a length (of the image; of a check, the number of nodes), or refused with a cause and its place.
+pub enum Outcome {
+    Accepted(usize),
+    Refused(Cause, usize),
+}
+
+// What a caller is told: 0 or the cause's number, the place, the image's length.
+pub struct Answer {
+    pub number: u64,
+    pub place: u64,
+    pub length: u64,
+}
+
+// struct Instruction with its mark (struct InstSrc).
+pub struct Instruction {
+    pub opcode: u8,
+    pub a: u8,
+    pub b: u8,
+    pub c: u8,
+    pub mark: u32,
+}
