@@ -1,0 +1,25 @@
+// Part of two build scripts: where the source stands, and the text of one of its files.
+
+const FILES: [&str; 7] = ["compiler", "errors", "expr", "instruction", "stmt", "token", "value"];
+
+/// The folder of the source: GROTSKY_SRC (a relative one from the project's root), else ../shared/docs/src/src beside the project.
+fn source() -> std::path::PathBuf {
+    println!("cargo:rerun-if-env-changed=GROTSKY_SRC");
+    let root = std::path::Path::new(env!("CARGO_MANIFEST_DIR")).join("../..");
+    let folder = root.join(std::env::var_os("GROTSKY_SRC").unwrap_or("../shared/docs/src/src".into()));
+    let folder = folder.canonicalize().unwrap_or_else(|_| panic!("the source is not at {}: set GROTSKY_SRC", folder.display()));
+    for name in FILES {
+        println!("cargo:rerun-if-changed={}", folder.join(name).with_extension("rs").display());
+    }
+    folder
+}
+
+/// Writes modules.rs: one `pub mod` for each file of the source, from `folder`.
+fn write_modules(folder: &std::path::Path) {
+    let mut text = String::new();
+    for name in FILES {
+        let file = folder.join(name).with_extension("rs");
+        text += &format!("#[allow(warnings)]\n#[path = {file:?}]\npub mod {name};\n");
+    }
+    std::fs::write(std::path::Path::new(&std::env::var("OUT_DIR").unwrap()).join("modules.rs"), text).unwrap();
+}

@@ -1,0 +1,7 @@
+//! The two file formats of document 01, and nothing about what they mean.
+pub mod image;
+pub mod listing;
+pub mod tree;
+
+/// 65,535: the empty text, no mark, an absent child.
+pub const NONE: u16 = 65_535;

@@ -1,0 +1,48 @@
+//! An image for people: one line for each prototype, capture, instruction and constant.
+use crate::image::{Constant, Image, Instruction};
+use crate::NONE;
+
+/// The opcodes in the order of `OpCode`.
+pub const OPCODES: [&str; 51] = [
+    "Move", "LoadK", "LoadNil", "Jmp", "Test", "Add", "Sub", "Div", "Mod", "Mul", "Pow", "Lt", "Gt", "Lte", "Gte", "Eq",
+    "Neq", "Not", "Neg", "Call", "Return", "SetUpval", "GetUpval", "Closure", "List", "PushList", "Dict", "PushDict",
+    "Slice", "Access", "Set", "Class", "ClassMeth", "ClassStMeth", "GetObj", "SetObj", "Addi", "Subi", "GetIter",
+    "GetIterk", "GetIteri", "Length", "Super", "This", "GetGlobal", "SetGlobal", "GetCurrentFunc", "GetBuiltin",
+    "RegisterTryCatch", "DeregisterTryCatch", "GetExcept",
+];
+
+/// The number of an opcode by its name.
+pub fn opcode(name: &str) -> u8 {
+    OPCODES.iter().position(|o| *o == name).expect("an opcode") as u8
+}
+
+/// `LoadK 0 0 1`: an instruction without its mark, as 01 lists them.
+pub fn line(i: &Instruction) -> String {
+    let name = OPCODES.get(usize::from(i.opcode)).unwrap_or(&"?");
+    format!("{name} {} {} {}", i.a, i.b, i.c)
+}
+
+pub fn listing(image: &Image) -> String {
+    let mut text = String::new();
+    for (k, p) in image.prototypes.iter().enumerate() {
+        text += &format!("prototype {k}: name {}, {} parameters, {} registers\n", word(p.name), p.parameters, p.registers);
+        for c in &p.captures {
+            text += &format!("  captures {} {}\n", if c.local { "register" } else { "capture" }, c.index);
+        }
+        for (at, i) in p.instructions.iter().enumerate() {
+            text += &format!("  {at:5} {}  mark {}\n", line(i), word(i.mark));
+        }
+    }
+    for (k, c) in image.constants.iter().enumerate() {
+        text += &match c {
+            Constant::Number(bits) => format!("constant {k}: number {} ({bits:016X})\n", f64::from_bits(*bits)),
+            Constant::Text(name) => format!("constant {k}: text {}\n", word(*name)),
+            Constant::Other(w) => format!("constant {k}: other {w}\n"),
+        };
+    }
+    text
+}
+
+fn word(w: u16) -> String {
+    if w == NONE { "none".into() } else { w.to_string() }
+}

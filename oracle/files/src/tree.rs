@@ -1,0 +1,52 @@
+//! Tree files: fields of a one-byte tag, a two-byte length and a payload.
+
+/// One field; its payload is a part of the file.
+#[derive(Clone, Copy, Debug, PartialEq)]
+pub struct Field<'t> {
+    pub tag: u8,
+    pub payload: &'t [u8],
+}
+
+impl Field<'_> {
+    /// Word k of the payload.
+    pub fn word(&self, k: usize) -> u16 {
+        u16::from_be_bytes([self.payload[2 * k], self.payload[2 * k + 1]])
+    }
+
+    /// The payload as words; a byte left over is dropped.
+    pub fn words(&self) -> Vec<u16> {
+        (0..self.payload.len() / 2).map(|k| self.word(k)).collect()
+    }
+}
+
+/// The first field and what stands behind it, or nothing where a header or payload runs past the end.
+pub fn first_field(bytes: &[u8]) -> Option<(Field<'_>, &[u8])> {
+    let (&tag, rest) = bytes.split_first()?;
+    let (length, rest) = rest.split_at_checked(2)?;
+    let length = u16::from_be_bytes([length[0], length[1]]) as usize;
+    let (payload, rest) = rest.split_at_checked(length)?;
+    Some((Field { tag, payload }, rest))
+}
+
+/// All fields, or how many whole ones stand before the one that is cut.
+pub fn fields(bytes: &[u8]) -> Result<Vec<Field<'_>>, usize> {
+    let mut rest = bytes;
+    let mut found = vec![];
+    while !rest.is_empty() {
+        match first_field(rest) {
+            Some((field, more)) => {
+                found.push(field);
+                rest = more;
+            }
+            None => return Err(found.len()),
+        }
+    }
+    Ok(found)
+}
+
+/// Appends one field.
+pub fn push_field(file: &mut Vec<u8>, tag: u8, payload: &[u8]) {
+    file.push(tag);
+    file.extend((payload.len() as u16).to_be_bytes());
+    file.extend(payload);
+}

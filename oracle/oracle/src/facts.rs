@@ -1,0 +1,120 @@
+//! Demand 3 in plain Rust: what holds at every instruction of an accepted image, reached or not.
+use files::image::{Capture, Constant, Image, Instruction, Prototype};
+use files::listing::{line, OPCODES};
+
+/// All facts, or the first that fails, in words.
+pub fn check(image: &Image) -> Result<(), String> {
+    if image.prototypes.is_empty() {
+        return Err("no prototype".into());
+    }
+    for k in 0..image.prototypes.len() {
+        check_prototype(image, k).map_err(|fault| format!("prototype {k}: {fault}"))?;
+    }
+    Ok(())
+}
+
+/// The same of an image's bytes.
+pub fn check_bytes(bytes: &[u8]) -> Result<(), String> {
+    check(&Image::from_bytes(bytes)?)
+}
+
+fn check_prototype(image: &Image, k: usize) -> Result<(), String> {
+    let p = &image.prototypes[k];
+    if p.instructions.last().map(name) != Some("Return") {
+        return Err("the last instruction is no Return".into());
+    }
+    let here = Here { prototype: p, earlier: &image.prototypes[..k], constants: &image.constants };
+    for (at, i) in p.instructions.iter().enumerate() {
+        here.check(at, i).map_err(|fault| format!("instruction {at}, {}: {fault}", line(i)))?;
+    }
+    Ok(())
+}
+
+fn name(i: &Instruction) -> &'static str {
+    OPCODES.get(usize::from(i.opcode)).copied().unwrap_or("?")
+}
+
+/// A prototype with what its instructions may name.
+struct Here<'i> {
+    prototype: &'i Prototype,
+    earlier: &'i [Prototype],
+    constants: &'i [Constant],
+}
+
+impl Here<'_> {
+    fn check(&self, at: usize, i: &Instruction) -> Result<(), String> {
+        if name(i) == "?" {
+            return Err("no opcode".into());
+        }
+        if name(i) == "Jmp" && i.a != 0 {
+            return Err("a Jmp with a other than 0".into());
+        }
+        if name(i) == "Call" && (i.b == 0 || i.c == 0) {
+            return Err("a Call with b or c 0".into());
+        }
+        for target in targets(at, i) {
+            within("a target", target, self.prototype.instructions.len())?;
+        }
+        for register in registers_met(i) {
+            within("a register", register as isize, self.prototype.registers.into())?;
+        }
+        self.check_names(i)
+    }
+
+    /// Captures, constants, texts and prototypes that an instruction names.
+    fn check_names(&self, i: &Instruction) -> Result<(), String> {
+        match name(i) {
+            "GetUpval" => within("a capture", i.b.into(), self.prototype.captures.len()),
+            "LoadK" => within("a constant", i.bx() as isize, self.constants.len()),
+            "GetGlobal" | "SetGlobal" | "GetBuiltin" => match self.constants.get(i.bx()) {
+                Some(Constant::Text(_)) => Ok(()),
+                other => Err(format!("a text is due, not {other:?}")),
+            },
+            "Closure" => {
+                let made = self.earlier.get(i.bx()).ok_or("no earlier prototype")?;
+                made.captures.iter().try_for_each(|c| self.check_capture(c))
+            }
+            _ => Ok(()),
+        }
+    }
+
+    /// A capture of a prototype that is made here names a register or a capture that stands here.
+    fn check_capture(&self, c: &Capture) -> Result<(), String> {
+        if c.local {
+            within("a captured register", c.index.into(), self.prototype.registers.into())
+        } else {
+            within("a captured capture", c.index.into(), self.prototype.captures.len())
+        }
+    }
+}
+
+fn within(what: &str, n: isize, count: usize) -> Result<(), String> {
+    if n < 0 || n >= count as isize { Err(format!("{what} {n} of {count}")) } else { Ok(()) }
+}
+
+/// 01, "Allowed steps".
+fn targets(at: usize, i: &Instruction) -> Vec<isize> {
+    let at = at as isize;
+    match name(i) {
+        "Return" => vec![],
+        "Jmp" => vec![at + i.sbx()],
+        "Test" => vec![at + 1, at + 2],
+        "RegisterTryCatch" => vec![at + 1, at + i.bx() as isize],
+        _ => vec![at + 1],
+    }
+}
+
+/// 01, "Registers met".
+fn registers_met(i: &Instruction) -> Vec<usize> {
+    let (a, b, c) = (usize::from(i.a), usize::from(i.b), usize::from(i.c));
+    match name(i) {
+        "Add" | "Sub" | "Div" | "Mod" | "Mul" | "Pow" | "Lt" | "Gt" | "Lte" | "Gte" | "Eq" | "Neq" => vec![a, b, c],
+        "Class" | "ClassMeth" | "ClassStMeth" | "GetIter" | "GetIterk" => vec![a, b, c],
+        "Move" | "Test" | "Not" | "Neg" | "Addi" | "GetIteri" | "Length" => vec![a, b],
+        "Jmp" | "RegisterTryCatch" | "DeregisterTryCatch" => vec![],
+        "Return" => if b == 0 { vec![] } else { vec![a] },
+        // the function, its b - 1 arguments behind it, and the result before c
+        "Call" => (a..a + b).chain([c.wrapping_sub(1)]).collect(),
+        _ => vec![a],
+    }
+}

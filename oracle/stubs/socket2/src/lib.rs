@@ -1,0 +1,3 @@
+//! The one type that the source names.
+#[derive(Debug)]
+pub struct Socket;

@@ -1,0 +1,51 @@
+//! The traced copy of the source: the same image, or the refusal that 01's table gives.
+include!(concat!(env!("OUT_DIR"), "/modules.rs"));
+
+pub mod trace;
+
+/// The one thing that the source takes from a file we were not handed; 01 drops the path.
+pub mod interpreter {
+    pub fn get_absolute_path() -> String {
+        String::new()
+    }
+}
+
+macro_rules! node {
+    ($number:expr, $name:ident { $($fields:tt)* }) => {
+        $name { node: $number, $($fields)* }
+    };
+}
+
+#[path = "../../bridge/names.rs"]
+pub mod names;
+#[path = "../../bridge/read.rs"]
+pub mod read;
+#[path = "../../bridge/write.rs"]
+pub mod write;
+
+use compiler::Compiler;
+use files::image::Image;
+use files::tree::Field;
+use std::panic::{catch_unwind, resume_unwind, AssertUnwindSafe};
+pub use trace::Refusal;
+
+/// The image of a checked tree, or the first of 7 to 17 that is met.
+pub fn lower(fields: &[Field]) -> Result<Image, Refusal> {
+    let run = || {
+        let program = read::program(fields);
+        let _visit = trace::Visit::of(fields.len() - 1);
+        let mut compiler = Compiler {
+            constants: Default::default(),
+            contexts: vec![],
+            prototypes: vec![],
+            globals: Default::default(),
+        };
+        compiler.compile(program);
+        compiler.leave_function(0);
+        write::image(&compiler)
+    };
+    catch_unwind(AssertUnwindSafe(run)).map_err(|panic| match panic.downcast::<Refusal>() {
+        Ok(refusal) => *refusal,
+        Err(other) => resume_unwind(other),
+    })
+}
