@@ -1,3 +1,8 @@
 -- Theorems about the definition.
 pub mod Computing
 pub mod Starred
+pub mod Lists
+pub mod FieldLaws
+pub mod Kids
+pub mod Counting
+pub mod Accepted

@@ -1,0 +1,75 @@
+-- Where every node but the last is a child exactly once, and children stand below their parents, the tree that unfolds from the last node
+-- has as many nodes as the file. This bounds what a walk over the tree, as the lowering, keeps pending.
+--     size-by fs f i    the size of the tree under node i: one more than the sizes of its children's, f deep
+--     tree-size         at enough fuel the last node's is the number of nodes
+use mathlib.Core.Path.{_≡_, refl, ap, _∙_, subst}
+use mathlib.Core.Bool.{true}
+use mathlib.Core.Logic.{⊎-elim}
+use mathlib.Core.List.{List, [], _∷_}
+use Prim.Native.Nat.{ℕ, zero, suc, _+_, _-_, _<_, _≤_}
+use native.Mathlib.Nat.{eq-zero-or-pos}
+use native.Mathlib.Omega.{arith}
+use lib.ListN.{length}
+use Rattle.meaning.specs.Base.{count}
+use Rattle.meaning.specs.Fields.{Field, field-at}
+use Rattle.meaning.specs.Grammar.{shape-at}
+use Rattle.meaning.specs.Tree.{kids-of, all-kids}
+use Rattle.meaning.proofs.Lists.{sum-of, sum-to, sum-of-append, sum-to-same, sum-to-first, sum-to-nil, sum-to-plus, sum-to-ones, sum-of-once, sum-of-same}
+use Rattle.meaning.proofs.Kids.{parent-is, child-below}
+
+-- ---- the sum over the nodes of the sums over their children
+
+kids-sum : (ℕ → ℕ) → List Field → ℕ
+kids-sum g [] = 0
+kids-sum g (f ∷ fs) = sum-of g (kids-of f) + kids-sum g fs
+
+kids-sum-all : (g : ℕ → ℕ) (fs : List Field) → kids-sum g fs ≡ sum-of g (all-kids fs)
+unfolding kids-sum all-kids sum-of
+kids-sum-all g [] = refl
+kids-sum-all g (f ∷ fs) = let r = kids-sum-all g fs in omega (arith, sum-of-append g (kids-of f) (all-kids fs))
+
+kids-sum-at : (g : ℕ → ℕ) (fs : List Field) → sum-to (λ i. sum-of g (kids-of (field-at fs i))) (length fs) ≡ kids-sum g fs
+unfolding kids-sum
+kids-sum-at g [] = sum-to-nil (λ i. sum-of g (kids-of (field-at [] i)))
+kids-sum-at g (f ∷ fs) = sum-to-first (λ i. sum-of g (kids-of (field-at (f ∷ fs) i))) (length fs) ∙ ap (λ (k : ℕ). sum-of g (kids-of f) + k) (kids-sum-at g fs)
+
+-- ---- the tree under a node
+
+pub size-by : List Field → ℕ → ℕ → ℕ
+size-by fs zero i = 0
+size-by fs (suc f) i = suc (sum-of (size-by fs f) (kids-of (field-at fs i)))
+
+module _ (fs : List Field) (good : (j : ℕ) → j < length fs → shape-at fs j ≡ true) where
+  size-fuel : (f g i : ℕ) → i < length fs → i < f → i < g → size-by fs f i ≡ size-by fs g i
+  unfolding size-by
+  size-fuel zero g i l p q = absurd (omega arith)
+  size-fuel (suc f) zero i l p q = absurd (omega arith)
+  size-fuel (suc f) (suc g) i l p q =
+      ap suc (sum-of-same (size-by fs f) (size-by fs g) (kids-of (field-at fs i))
+      (λ c h. let z = child-below fs i c (good i l) h in size-fuel f g c (omega arith) (omega arith) (omega arith)))
+
+  -- at as much fuel as there are nodes
+  size-step : (i : ℕ) → i < length fs → size-by fs (length fs) i ≡ 1 + sum-of (size-by fs (length fs)) (kids-of (field-at fs i))
+  unfolding size-by
+  size-step i l = size-fuel (length fs) (suc (length fs)) i l l (omega arith) ∙ omega arith
+
+  -- no child at or above the last node
+  none-above : (c : ℕ) → length fs - 1 ≤ c → count c (all-kids fs) ≡ 0
+  none-above c h =
+      ⊎-elim (λ (q : count c (all-kids fs) ≡ 0). q)
+      (λ (q : 0 < count c (all-kids fs)). let r = parent-is c 0 fs q in absurd (omega (arith, r .2, child-below fs (r .0) c (good (r .0) (r .2)) (r .3))))
+      (eq-zero-or-pos (count c (all-kids fs)))
+
+  module _ (some : 1 ≤ length fs) (once : (c : ℕ) → c < length fs - 1 → count c (all-kids fs) ≡ 1) where
+    pub tree-size : size-by fs (length fs) (length fs - 1) ≡ length fs
+    unfolding sum-to
+    tree-size =
+        let S : ℕ → ℕ = size-by fs (length fs) in
+        let K : ℕ → ℕ = λ i. sum-of S (kids-of (field-at fs i)) in
+        let a : sum-to S (length fs) ≡ sum-to (λ i. 1 + K i) (length fs) = sum-to-same S (λ i. 1 + K i) (length fs) size-step in
+        let b : sum-to (λ i. 1 + K i) (length fs) ≡ sum-to (λ i. 1) (length fs) + sum-to K (length fs) = sum-to-plus (λ i. 1) K (length fs) in
+        let d : sum-to K (length fs) ≡ sum-to S (length fs - 1) = kids-sum-at S fs ∙ kids-sum-all S fs ∙ sum-of-once S (length fs - 1) (all-kids fs) none-above once in
+        let e : sum-to S (suc (length fs - 1)) ≡ sum-to S (length fs - 1) + S (length fs - 1) = refl in
+        let f : suc (length fs - 1) ≡ length fs = omega arith in
+        let g : sum-to S (length fs) ≡ sum-to S (length fs - 1) + S (length fs - 1) = subst (λ (m : ℕ). sum-to S m ≡ sum-to S (length fs - 1) + S (length fs - 1)) f e in
+        omega (arith, sum-to-ones (length fs))
