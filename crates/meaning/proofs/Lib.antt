@@ -6,3 +6,7 @@ pub mod FieldLaws
 pub mod Kids
 pub mod Counting
 pub mod Accepted
+pub mod Keeps
+pub mod Grows
+pub mod Large
+pub mod Limits

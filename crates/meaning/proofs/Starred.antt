@@ -8,7 +8,7 @@ use Rattle.meaning.specs.Answer.{finished, outcome, answer, output}
 use Rattle.meaning.specs.declared.Answer.{Answer}
 use Rattle.meaning.proofs.Computing.{computing}
 
-abbrev room : ℕ
+abbrev pub room : ℕ
 room = 200
 
 -- what a call tells and leaves in the output
@@ -23,15 +23,15 @@ pub record Case : Type 0 where
   pub place : ℕ
   pub image : List (List ℕ)
 
-abbrev case : List (List ℕ) → ℕ → ℕ → List (List ℕ) → Case
+abbrev pub case : List (List ℕ) → ℕ → ℕ → List (List ℕ) → Case
 case tree number place image = record { tree = tree; number = number; place = place; image = image }
 
 -- fields one after the other
-abbrev bytes : List (List ℕ) → List ℕ
+abbrev pub bytes : List (List ℕ) → List ℕ
 bytes [] = []
 bytes (f ∷ fs) = f ++ bytes fs
 
-abbrev due : Case → Call
+abbrev pub due : Case → Call
 due c =
     let image = bytes (c .image) in
     record {
@@ -39,7 +39,7 @@ due c =
       output = image ++ replicate (room - length image) 0;
     }
 
-abbrev given : Case → Call
+abbrev pub given : Case → Call
 given c =
     let end = finished (bytes (c .tree)) 20000 room in
     record { answer = answer (outcome end); output = output room end }

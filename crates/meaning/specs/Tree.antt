@@ -32,7 +32,7 @@ parent-of fs c = parent-by c 0 fs
 -- how deep node c stands, the last node being at 1: one deeper than its parent
 unfoldable pub depth-by : (parent : ℕ → ℕ) → (last fuel c : ℕ) → ℕ
 depth-by parent last zero c = 0
-depth-by parent last (suc f) c = cond (eqb c last) 1 (suc (depth-by parent last f (parent c)))
+depth-by parent last (suc f) c = let deeper = suc (depth-by parent last f (parent c)) in cond (eqb c last) 1 deeper
 
 -- a parent stands above its child, so that as many steps as there are nodes are enough
 unfoldable pub depth-of : List Field → ℕ → ℕ
