@@ -28,20 +28,21 @@ pub fn first_field(bytes: &[u8]) -> Option<(Field<'_>, &[u8])> {
     Some((Field { tag, payload }, rest))
 }
 
-/// All fields, or how many whole ones stand before the one that is cut.
-pub fn fields(bytes: &[u8]) -> Result<Vec<Field<'_>>, usize> {
+/// All whole fields, and the bytes behind them that are none.
+pub fn whole_fields(bytes: &[u8]) -> (Vec<Field<'_>>, &[u8]) {
     let mut rest = bytes;
     let mut found = vec![];
-    while !rest.is_empty() {
-        match first_field(rest) {
-            Some((field, more)) => {
-                found.push(field);
-                rest = more;
-            }
-            None => return Err(found.len()),
-        }
+    while let Some((field, more)) = first_field(rest) {
+        found.push(field);
+        rest = more;
     }
-    Ok(found)
+    (found, rest)
+}
+
+/// All fields, or how many whole ones stand before the one that is cut.
+pub fn fields(bytes: &[u8]) -> Result<Vec<Field<'_>>, usize> {
+    let (found, rest) = whole_fields(bytes);
+    if rest.is_empty() { Ok(found) } else { Err(found.len()) }
 }
 
 /// Appends one field.

@@ -1,6 +1,12 @@
 //! The answer that document 01 gives for any byte string, judged by the source; trees to ask it about.
 pub mod answer;
+pub mod compare;
+pub mod export;
 pub mod facts;
 pub mod judge;
+pub mod limits;
+pub mod packed;
+pub mod questions;
 pub mod rng;
+pub mod sample;
 pub mod trees;

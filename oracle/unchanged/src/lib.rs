@@ -48,5 +48,10 @@ pub fn lower(fields: &[Field]) -> Image {
 
 /// The same with a panic as an error in its own words. An exit of the source here ends the process as a failure.
 pub fn attempt(fields: &[Field]) -> Result<Image, String> {
-    quiet::catch(|| lower(fields))
+    quiet::without_exit(|| quiet::catch(|| lower(fields)))
+}
+
+/// The compiler after the whole program, or a panic in its own words. An exit of the source ends the process.
+pub fn attempt_or_exit(fields: &[Field]) -> Result<Compiler, String> {
+    quiet::catch(|| compile(read::program(fields)))
 }

@@ -7,7 +7,8 @@ use std::sync::Once;
 
 thread_local!(static QUIET: Cell<bool> = const { Cell::new(false) });
 static RUNNING: AtomicUsize = AtomicUsize::new(0);
-static SET: Once = Once::new();
+static HOOK: Once = Once::new();
+static WATCH: Once = Once::new();
 
 extern "C" {
     fn atexit(call: extern "C" fn()) -> i32;
@@ -21,21 +22,31 @@ extern "C" fn on_exit() {
     }
 }
 
+/// Runs what must not end the process.
+pub fn without_exit<T>(run: impl FnOnce() -> T) -> T {
+    WATCH.call_once(|| {
+        let failed = unsafe { atexit(on_exit) };
+        assert_eq!(failed, 0, "atexit");
+    });
+    RUNNING.fetch_add(1, Ordering::SeqCst);
+    let result = run();
+    RUNNING.fetch_sub(1, Ordering::SeqCst);
+    result
+}
+
+/// Catches a panic without a word, as its own words.
 pub fn catch<T>(run: impl FnOnce() -> T) -> Result<T, String> {
-    SET.call_once(|| {
+    HOOK.call_once(|| {
         let loud = take_hook();
         set_hook(Box::new(move |info| {
             if !QUIET.get() {
                 loud(info);
             }
         }));
-        unsafe { atexit(on_exit) };
     });
-    RUNNING.fetch_add(1, Ordering::SeqCst);
     QUIET.set(true);
     let result = catch_unwind(AssertUnwindSafe(run));
     QUIET.set(false);
-    RUNNING.fetch_sub(1, Ordering::SeqCst);
     result.map_err(words)
 }
 

@@ -1,5 +1,11 @@
 //! Trees to ask about: built by hand, at the limits of 01, at random, and damaged.
 pub mod build;
+pub mod crowd;
+pub mod damage;
 pub mod order;
+pub mod pack;
+pub mod random;
 pub mod reference;
 pub mod rule;
+pub mod scope;
+pub mod values;

@@ -1,0 +1,123 @@
+//! The limits of 01's table at, one below and one above, and the edges of its rules.
+//! A case says by hand which number and place are due, wherever they can be told from 01 alone.
+mod captures;
+mod files_cut;
+mod jumps;
+mod long;
+mod names;
+mod nesting;
+mod numbers;
+mod registers;
+mod rules;
+mod shapes;
+
+use crate::answer::{image, in_room, Answer, Refusal};
+use crate::judge::{work_for, MOST_FIELDS};
+use crate::trees::build::Node;
+use crate::trees::order::post;
+use crate::trees::rule::Rule;
+use files::tree::fields;
+
+/// How many words of work area a case lends.
+#[derive(Clone, Copy, Debug)]
+pub enum Work {
+    /// As many as the tree asks for.
+    Exact,
+    /// One word fewer.
+    Short,
+    /// A few words more.
+    Plenty,
+    Words(u64),
+}
+
+/// How many bytes of output a case lends.
+#[derive(Clone, Copy, Debug)]
+pub enum Room {
+    /// A few more than the image has.
+    Plenty,
+    Exact,
+    /// One byte fewer.
+    Short,
+    Bytes(u64),
+}
+
+/// What is due: a number and a place.
+pub type Due = (u8, usize);
+
+pub struct Case {
+    pub name: String,
+    pub rule: Rule,
+    pub work: Work,
+    pub room: Room,
+    pub due: Option<Due>,
+}
+
+/// A case asked: the file, what is lent, and the oracle's answer.
+pub struct Asked {
+    pub tree: Vec<u8>,
+    pub work: u64,
+    pub room: u64,
+    pub answer: Answer,
+    pub image: Vec<u8>,
+}
+
+impl Case {
+    pub fn file(name: impl Into<String>, rule: Rule, due: Option<Due>) -> Case {
+        Case { name: name.into(), rule, work: Work::Exact, room: Room::Plenty, due }
+    }
+
+    /// A tree in post order, with what is due.
+    pub fn tree(name: impl Into<String>, root: &Node, due: Due) -> Case {
+        Case::file(name, Rule::plain(post(root)), Some(due))
+    }
+
+    pub fn lending(self, work: Work, room: Room) -> Case {
+        Case { work, room, ..self }
+    }
+
+    pub fn ask(&self) -> Asked {
+        ask(self.rule.expand(), self.work, self.room)
+    }
+}
+
+/// Asks the oracle about a file.
+pub fn ask(tree: Vec<u8>, work: Work, room: Room) -> Asked {
+    let nodes = fields(&tree).map_or_else(|whole| whole, |f| f.len()).min(MOST_FIELDS);
+    let work = match work {
+        Work::Exact => work_for(nodes),
+        Work::Short => work_for(nodes) - 1,
+        Work::Plenty => work_for(nodes) + 77,
+        Work::Words(n) => n,
+    };
+    let image = image(&tree, work);
+    let room = room_for(room, &image);
+    let (answer, image) = in_room(&tree, image, room);
+    Asked { tree, work, room, answer, image }
+}
+
+fn room_for(room: Room, image: &Result<Vec<u8>, Refusal>) -> u64 {
+    let length = image.as_ref().map_or(24, |i| i.len() as u64);
+    match room {
+        Room::Plenty => length + 40,
+        Room::Exact => length,
+        Room::Short => length - 1,
+        Room::Bytes(n) => n,
+    }
+}
+
+/// Every case with a hand-written name.
+pub fn cases() -> Vec<Case> {
+    let mut all = vec![];
+    all.extend(files_cut::cases());
+    all.extend(rules::cases());
+    all.extend(registers::cases());
+    all.extend(captures::cases());
+    all.extend(names::cases());
+    all.extend(nesting::cases());
+    all.extend(long::cases());
+    all.extend(jumps::cases());
+    all.extend(numbers::cases());
+    all
+}
+
+pub use shapes::{edited_shapes, zoo};

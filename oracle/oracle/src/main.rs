@@ -1,0 +1,111 @@
+//! The command line; README.md says what each word does.
+use files::image::Image;
+use oracle::limits::Asked;
+use oracle::{answer, compare, export, facts, limits, packed, questions, sample};
+use std::io::{Read, Write};
+use std::process::ExitCode;
+
+fn main() -> ExitCode {
+    let words: Vec<String> = std::env::args().skip(1).collect();
+    let words: Vec<&str> = words.iter().map(String::as_str).collect();
+    match run(&words) {
+        Ok(()) => ExitCode::SUCCESS,
+        Err(fault) => {
+            eprintln!("oracle: {fault}");
+            ExitCode::FAILURE
+        }
+    }
+}
+
+type Done = Result<(), String>;
+
+fn run(words: &[&str]) -> Done {
+    match words {
+        ["answer", tree, work, room] => tell(tree, work, room, None),
+        ["answer", tree, work, room, image] => tell(tree, work, room, Some(image)),
+        ["show", image] => show(&load(image)?),
+        ["rust", tree] => print(&format!("{}\n", compare::in_child(&load(tree)?))),
+        ["generate", kind, rest @ ..] => generate(kind, &Options::read(rest)?),
+        ["sample", path] => save(path, &packed::write(&sample::sample(sample::SEED))),
+        ["export", rest @ ..] => {
+            let o = Options::read(rest)?;
+            export::lines(o.seed, o.count, !o.without_many).iter().try_for_each(|l| print(&format!("{l}\n")))
+        }
+        _ => Err("answer, show, rust, generate, sample or export; see oracle/README.md".into()),
+    }
+}
+
+struct Options {
+    seed: u64,
+    count: u64,
+    without_many: bool,
+    pack: Option<String>,
+}
+
+impl Options {
+    fn read(words: &[&str]) -> Result<Options, String> {
+        let mut o = Options { seed: 1, count: 1000, without_many: false, pack: None };
+        let mut words = words.iter();
+        while let Some(word) = words.next() {
+            let mut value = || words.next().ok_or(format!("{word} wants a value"));
+            match *word {
+                "--seed" => o.seed = number(value()?)?,
+                "--count" => o.count = number(value()?)?,
+                "--pack" => o.pack = Some(value()?.to_string()),
+                "--without-many" => o.without_many = true,
+                other => return Err(format!("no option {other}")),
+            }
+        }
+        Ok(o)
+    }
+}
+
+fn number(word: &str) -> Result<u64, String> {
+    word.parse().map_err(|_| format!("{word} is no number"))
+}
+
+/// Bytes of a file; `-` is standard input.
+fn load(path: &str) -> Result<Vec<u8>, String> {
+    let mut bytes = vec![];
+    let read = if path == "-" { std::io::stdin().read_to_end(&mut bytes).map(|_| bytes) } else { std::fs::read(path) };
+    read.map_err(|e| format!("{path}: {e}"))
+}
+
+fn save(path: &str, bytes: &[u8]) -> Done {
+    std::fs::write(path, bytes).map_err(|e| format!("{path}: {e}"))
+}
+
+fn print(text: &str) -> Done {
+    std::io::stdout().write_all(text.as_bytes()).map_err(|e| e.to_string())
+}
+
+fn tell(tree: &str, work: &str, room: &str, image: Option<&str>) -> Done {
+    let (answer, bytes) = answer::answer(&load(tree)?, number(work)?, number(room)?);
+    if let Some(path) = image {
+        save(path, &bytes)?;
+    }
+    print(&format!("{answer}\n"))
+}
+
+/// The listing of an image, and the first fact of demand 3 that fails.
+fn show(bytes: &[u8]) -> Done {
+    let image = Image::from_bytes(bytes)?;
+    print(&files::listing::listing(&image))?;
+    facts::check(&image)
+}
+
+fn generate(kind: &str, o: &Options) -> Done {
+    let of_seed = |make: fn(u64, u64) -> Asked| (0..o.count).map(|k| make(o.seed, k)).collect();
+    let asked: Vec<Asked> = match kind {
+        "random" => of_seed(questions::random),
+        "small" => of_seed(questions::small),
+        "damaged" => of_seed(questions::damaged),
+        "limits" => limits::cases().iter().map(|c| c.ask()).collect(),
+        "shapes" => limits::edited_shapes().into_iter().map(|t| limits::ask(t, limits::Work::Exact, limits::Room::Exact)).collect(),
+        other => return Err(format!("no kind {other}: random, small, damaged, limits or shapes")),
+    };
+    match &o.pack {
+        Some(path) => save(path, &packed::write(&asked.iter().map(packed::Packed::of).collect::<Vec<_>>())),
+        None => asked.iter().try_for_each(|a| print(&format!("{}\n", export::line(a)))),
+    }
+}

@@ -1,0 +1,34 @@
+//! The fixed sample: which cases stand in tests/data/answers.bin.
+use crate::limits::{ask, cases, zoo, Asked, Case, Room, Work};
+use crate::packed::Packed;
+use crate::questions;
+use crate::trees::order::post;
+
+/// The seed of the committed sample.
+pub const SEED: u64 = 20_260;
+
+/// Reference programs and limits, the zoo, then random and damaged trees of the seed.
+pub fn sample(seed: u64) -> Vec<Packed> {
+    let mut asked: Vec<Asked> = cases().into_iter().enumerate().filter(|(k, c)| chosen(*k, c)).map(|(_, c)| c.ask()).collect();
+    asked.push(ask(post(&zoo()), Work::Exact, Room::Exact));
+    let small = |a: &Asked| a.tree.len() < 2000 && a.image.len() < 4000;
+    asked.extend((0..).map(|k| questions::random(seed, k)).filter(small).take(400));
+    asked.extend((0..).map(|k| questions::damaged(seed, k)).filter(small).take(300));
+    asked.iter().map(Packed::of).collect()
+}
+
+/// The limits are all there, but of the long rows of like cases every few.
+fn chosen(k: usize, case: &Case) -> bool {
+    let every = |n: usize| k % n == 0;
+    let name = &case.name;
+    if name.contains(" left") && (name.contains("registers") || name.contains("constants")) {
+        return every(2);
+    }
+    if name.contains(" over ") {
+        return every(3);
+    }
+    if name.contains("Plus") || name.contains("Minus") || name.contains("Star") {
+        return every(5);
+    }
+    true
+}

@@ -1,0 +1,46 @@
+//! The committed sample: made again byte for byte, and of every kind and number.
+use files::tree::fields;
+use oracle::answer::answer;
+use oracle::packed::{checksum, read, write, Packed};
+use oracle::sample::{sample, SEED};
+
+fn committed() -> Vec<u8> {
+    let path = concat!(env!("CARGO_MANIFEST_DIR"), "/../../tests/data/answers.bin");
+    std::fs::read(path).expect("tests/data/answers.bin")
+}
+
+#[test]
+fn the_sample_is_made_again() {
+    assert!(write(&sample(SEED)) == committed(), "oracle sample tests/data/answers.bin makes another file");
+    assert!(committed().len() < 2_000_000);
+}
+
+#[test]
+fn the_sample_is_of_every_kind() {
+    let cases = read(&committed()).expect("the packed layout");
+    assert!(cases.len() >= 300);
+    let (mut numbers, mut tags) = ([0; 19], [0; 256]);
+    for case in &cases {
+        numbers[usize::from(case.answer.number)] += 1;
+        if case.answer.number == 0 {
+            fields(&case.rule.expand()).unwrap().iter().for_each(|f| tags[usize::from(f.tag)] += 1);
+        }
+    }
+    assert!(numbers.iter().all(|n| *n > 0), "by number {numbers:?}");
+    let listed = (0x01..=0x09).chain(0x10..=0x1E);
+    assert!(listed.clone().all(|tag| tags[tag] > 0), "by tag {tags:?}");
+}
+
+/// A replayer needs nothing but the packed file: expand, ask, compare.
+#[test]
+fn the_sample_replays() {
+    for case in read(&committed()).unwrap() {
+        let Packed { rule, tree_length, work, room, answer: due, checksum: sum, image } = case;
+        let tree = rule.expand();
+        assert_eq!(tree.len() as u32, tree_length);
+        let (got, bytes) = answer(&tree, work.into(), room.into());
+        assert_eq!(got, due);
+        assert_eq!(checksum(&bytes), sum);
+        assert!(image.is_empty() || image == bytes);
+    }
+}
