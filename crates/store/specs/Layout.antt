@@ -1,0 +1,104 @@
+-- The layout of the work area for a tree of n nodes, and what its words stand for. Words are read with a remainder, so that contents need no invariant.
+--
+--     from           words                 holds
+--     0              3,072                 constants: 1,024 of three words: kind, high word, low word
+--     3,072          72                    frames: 9 of eight words: name, registers, captures held, first block, loops of the function around it
+--     3,144          1,024                 captures: 8 x 256 halves
+--     4,168          520                   globals: halves
+--     4,688          1,020 + n             links: a half for each local
+--     5,708 + n      16 + n                edges of blocks: block i has the locals from edge i up to edge i + 1
+--     5,724 + 2 n    up to 12,288 + 11 n   locals upward, a word each; pending code downward, two words an instruction
+--     12,288 + 11 n  4 n                   heads: 8 n halves
+--     12,288 + 15 n  n                     the nodes' offsets in the tree
+--
+-- A ninth function is refused; its frame is there so that the steps after the refusal, which change nothing, have a scope of their own.
+-- Registers pay for what has no node: a register takes three words at most (a for-in's name: an instruction and a local), a node eight. Eight open
+-- functions have 2,040 registers, and 6,564 + 9 n words hold 3 * 2,040 + 8 n.
+use Prim.Native.Nat.{ℕ, zero, suc, _+_, _-_, _*_, _/_, _%_}
+use mathlib.Core.Bool.{cond}
+use mathlib.Core.List.{List}
+use lib.ListN.{getD}
+use lib.Dec.{eqb, ltb}
+use Rattle.store.specs.Half.{half}
+use Rattle.store.specs.Table.{span}
+use Rattle.meaning.specs.Constant.{Constant, number, text, other}
+use Rattle.meaning.specs.Opcode.{inst}
+use Rattle.meaning.specs.State.{Local, Capture, local-capture, outer-capture}
+use Rattle.meaning.specs.declared.Instruction.{Instruction}
+
+-- ---- constants
+
+abbrev pub constant-by : (kind high low : ℕ) → Constant
+constant-by kind high low = cond (eqb kind 1) (number (high * 4294967296 + low)) (cond (eqb kind 2) (text low) (other low))
+
+abbrev pub constant-at : List ℕ → ℕ → Constant
+constant-at w i = constant-by (getD w (3 * i) 0) (getD w (3 * i + 1) 0) (getD w (3 * i + 2) 0)
+
+-- ---- frames: function j
+
+abbrev pub name-of : List ℕ → ℕ → ℕ
+name-of w j = getD w (3072 + 8 * j) 0
+
+abbrev pub registers : List ℕ → ℕ → ℕ
+registers w j = getD w (3073 + 8 * j) 0 % 256
+
+abbrev pub held : List ℕ → ℕ → ℕ
+held w j = getD w (3074 + 8 * j) 0 % 256
+
+abbrev pub first : List ℕ → ℕ → ℕ
+first w j = getD w (3075 + 8 * j) 0
+
+abbrev pub saved : List ℕ → ℕ → ℕ
+saved w j = getD w (3076 + 8 * j) 0
+
+-- ---- captures: an index, or 256 and a register
+
+abbrev pub capture-of : ℕ → Capture
+capture-of x = cond (ltb x 256) (outer-capture x) (local-capture (x - 256))
+
+abbrev pub capture-at : List ℕ → (j i : ℕ) → Capture
+capture-at w j i = capture-of (half w (6288 + 256 * j + i) % 512)
+
+-- ---- globals
+
+abbrev pub global-at : List ℕ → ℕ → ℕ
+global-at w i = half w (8336 + i)
+
+-- ---- blocks and locals
+
+abbrev pub edge : List ℕ → (n i : ℕ) → ℕ
+edge w n i = getD w (5708 + n + i) 0
+
+abbrev pub local-of-word : ℕ → Local
+local-of-word x = record { name = x / 256; register = x % 256 }
+
+abbrev pub local-at : List ℕ → (n i : ℕ) → Local
+local-at w n i = local-of-word (getD w (5724 + 2 * n + i) 0)
+
+-- block i; the latest local first
+abbrev pub block : List ℕ → (n i : ℕ) → List Local
+block w n i = span (local-at w n) (edge w n i) (edge w n (suc i))
+
+-- the latest of the first k locals whose name falls into bucket b, counted from 1; 0 where there is none
+unfoldable pub latest : List ℕ → (n b k : ℕ) → ℕ
+latest w n b zero = 0
+latest w n b (suc k) = cond (eqb (local-at w n k .name % (8 * n)) b) (suc k) (latest w n b k)
+
+-- the link of local i: the latest before it in its bucket
+abbrev pub link : List ℕ → ℕ → ℕ
+link w i = half w (9376 + i)
+
+-- the head of bucket b: the latest of all locals in it
+abbrev pub head : List ℕ → (n b : ℕ) → ℕ
+head w n b = half w (24576 + 22 * n + b)
+
+-- ---- pending code
+
+abbrev pub top : ℕ → ℕ
+top n = 12288 + 11 * n
+
+abbrev pub unpacked : (word mark : ℕ) → Instruction
+unpacked x m = inst (x % 256) (x / 256 % 256) (x / 65536 % 256) (x / 16777216 % 256) m
+
+abbrev pub inst-at : List ℕ → (n i : ℕ) → Instruction
+inst-at w n i = unpacked (getD w (top n - (2 * i + 2)) 0) (getD w (top n - (2 * i + 1)) 0)

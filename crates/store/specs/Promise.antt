@@ -1,0 +1,118 @@
+-- What the functions of the store promise: one equation each, over what their words stand for, and what they use up.
+use Prim.Native.Nat.{ℕ, zero, suc, _+_, _*_, _≤_, min}
+use mathlib.Core.Path.{_≡_}
+use mathlib.Core.List.{List}
+use lib.ListN.{length}
+use Rattle.store.specs.declared.Step.{Step}
+use Rattle.store.specs.declared.Scope.{Scope}
+use Rattle.store.specs.Layout.{registers, edge, top}
+use Rattle.store.specs.Store.{run, goes-on, while-going, Image, Fine, Kept}
+use Rattle.meaning.specs.State.{Proto, M}
+use Rattle.forward.specs.Forward.{Config, Run, bind, Answers}
+
+-- ---- what a step uses up, and what it gives back: words for code and locals, locals, names of globals for which no constant stands yet
+
+pub record Cost : Type 0 where
+  pub words : ℕ
+  pub locals : ℕ
+  pub names : ℕ
+  pub words-back : ℕ
+  pub locals-back : ℕ
+  pub names-back : ℕ
+
+abbrev pub uses : (words locals names : ℕ) → Cost
+uses a b c = record { words = a; locals = b; names = c; words-back = 0; locals-back = 0; names-back = 0 }
+
+abbrev pub gives : (words locals names : ℕ) → Cost
+gives a b c = record { words = 0; locals = 0; names = 0; words-back = a; locals-back = b; names-back = c }
+
+abbrev pub nothing : Cost
+nothing = uses 0 0 0
+
+-- a register pays for three words and a local, a node for eight words and a local
+abbrev pub some-registers : ℕ → Cost
+some-registers n = gives (3 * n) n 0
+
+abbrev pub a-register : Cost
+a-register = gives 3 1 0
+
+abbrev pub a-local : Cost
+a-local = uses 1 1 0
+
+-- the cost of one step and another
+abbrev pub both : Cost → Cost → Cost
+both u v =
+    record {
+      words = u .words + v .words;
+      locals = u .locals + v .locals;
+      names = u .names + v .names;
+      words-back = u .words-back + v .words-back;
+      locals-back = u .locals-back + v .locals-back;
+      names-back = u .names-back + v .names-back;
+    }
+
+-- ---- room, by a potential: registers pay three words each, nodes eight
+
+-- the registers of the functions 0 to d
+unfoldable pub taken : List ℕ → (d : ℕ) → ℕ
+taken w zero = registers w 0
+taken w (suc d) = registers w (suc d) + taken w d
+
+-- the words that pending code and locals take
+abbrev pub live : List ℕ → Scope → Step → ℕ
+live w p s = 2 * s .code + edge w (p .nodes) (p .block)
+
+-- room for k nodes that are still to be lowered, and for a words and b locals beside
+pub record Roomy (w : List ℕ) (p : Scope) (s : Step) (k a b : ℕ) : Type 0 where
+  pub words : 11844 + 2 * p .nodes + live w p s + 8 * k + a ≤ top (p .nodes) + 3 * taken w (p .depth)
+  pub locals : edge w (p .nodes) (p .block) + k + b ≤ p .nodes + taken w (p .depth)
+  pub globals : s .globals + 1 ≤ s .constants + min 2 (p .block)
+
+abbrev pub Room : List ℕ → Scope → Step → (k a b : ℕ) → Type 0
+Room w p s k a b = while-going (s .outcome) (Roomy w p s k a b)
+
+-- what a step used up
+pub record Used (w : List ℕ) (p : Scope) (s : Step) (w' : List ℕ) (q : Scope) (r : Step) (u : Cost) : Type 0 where
+  pub words : live w' q r + 3 * taken w (p .depth) + u .words-back ≤ live w p s + 3 * taken w' (q .depth) + u .words
+  pub locals : edge w' (q .nodes) (q .block) + taken w (p .depth) + u .locals-back ≤ edge w (p .nodes) (p .block) + taken w' (q .depth) + u .locals
+  pub names : r .globals + s .constants + u .names-back ≤ s .globals + r .constants + u .names
+  pub registers : taken w (p .depth) ≤ taken w' (q .depth)
+
+-- ---- the promises
+
+-- the words after a step, in any case
+pub record Moves (w : List ℕ) (p : Scope) (s : Step) (w' : List ℕ) (q : Scope) (r : Step) (u : Cost) : Type 0 where
+  pub fine : Fine w' q r
+  pub kept : Kept w p w'
+  pub back : goes-on (r .outcome) → goes-on (s .outcome)
+  pub used : while-going (r .outcome) (Used w p s w' q r u)
+  pub longer : s .code ≤ r .code
+  pub still : u .locals ≡ 0 → edge w' (q .nodes) (q .block) ≡ edge w (p .nodes) (p .block)
+
+-- a step that leaves the output alone does `op`
+pub record Leaf (w : List ℕ) (p : Scope) (s : Step) (w' : List ℕ) (q : Scope) (r : Step) (u : Cost) (op : Config → Run) : Type 0 where
+  pub moves : Moves w p s w' q r u
+  pub runs : (ps : List Proto) → run w' q r ps ≡ bind (run w p s ps) op
+  pub image : (o : List ℕ) (ps : List Proto) → Image o s ps → Image o r ps
+
+-- a step that answers a question of the definition, with a
+pub record Told {A : Type 0} (w : List ℕ) (p : Scope) (s : Step) (w' : List ℕ) (q : Scope) (r : Step) (u : Cost) (a : A) (m : M A) : Type 0 where
+  pub moves : Moves w p s w' q r u
+  pub tells : (ps : List Proto) → Answers (run w p s ps) m a (run w' q r ps)
+  pub image : (o : List ℕ) (ps : List Proto) → Image o s ps → Image o r ps
+
+-- a question that changes nothing
+abbrev pub Tells : {A : Type 0} → List ℕ → Scope → Step → A → M A → Type 0
+Tells w p s a m = (ps : List Proto) → Answers (run w p s ps) m a (run w p s ps)
+
+-- the prototypes that the output then holds, and what the step then stands for
+pub record After (w' o' : List ℕ) (q : Scope) (r : Step) (x : Run) : Type 0 where
+  pub protos : List Proto
+  pub image : Image o' r protos
+  pub runs : run w' q r protos ≡ x
+
+-- any step does `op`
+pub record Does (w o : List ℕ) (p : Scope) (s : Step) (w' o' : List ℕ) (q : Scope) (r : Step) (u : Cost) (op : Config → Run) : Type 0 where
+  pub moves : Moves w p s w' q r u
+  pub same : length o' ≡ length o
+  pub does : (ps : List Proto) → Image o s ps → After w' o' q r (bind (run w p s ps) op)

@@ -1,0 +1,154 @@
+-- What the words, a step and a scope stand for: the definition's State and the pending code. This is the abstraction that every contract cites.
+use Prim.Native.Nat.{ℕ, zero, suc, _+_, _*_, _%_, _<_, _≤_}
+use mathlib.Core.Path.{_≡_}
+use mathlib.Core.List.{List, [], _∷_}
+use lib.ListN.{length, getD, take}
+use Rattle.store.specs.declared.Step.{Step}
+use Rattle.store.specs.declared.Scope.{Scope}
+use Rattle.store.specs.Table.{tab, stack, span}
+use Rattle.store.specs.Layout.{constant-at, name-of, registers, held, first, saved, capture-at, global-at, edge, local-at, block, latest, link, head, top, inst-at}
+use Rattle.meaning.specs.Image.{proto-bytes}
+use Rattle.meaning.specs.State.{Open, Proto, State}
+use Rattle.meaning.specs.declared.Outcome.{Outcome}
+use Rattle.meaning.specs.declared.Outcome.the-variants.{Accepted, Refused}
+use Rattle.forward.specs.Forward.{Config, config, Run, stopped, going}
+
+-- function j, whose blocks end at e and whose open loops are l
+unfoldable pub open-at : List ℕ → (n j e l : ℕ) → Open
+open-at w n j e l =
+    record {
+      name = name-of w j;
+      registers = registers w j;
+      blocks = span (block w n) (first w j) e;
+      captures = tab (capture-at w j) (held w j);
+      loops = l;
+    }
+
+-- the functions around function d, the innermost first: their blocks end where the next function's start
+unfoldable pub around : List ℕ → (n d : ℕ) → List Open
+around w n zero = []
+around w n (suc d) = open-at w n d (first w (suc d)) (saved w (suc d)) ∷ around w n d
+
+-- struct Compiler; the finished prototypes are bytes of the output, and stand here as a list of their own
+unfoldable pub state-of : List ℕ → Scope → Step → List Proto → State
+state-of w p s ps =
+    record {
+      constants = tab (constant-at w) (s .constants);
+      prototypes = ps;
+      globals = stack (global-at w) (s .globals);
+      current = open-at w (p .nodes) (p .depth) (p .block) (p .loops);
+      outer = around w (p .nodes) (p .depth);
+    }
+
+unfoldable pub config-of : List ℕ → Scope → Step → List Proto → Config
+config-of w p s ps = config (tab (inst-at w (p .nodes)) (s .code)) (s .result) (state-of w p s ps)
+
+abbrev pub run-by : Outcome → Config → Run
+run-by (Accepted written) c = going c
+run-by (Refused cause node) c = stopped cause node
+
+-- a refused step stands for its refusal, any other for the pending code, the result register and the State
+unfoldable pub run : List ℕ → Scope → Step → List Proto → Run
+run w p s ps = run-by (s .outcome) (config-of w p s ps)
+
+-- ---- scopes
+
+-- one block more
+abbrev pub deeper : Scope → Scope
+deeper p = record { nodes = p .nodes; depth = p .depth; block = p .block + 1; loops = p .loops }
+
+-- one loop more
+abbrev pub looped : Scope → Scope
+looped p = record { nodes = p .nodes; depth = p .depth; block = p .block; loops = p .loops + 1 }
+
+-- one function more, with its first block
+abbrev pub inner : Scope → Scope
+inner p = record { nodes = p .nodes; depth = p .depth + 1; block = p .block + 1; loops = 0 }
+
+-- the main function's
+abbrev pub main-scope : (nodes : ℕ) → Scope
+main-scope n = record { nodes = n; depth = 0; block = 1; loops = 0 }
+
+-- ---- steps
+
+abbrev pub first-step : Step
+first-step = record { outcome = Accepted 0; code = 0; constants = 0; globals = 0; functions = 0; result = 0 }
+
+abbrev pub with-result : Step → ℕ → Step
+with-result s r = record { outcome = s .outcome; code = s .code; constants = s .constants; globals = s .globals; functions = s .functions; result = r }
+
+abbrev pub with-outcome : Step → Outcome → Step
+with-outcome s o = record { outcome = o; code = s .code; constants = s .constants; globals = s .globals; functions = s .functions; result = 0 }
+
+-- not refused so far
+abbrev pub goes-on : Outcome → Type 0
+goes-on (Accepted written) = Unit {0}
+goes-on (Refused cause node) = ⊥
+
+-- a fact that is due only while nothing is refused
+abbrev pub while-going : Outcome → Type 0 → Type 0
+while-going (Accepted written) P = P
+while-going (Refused cause node) P = Unit {0}
+
+-- ---- the output: it holds the finished prototypes where they fit; they are counted always
+
+pub record Written (o : List ℕ) (written functions : ℕ) (ps : List Proto) : Type 0 where
+  pub counted : functions ≡ length ps
+  pub sized : written ≡ length (proto-bytes ps)
+  pub bytes : written ≤ length o → take written o ≡ proto-bytes ps
+
+abbrev pub image-by : Outcome → List ℕ → ℕ → List Proto → Type 0
+image-by (Accepted written) o functions ps = Written o written functions ps
+image-by (Refused cause node) o functions ps = Unit {0}
+
+abbrev pub Image : List ℕ → Step → List Proto → Type 0
+Image o s ps = image-by (s .outcome) o (s .functions) ps
+
+abbrev pub written-by : Outcome → ℕ
+written-by (Accepted written) = written
+written-by (Refused cause node) = 0
+
+-- ---- what every function keeps, refused or not
+
+-- the locals are linked by the bucket of their name
+pub record Linked (w : List ℕ) (n count : ℕ) : Type 0 where
+  pub links : (i : ℕ) → i < count → link w i ≡ latest w n (local-at w n i .name % (8 * n)) i
+  pub heads : (b : ℕ) → b < 8 * n → head w n b ≡ latest w n b count
+
+-- the words in a scope
+pub record Sound (w : List ℕ) (p : Scope) : Type 0 where
+  pub some : 1 ≤ p .nodes
+  pub few : p .nodes ≤ 32768
+  pub long : 12288 + 16 * p .nodes ≤ length w
+  pub deep : p .depth ≤ 8
+  pub blocks : p .block ≤ p .nodes + 10
+  pub loops : p .loops ≤ p .nodes + 10
+  pub sorted : (i : ℕ) → i < p .block → edge w (p .nodes) i ≤ edge w (p .nodes) (suc i)
+  pub main : first w 0 ≡ 0
+  pub starts : (j : ℕ) → j ≤ p .depth → first w j < p .block
+  pub count : edge w (p .nodes) (p .block) ≤ p .nodes + 2040
+  pub linked : Linked w (p .nodes) (edge w (p .nodes) (p .block))
+
+-- a result is a register or the index of a constant or a prototype; 0 once a step is refused
+abbrev pub result-limit : Outcome → ℕ
+result-limit (Accepted written) = 1024
+result-limit (Refused cause node) = 256
+
+pub record Fine (w : List ℕ) (p : Scope) (s : Step) : Type 0 where
+  pub sound : Sound w p
+  pub nested : while-going (s .outcome) (p .depth ≤ 7)
+  pub room : 5724 + 2 * p .nodes + 2 * s .code + edge w (p .nodes) (p .block) ≤ top (p .nodes)
+  pub constants : s .constants ≤ 1024
+  pub globals : s .globals ≤ s .constants + 1
+  pub functions : s .functions ≤ 256
+  pub written : written-by (s .outcome) ≤ 300000 * s .functions
+  pub result : s .result < result-limit (s .outcome)
+
+-- what lies outside the scope stays, refused or not
+pub record Kept (w : List ℕ) (p : Scope) (w' : List ℕ) : Type 0 where
+  pub same : length w' ≡ length w
+  pub firsts : (j : ℕ) → j ≤ p .depth → first w' j ≡ first w j
+  pub saves : (j : ℕ) → j ≤ p .depth → saved w' j ≡ saved w j
+  pub outer : (j : ℕ) → j < p .depth → registers w' j ≡ registers w j
+  pub edges : (i : ℕ) → i < p .block → edge w' (p .nodes) i ≡ edge w (p .nodes) i
+  pub offsets : (i : ℕ) → 12288 + 15 * p .nodes ≤ i → getD w' i 0 ≡ getD w i 0
