@@ -37,7 +37,7 @@ module _ (ts : List ℕ) (i c : ℕ) (h : i ≤ c) where
       ∙ zeros (word-below (kind-of is) (a * 256 + b) (and-left _ _ e)) (kids-below _ p (and-right (lawful ts i (kind-of is) (a * 256 + b)) _ e))
 
 -- no word is of the kind `none`, so nothing fits `never`
-inside-none : (w : ℕ) → inside 0 w ≡ true → ⊥
+pub inside-none : (w : ℕ) → inside 0 w ≡ true → ⊥
 unfolding inside bound bounds
 inside-none w e =
     let low = leb-true 1 w (and-left (leb 1 w) _ (and-left (leb 1 w && leb w 0) _ e)) in

@@ -4,6 +4,10 @@ pub mod Starred
 pub mod Lists
 pub mod FieldLaws
 pub mod Kids
+pub mod Payload
+pub mod Unfold
+pub mod Rows
+pub mod Reading
 pub mod Counting
 pub mod Accepted
 pub mod Keeps

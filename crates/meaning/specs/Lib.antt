@@ -8,6 +8,7 @@ pub mod Opcode
 pub mod Constant
 pub mod Syntax
 pub mod Read
+pub mod At
 pub mod State
 pub mod Chunk
 pub mod Expressions

@@ -1,0 +1,84 @@
+-- What stands at a node: its tag and words, the syntax tree that unfolds from it, and the rows of its payload. The lowering's contracts cite
+-- these; `Read.antt` says what they are.
+use Prim.Native.Nat.{ℕ, suc, _<_, _≤_}
+use mathlib.Core.Path.{_≡_}
+use mathlib.Core.List.{List}
+use lib.ListN.{length}
+use lib.Seq.{slice}
+use Rattle.meaning.specs.Fields.{Field, field-at}
+use Rattle.meaning.specs.Syntax.{Token, Expr, Exprs, Stmt, Stmts, Elifs, Fun, Funs, Super}
+use Rattle.meaning.specs.Read.{Readers, readers, at, words-at, tokens, exprs, stmts, funs, elifs, initializer, superclass}
+
+-- ---- a node's tag, its words, and how many they are
+
+abbrev pub tag-of : List Field → (node : ℕ) → ℕ
+tag-of fs i = field-at fs i .tag
+
+abbrev pub word-of : List Field → (node k : ℕ) → ℕ
+word-of fs i k = at (words-at fs i) k
+
+abbrev pub count-of : List Field → (node : ℕ) → ℕ
+count-of fs i = length (words-at fs i)
+
+-- ---- the syntax tree at a node, by the node's role; children stand below their node, so its number and one more is fuel enough
+
+unfoldable pub expr-at : List Field → ℕ → Expr
+expr-at fs i = readers fs (suc i) .expr i
+
+unfoldable pub stmt-at : List Field → ℕ → Stmt
+stmt-at fs i = readers fs (suc i) .stmt i
+
+unfoldable pub fun-at : List Field → ℕ → Fun
+fun-at fs i = readers fs (suc i) .fun i
+
+unfoldable pub variable-at : List Field → ℕ → Super
+variable-at fs i = readers fs (suc i) .variable i
+
+unfoldable pub elif-at : List Field → ℕ → Elifs → Elifs
+elif-at fs i es = readers fs (suc i) .elif i es
+
+abbrev pub readers-at : List Field → Readers
+readers-at fs = record { expr = expr-at fs; stmt = stmt-at fs; fun = fun-at fs; variable = variable-at fs; elif = elif-at fs }
+
+-- ---- the children, and the pairs, in the words `from` up to `to` of a node
+
+unfoldable pub exprs-at : List Field → (node from to : ℕ) → Exprs
+exprs-at fs i from to = exprs (readers-at fs) (slice from to (words-at fs i))
+
+unfoldable pub stmts-at : List Field → (node from to : ℕ) → Stmts
+stmts-at fs i from to = stmts (readers-at fs) (slice from to (words-at fs i))
+
+unfoldable pub funs-at : List Field → (node from to : ℕ) → Funs
+funs-at fs i from to = funs (readers-at fs) (slice from to (words-at fs i))
+
+unfoldable pub elifs-at : List Field → (node from to : ℕ) → Elifs
+elifs-at fs i from to = elifs (readers-at fs) (slice from to (words-at fs i))
+
+unfoldable pub tokens-at : List Field → (node from to : ℕ) → List Token
+tokens-at fs i from to = tokens (slice from to (words-at fs i))
+
+-- ---- the two children that may be absent
+
+unfoldable pub init-at : List Field → (child : ℕ) → Stmts
+init-at fs c = initializer (readers-at fs) c
+
+unfoldable pub super-at : List Field → (child : ℕ) → Super
+super-at fs c = superclass (readers-at fs) c
+
+-- ---- node c stands below i, in the role of an expression, of a statement
+
+pub record ExprBelow (fs : List Field) (i c : ℕ) : Type 0 where
+  pub below : c < i
+  pub low : 0x01 ≤ tag-of fs c
+  pub high : tag-of fs c ≤ 0x09
+
+pub record StmtBelow (fs : List Field) (i c : ℕ) : Type 0 where
+  pub below : c < i
+  pub low : 0x10 ≤ tag-of fs c
+  pub high : tag-of fs c ≤ 0x1D
+  pub no-elif : tag-of fs c ≡ 0x1A → ⊥
+
+-- the same in a role that one tag has: 1A an elif, 1C a method, 04 a superclass
+pub record TagBelow (fs : List Field) (t i c : ℕ) : Type 0 where
+  pub below : c < i
+  pub tag : tag-of fs c ≡ t
