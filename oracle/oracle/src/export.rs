@@ -14,8 +14,8 @@ pub fn lines(seed: u64, count: u64, many: bool) -> Vec<String> {
         k += 1;
         let mut rng = Rng::for_case(seed, k);
         let asked = match k % 20 {
-            0..=13 => questions::small(seed, k),
-            14..=15 => questions::damaged(seed, k),
+            0..=13 => questions::small(seed, k).ask(),
+            14..=15 => questions::damaged(seed, k).ask(),
             16 => crowded(&mut rng),
             _ => {
                 let of_a_number = rng.pick(&limits);

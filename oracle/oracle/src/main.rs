@@ -1,7 +1,7 @@
 //! The command line; README.md says what each word does.
 use files::image::Image;
-use oracle::limits::Asked;
-use oracle::{answer, compare, export, facts, limits, packed, questions, sample};
+use oracle::questions::Question;
+use oracle::{answer, compare, export, facts, packed, questions, sample};
 use std::io::{Read, Write};
 use std::process::ExitCode;
 
@@ -95,17 +95,18 @@ fn show(bytes: &[u8]) -> Done {
 }
 
 fn generate(kind: &str, o: &Options) -> Done {
-    let of_seed = |make: fn(u64, u64) -> Asked| (0..o.count).map(|k| make(o.seed, k)).collect();
-    let asked: Vec<Asked> = match kind {
+    let of_seed = |make: fn(u64, u64) -> Question| (0..o.count).map(|k| make(o.seed, k)).collect();
+    let questions: Vec<Question> = match kind {
         "random" => of_seed(questions::random),
         "small" => of_seed(questions::small),
         "damaged" => of_seed(questions::damaged),
-        "limits" => limits::cases().iter().map(|c| c.ask()).collect(),
-        "shapes" => limits::edited_shapes().into_iter().map(|t| limits::ask(t, limits::Work::Exact, limits::Room::Exact)).collect(),
+        "limits" => questions::limits(),
+        "shapes" => questions::shapes(),
         other => return Err(format!("no kind {other}: random, small, damaged, limits or shapes")),
     };
+    let mut asked = questions.into_iter().map(Question::ask);
     match &o.pack {
-        Some(path) => save(path, &packed::write(&asked.iter().map(packed::Packed::of).collect::<Vec<_>>())),
-        None => asked.iter().try_for_each(|a| print(&format!("{}\n", export::line(a)))),
+        Some(path) => save(path, &packed::write(&asked.map(|a| packed::Packed::of(&a)).collect::<Vec<_>>())),
+        None => asked.try_for_each(|a| print(&format!("{}\n", export::line(&a)))),
     }
 }

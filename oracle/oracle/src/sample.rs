@@ -12,8 +12,8 @@ pub fn sample(seed: u64) -> Vec<Packed> {
     let mut asked: Vec<Asked> = cases().into_iter().enumerate().filter(|(k, c)| chosen(*k, c)).map(|(_, c)| c.ask()).collect();
     asked.push(ask(post(&zoo()), Work::Exact, Room::Exact));
     let small = |a: &Asked| a.tree.len() < 2000 && a.image.len() < 4000;
-    asked.extend((0..).map(|k| questions::random(seed, k)).filter(small).take(400));
-    asked.extend((0..).map(|k| questions::damaged(seed, k)).filter(small).take(300));
+    asked.extend((0..).map(|k| questions::random(seed, k).ask()).filter(small).take(400));
+    asked.extend((0..).map(|k| questions::damaged(seed, k).ask()).filter(small).take(300));
     asked.iter().map(Packed::of).collect()
 }
 

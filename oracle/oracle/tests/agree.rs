@@ -1,6 +1,7 @@
 //! The traced copy against the unchanged source, in this process and in children.
 use oracle::compare::{in_process, with_child, Outcome};
-use oracle::limits::{cases, Asked};
+use oracle::limits::cases;
+use oracle::questions::Question;
 use oracle::{judge, questions};
 use std::io::Write;
 use std::process::{Command, Stdio};
@@ -8,12 +9,11 @@ use std::process::{Command, Stdio};
 const SEED: u64 = 7;
 
 /// How many of the first cases could be compared, on two threads.
-fn compared(count: u64, make: fn(u64, u64) -> Asked) -> u64 {
+fn compared(count: u64, make: fn(u64, u64) -> Question) -> u64 {
     let half = |odd: u64| {
         let mut compared = 0;
         for k in (odd..count).step_by(2) {
-            let asked = make(SEED, k);
-            match in_process(&asked.tree) {
+            match in_process(&make(SEED, k).tree) {
                 Ok(something) => compared += u64::from(something),
                 Err(fault) => panic!("case {k} of seed {SEED}: {fault}"),
             }
@@ -63,7 +63,7 @@ fn child(tree: &[u8]) -> Outcome {
 fn refusals_seen_from_a_child() {
     let most = 40;
     let mut seen = [0; 19];
-    let random = (0..12_000).map(|k| questions::random(SEED + 1, k));
+    let random = (0..12_000).map(|k| questions::random(SEED + 1, k).ask());
     for asked in cases().iter().map(|c| c.ask()).chain(random) {
         let number = asked.answer.number;
         if (7..=17).contains(&number) && seen[usize::from(number)] < most {

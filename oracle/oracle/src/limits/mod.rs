@@ -2,6 +2,7 @@
 //! A case says by hand which number and place are due, wherever they can be told from 01 alone.
 mod captures;
 mod files_cut;
+mod heavy;
 mod jumps;
 mod long;
 mod names;
@@ -16,7 +17,7 @@ use crate::judge::{work_for, MOST_FIELDS};
 use crate::trees::build::Node;
 use crate::trees::order::post;
 use crate::trees::rule::Rule;
-use files::tree::fields;
+use files::tree::whole_fields;
 
 /// How many words of work area a case lends.
 #[derive(Clone, Copy, Debug)]
@@ -80,15 +81,20 @@ impl Case {
     }
 }
 
+/// How many words these are for a tree.
+pub fn work_words(tree: &[u8], work: Work) -> u64 {
+    let nodes = || whole_fields(tree).0.len().min(MOST_FIELDS);
+    match work {
+        Work::Exact => work_for(nodes()),
+        Work::Short => work_for(nodes()) - 1,
+        Work::Plenty => work_for(nodes()) + 77,
+        Work::Words(n) => n,
+    }
+}
+
 /// Asks the oracle about a file.
 pub fn ask(tree: Vec<u8>, work: Work, room: Room) -> Asked {
-    let nodes = fields(&tree).map_or_else(|whole| whole, |f| f.len()).min(MOST_FIELDS);
-    let work = match work {
-        Work::Exact => work_for(nodes),
-        Work::Short => work_for(nodes) - 1,
-        Work::Plenty => work_for(nodes) + 77,
-        Work::Words(n) => n,
-    };
+    let work = work_words(&tree, work);
     let image = image(&tree, work);
     let room = room_for(room, &image);
     let (answer, image) = in_room(&tree, image, room);
@@ -105,7 +111,7 @@ fn room_for(room: Room, image: &Result<Vec<u8>, Refusal>) -> u64 {
     }
 }
 
-/// Every case with a hand-written name.
+/// Every case of which a number and a place are written down.
 pub fn cases() -> Vec<Case> {
     let mut all = vec![];
     all.extend(files_cut::cases());
@@ -118,6 +124,11 @@ pub fn cases() -> Vec<Case> {
     all.extend(jumps::cases());
     all.extend(numbers::cases());
     all
+}
+
+/// Cases that cost much time or room; what is due is left to the source.
+pub fn heavy_cases() -> Vec<Case> {
+    heavy::cases()
 }
 
 pub use shapes::{edited_shapes, zoo};

@@ -1,6 +1,7 @@
 //! Random programs that crowd against one limit of 01: some stay within it, some do not.
 use super::build::*;
 use super::random::{self, Taste};
+use super::script::script;
 use super::values;
 use crate::rng::Rng;
 
@@ -168,8 +169,12 @@ pub fn any(rng: &mut Rng) -> Node {
         0..=14 => constants(rng),
         15..=34 => prototypes(rng),
         35..=74 => captures(rng),
-        75..=78 => long(rng),
-        79..=199 => nesting(rng),
+        75..=76 => long(rng),
+        77..=80 => {
+            let nodes = rng.range(1000, 32_000);
+            script(rng, nodes)
+        }
+        81..=199 => nesting(rng),
         200..=299 => deep(rng),
         300..=499 => minus(rng),
         500..=799 => registers(rng),

@@ -27,7 +27,7 @@ pub fn joined(fields: &[Loose]) -> Vec<u8> {
 /// One to three damages: first to fields, then to bytes.
 pub fn damaged(rng: &mut Rng, file: &[u8]) -> Vec<u8> {
     let mut fields = loose(file);
-    let hurts = rng.range(1, 3);
+    let hurts = if rng.chance(700) { 1 } else { rng.range(2, 3) };
     let to_bytes = if rng.chance(300) { rng.range(1, hurts) } else { 0 };
     for _ in to_bytes..hurts {
         if !fields.is_empty() {
@@ -44,7 +44,7 @@ pub fn damaged(rng: &mut Rng, file: &[u8]) -> Vec<u8> {
 fn hurt_fields(rng: &mut Rng, fields: &mut Vec<Loose>) {
     let n = fields.len();
     let at = rng.below(n);
-    match rng.below(12) {
+    match rng.below(16) {
         0 => {
             fields.remove(at);
         }
@@ -58,6 +58,7 @@ fn hurt_fields(rng: &mut Rng, fields: &mut Vec<Loose>) {
         6 => fields[at].payload.push(rng.word() as u8),
         7 => insert_word(rng, &mut fields[at].payload),
         8 => drop_word(rng, &mut fields[at].payload),
+        9..=12 => other_child(rng, fields, at),
         _ => replace_word(rng, &mut fields[at].payload, at, n),
     }
 }
@@ -72,6 +73,21 @@ fn drop_word(rng: &mut Rng, payload: &mut Vec<u8>) {
     if payload.len() >= 2 {
         let at = 2 * rng.below(payload.len() / 2);
         payload.drain(at..at + 2);
+    }
+}
+
+/// Where a word could be a child, another node of the same tag: one node is then a child twice, one never.
+fn other_child(rng: &mut Rng, fields: &mut [Loose], at: usize) {
+    let payload = &fields[at].payload;
+    if payload.len() < 2 {
+        return;
+    }
+    let k = 2 * rng.below(payload.len() / 2);
+    let old = usize::from(u16::from_be_bytes([payload[k], payload[k + 1]]));
+    if old < at {
+        let alike: Vec<usize> = (0..at).filter(|j| fields[*j].tag == fields[old].tag).collect();
+        let other = *rng.pick(&alike) as u16;
+        fields[at].payload[k..k + 2].copy_from_slice(&other.to_be_bytes());
     }
 }
 

@@ -8,4 +8,5 @@ pub mod random;
 pub mod reference;
 pub mod rule;
 pub mod scope;
+pub mod script;
 pub mod values;

@@ -1,0 +1,4 @@
+//! Runs functions with the C interface of the lowering against the oracle.
+pub mod calls;
+pub mod lent;
+pub mod run;

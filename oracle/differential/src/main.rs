@@ -1,0 +1,92 @@
+//! `differential [--seed S] [--random N] [--damaged N] [--threads N] [--only lower|check] [--announce yes]`: exit status 0 where nothing differs.
+use differential::calls::{Check, Lower};
+use differential::run::{run, Plan};
+use std::process::ExitCode;
+
+#[cfg(has_lower)]
+extern "C" {
+    fn yengrazul_lower(tree: *const u8, tree_len: usize, work: *mut u32, work_len: usize, out: *mut u8, out_len: usize, answer: *mut u64);
+}
+
+#[cfg(has_check)]
+extern "C" {
+    fn yengrazul_check(tree: *const u8, tree_len: usize, work_len: usize, answer: *mut u64);
+}
+
+fn linked_lower() -> Option<Lower> {
+    #[cfg(has_lower)]
+    return Some(yengrazul_lower);
+    #[cfg(not(has_lower))]
+    None
+}
+
+fn linked_check() -> Option<Check> {
+    #[cfg(has_check)]
+    return Some(yengrazul_check);
+    #[cfg(not(has_check))]
+    None
+}
+
+fn main() -> ExitCode {
+    let words: Vec<String> = std::env::args().skip(1).collect();
+    match plan(&words) {
+        Ok(plan) if plan.lower.is_none() && plan.check.is_none() => {
+            eprintln!("differential: no library is linked; build with YENGRAZUL_LIB naming the folder of liblower.a or libtree.a");
+            ExitCode::from(2)
+        }
+        Ok(plan) => report(&plan),
+        Err(fault) => {
+            eprintln!("differential: {fault}");
+            ExitCode::from(2)
+        }
+    }
+}
+
+fn plan(words: &[String]) -> Result<Plan, String> {
+    let mut plan = Plan {
+        seed: fresh_seed(),
+        random: 100_000,
+        damaged: 20_000,
+        fixed: true,
+        threads: std::thread::available_parallelism().map_or(1, |n| n.get()),
+        announce: false,
+        lower: linked_lower(),
+        check: linked_check(),
+    };
+    let mut words = words.iter();
+    while let Some(word) = words.next() {
+        let value = words.next().ok_or(format!("{word} wants a value"))?;
+        let number = || value.parse::<u64>().map_err(|_| format!("{value} is no number"));
+        match (word.as_str(), value.as_str()) {
+            ("--seed", _) => plan.seed = number()?,
+            ("--random", _) => plan.random = number()?,
+            ("--damaged", _) => plan.damaged = number()?,
+            ("--threads", _) => plan.threads = number()? as usize,
+            ("--announce", "yes") => plan.announce = true,
+            ("--only", "lower") => plan.check = None,
+            ("--only", "check") => plan.lower = None,
+            _ => return Err(format!("no option {word} {value}")),
+        }
+    }
+    Ok(plan)
+}
+
+fn fresh_seed() -> u64 {
+    let now = std::time::SystemTime::now().duration_since(std::time::UNIX_EPOCH);
+    now.map_or(0, |d| d.as_nanos() as u64 % 1_000_000_000_000)
+}
+
+fn report(plan: &Plan) -> ExitCode {
+    let names = [("lower", plan.lower.is_some()), ("check", plan.check.is_some())];
+    let names: Vec<&str> = names.iter().filter(|(_, is)| *is).map(|(name, _)| *name).collect();
+    println!("seed {}: {} random and {} damaged trees, limits and shapes, against {}", plan.seed, plan.random, plan.damaged, names.join(" and "));
+    let report = run(plan);
+    for (number, n) in report.by_number.iter().enumerate().filter(|(_, n)| **n > 0) {
+        println!("  {number:2}: {n}");
+    }
+    for difference in &report.differences {
+        println!("DIFFERS: {difference}");
+    }
+    println!("{} trees, {} differences", report.total(), report.differences.len());
+    if report.differences.is_empty() { ExitCode::SUCCESS } else { ExitCode::FAILURE }
+}

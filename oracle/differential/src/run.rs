@@ -1,0 +1,125 @@
+//! A whole run: random and damaged trees of a seed, the limits and the shapes.
+use crate::calls::{self, Check, Fault, Lower};
+use oracle::limits::work_words;
+use oracle::questions::{self, Question};
+use oracle::rng::Rng;
+use oracle::{export, judge};
+use std::sync::atomic::{AtomicUsize, Ordering};
+use std::sync::Mutex;
+
+#[derive(Clone, Copy)]
+pub struct Plan {
+    pub seed: u64,
+    pub random: u64,
+    pub damaged: u64,
+    /// Whether the limits and the shapes are run too.
+    pub fixed: bool,
+    pub threads: usize,
+    /// Whether each case is named before its call, to find one that ends the process.
+    pub announce: bool,
+    pub lower: Option<Lower>,
+    pub check: Option<Check>,
+}
+
+#[derive(Default)]
+pub struct Report {
+    /// How many trees were asked about, by the number that was due.
+    pub by_number: [u64; 19],
+    pub differences: Vec<String>,
+}
+
+impl Report {
+    pub fn total(&self) -> u64 {
+        self.by_number.iter().sum()
+    }
+
+    fn add(&mut self, other: Report) {
+        for (sum, n) in self.by_number.iter_mut().zip(other.by_number) {
+            *sum += n;
+        }
+        self.differences.extend(other.differences);
+    }
+}
+
+/// After so many differences a run stops.
+const ENOUGH: usize = 20;
+
+/// Lowering recurses; a thread of the run has this much stack.
+const STACK: usize = 256 << 20;
+
+/// A question of the run, made when its turn comes.
+struct Turn {
+    kind: &'static str,
+    k: u64,
+}
+
+pub fn run(plan: &Plan) -> Report {
+    let fixed = if plan.fixed { (questions::limits(), questions::shapes()) } else { (vec![], vec![]) };
+    let (limits, shapes) = (fixed.0.len(), fixed.1.len());
+    let total = limits + shapes + (plan.damaged + plan.random) as usize;
+    let turn = |n: usize| match n {
+        n if n < limits => Turn { kind: "limits", k: n as u64 },
+        n if n < limits + shapes => Turn { kind: "shapes", k: (n - limits) as u64 },
+        n if n < limits + shapes + plan.damaged as usize => Turn { kind: "damaged", k: (n - limits - shapes) as u64 },
+        n => Turn { kind: "random", k: (n - limits - shapes) as u64 - plan.damaged },
+    };
+    let question = |t: &Turn| match t.kind {
+        "limits" => fixed.0[t.k as usize].clone(),
+        "shapes" => fixed.1[t.k as usize].clone(),
+        "damaged" => questions::damaged(plan.seed, t.k),
+        _ => questions::random(plan.seed, t.k),
+    };
+    let (next, whole) = (AtomicUsize::new(0), Mutex::new(Report::default()));
+    let work = || {
+        let mut report = Report::default();
+        loop {
+            let n = next.fetch_add(1, Ordering::Relaxed);
+            if n >= total || report.differences.len() >= ENOUGH {
+                break;
+            }
+            let t = turn(n);
+            if plan.announce {
+                println!("{} {}", t.kind, t.k);
+            }
+            let mut rng = Rng::for_case(plan.seed ^ 0x6E6F_6973_65, n as u64);
+            ask(plan, &t, question(&t), &mut rng, &mut report);
+        }
+        whole.lock().unwrap().add(report);
+    };
+    std::thread::scope(|scope| {
+        for _ in 0..plan.threads {
+            std::thread::Builder::new().stack_size(STACK).spawn_scoped(scope, work).expect("a thread");
+        }
+    });
+    whole.into_inner().unwrap()
+}
+
+fn ask(plan: &Plan, turn: &Turn, question: Question, rng: &mut Rng, report: &mut Report) {
+    let mut fail = |what: &str, tree: &[u8], fault: Fault| {
+        report.differences.push(format!("{what}, {} {} of seed {}: {fault}; tree {}", turn.kind, turn.k, plan.seed, short(tree)));
+    };
+    let mut number = None;
+    if let Some(function) = plan.check {
+        let work = work_words(&question.tree, question.work);
+        let due = judge::check(&question.tree, work).map(|nodes| nodes.len());
+        number = Some(due.map_or_else(|r| r.number, |_| 0));
+        if let Err(fault) = calls::check(function, &question.tree, work, due, rng) {
+            fail("check", &question.tree, fault);
+        }
+    }
+    if let Some(function) = plan.lower {
+        let asked = question.ask();
+        number = Some(asked.answer.number);
+        if let Err(fault) = calls::lower(function, &asked, rng) {
+            fail("lower", &asked.tree, format!("work {}, room {}: {fault}", asked.work, asked.room));
+        }
+    }
+    if let Some(number) = number {
+        report.by_number[usize::from(number)] += 1;
+    }
+}
+
+/// A tree for a line of text; a long one is made again from its seed.
+fn short(tree: &[u8]) -> String {
+    if tree.len() > 1000 { format!("of {} bytes", tree.len()) } else { export::hex(tree) }
+}

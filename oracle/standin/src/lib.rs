@@ -1,0 +1,35 @@
+//! The oracle behind the C interface of the lowering: what a right library does, to try the runner on.
+use oracle::{answer, judge};
+use std::slice::{from_raw_parts, from_raw_parts_mut};
+
+/// # Safety
+/// The pointers and lengths are of slices, and `answer` is of three numbers.
+#[no_mangle]
+pub unsafe extern "C" fn yengrazul_lower(
+    tree: *const u8,
+    tree_len: usize,
+    work: *mut u32,
+    work_len: usize,
+    out: *mut u8,
+    out_len: usize,
+    answer: *mut u64,
+) {
+    let (tree, work) = (from_raw_parts(tree, tree_len), from_raw_parts_mut(work, work_len));
+    let (out, answer) = (from_raw_parts_mut(out, out_len), from_raw_parts_mut(answer, 3));
+    let (due, image) = answer::answer(tree, work_len as u64, out_len as u64);
+    work.fill(0);
+    out.fill(0);
+    out[..image.len()].copy_from_slice(&image);
+    answer.copy_from_slice(&due.numbers());
+}
+
+/// # Safety
+/// The pointer and length are of a slice, and `answer` is of three numbers.
+#[no_mangle]
+pub unsafe extern "C" fn yengrazul_check(tree: *const u8, tree_len: usize, work_len: usize, answer: *mut u64) {
+    let (tree, answer) = (from_raw_parts(tree, tree_len), from_raw_parts_mut(answer, 3));
+    answer.copy_from_slice(&match judge::check(tree, work_len as u64) {
+        Ok(nodes) => [0, 0, nodes.len() as u64],
+        Err(refusal) => [refusal.number.into(), refusal.place, 0],
+    });
+}
