@@ -14,3 +14,5 @@ pub mod Keeps
 pub mod Grows
 pub mod Large
 pub mod Limits
+pub mod Imaged
+pub mod Safe

@@ -17,3 +17,5 @@ pub mod Statements
 pub mod Lower
 pub mod Image
 pub mod Answer
+pub mod Steps
+pub mod Safety

@@ -1,0 +1,44 @@
+-- Demand 3 of every accepted tree. The statement stands in specs (Steps, Safety), the argument in the modules below, in their order.
+-- The idea: one induction over the lowering gives that every prototype is finished (Program); what is finished is safe, and a walk stays
+-- where each of its steps does (Walk).
+use Prim.Native.Nat.{ℕ, _-_}
+use mathlib.Core.Path.{_≡_, subst}
+use mathlib.Core.List.{List, [], _∷_, _++_}
+use Rattle.meaning.specs.Syntax.{Stmts}
+use Rattle.meaning.specs.State.{Proto, State, done}
+use Rattle.meaning.specs.Lower.{lower-program}
+use Rattle.meaning.specs.Answer.{finished, imaged, outcome, answer}
+use Rattle.meaning.specs.Safety.{Safe, Lowered, Demand3}
+use Rattle.meaning.proofs.Imaged.{number-zero, finished-lowered}
+use Rattle.meaning.proofs.Safe.Sound.{Protos}
+use Rattle.meaning.proofs.Safe.Program.{program-whole}
+use Rattle.meaning.proofs.Safe.Walk.{protos-safe, steps-stand}
+pub mod Fine
+pub mod Patches
+pub mod Sound
+pub mod Lookup
+pub mod Brackets
+pub mod Expressions
+pub mod Functions
+pub mod Statements
+pub mod Program
+pub mod Walk
+
+-- of a lowering that is done
+pub lowering-safe : (node : ℕ) (ss : Stmts) (i : ℕ) (t : State) → lower-program node ss ≡ done i t
+    → (before : List Proto) (p : Proto) (after : List Proto) → t .prototypes ≡ before ++ p ∷ after → Safe (t .constants) before p
+lowering-safe node ss i t e before p after q = protos-safe (t .constants) [] before p after (subst (Protos (t .constants) []) q (program-whole node ss i t e .pools .protos))
+
+-- for all trees, work lengths and output lengths: where there is an image, it is that of a lowering that was done, and demand 3 holds of it
+pub demand-3 : (tree : List ℕ) (work room : ℕ) (bytes : List ℕ) → finished tree work room ≡ imaged bytes → (l : Lowered tree work bytes) × Demand3 (l .state)
+demand-3 tree work room bytes e =
+    let l = finished-lowered tree work room bytes e in
+    let safe = lowering-safe (l .nodes - 1) _ (l .main) (l .state) (l .lowering) in
+    (l, record { safe = safe; walks = λ before p after q. steps-stand (l .state .constants) before p (safe before p after q) })
+
+-- the same of an answer with number 0
+pub accepted-demand-3 : (tree : List ℕ) (work room : ℕ) → answer (outcome (finished tree work room)) .number ≡ 0
+    → (bytes : List ℕ) × (finished tree work room ≡ imaged bytes) × ((l : Lowered tree work bytes) × Demand3 (l .state))
+accepted-demand-3 tree work room e =
+    let f = number-zero (finished tree work room) .0 e in
+    (f .0, f .1, demand-3 tree work room (f .0) (f .1))
