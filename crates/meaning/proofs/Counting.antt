@@ -1,7 +1,8 @@
 -- Where every node but the last is a child exactly once, and children stand below their parents, the tree that unfolds from the last node
--- has as many nodes as the file. This bounds what a walk over the tree, as the lowering, keeps pending.
---     size-by fs f i    the size of the tree under node i: one more than the sizes of its children's, f deep
---     tree-size         at enough fuel the last node's is the number of nodes
+-- weighs as much as the file's nodes together. This bounds what a walk over the tree, as the lowering, keeps pending.
+--     total-by own fs f i    what the tree under node i weighs, f deep: `own i` and what its children's trees weigh
+--     tree-total             at enough fuel the last node's is the sum of `own` over all nodes, by double counting
+--     tree-size              where each node weighs 1, that is the number of nodes
 use mathlib.Core.Path.{_≡_, refl, ap, _∙_, subst}
 use mathlib.Core.Bool.{true}
 use mathlib.Core.Logic.{⊎-elim}
@@ -35,23 +36,26 @@ kids-sum-at g (f ∷ fs) = sum-to-first (λ i. sum-of g (kids-of (field-at (f �
 
 -- ---- the tree under a node
 
-pub size-by : List Field → ℕ → ℕ → ℕ
-size-by fs zero i = 0
-size-by fs (suc f) i = suc (sum-of (size-by fs f) (kids-of (field-at fs i)))
+pub total-by : (own : ℕ → ℕ) → List Field → ℕ → ℕ → ℕ
+total-by own fs zero i = 0
+total-by own fs (suc f) i = own i + sum-of (total-by own fs f) (kids-of (field-at fs i))
+
+abbrev pub size-by : List Field → ℕ → ℕ → ℕ
+size-by fs f i = total-by (λ j. 1) fs f i
 
 module _ (fs : List Field) (good : (j : ℕ) → j < length fs → shape-at fs j ≡ true) where
-  size-fuel : (f g i : ℕ) → i < length fs → i < f → i < g → size-by fs f i ≡ size-by fs g i
-  unfolding size-by
-  size-fuel zero g i l p q = absurd (omega arith)
-  size-fuel (suc f) zero i l p q = absurd (omega arith)
-  size-fuel (suc f) (suc g) i l p q =
-      ap suc (sum-of-same (size-by fs f) (size-by fs g) (kids-of (field-at fs i))
-      (λ c h. let z = child-below fs i c (good i l) h in size-fuel f g c (omega arith) (omega arith) (omega arith)))
+  total-fuel : (own : ℕ → ℕ) (f g i : ℕ) → i < length fs → i < f → i < g → total-by own fs f i ≡ total-by own fs g i
+  unfolding total-by
+  total-fuel own zero g i l p q = absurd (omega arith)
+  total-fuel own (suc f) zero i l p q = absurd (omega arith)
+  total-fuel own (suc f) (suc g) i l p q =
+      ap (λ (k : ℕ). own i + k) (sum-of-same (total-by own fs f) (total-by own fs g) (kids-of (field-at fs i))
+      (λ c h. let z = child-below fs i c (good i l) h in total-fuel own f g c (omega arith) (omega arith) (omega arith)))
 
   -- at as much fuel as there are nodes
-  size-step : (i : ℕ) → i < length fs → size-by fs (length fs) i ≡ 1 + sum-of (size-by fs (length fs)) (kids-of (field-at fs i))
-  unfolding size-by
-  size-step i l = size-fuel (length fs) (suc (length fs)) i l l (omega arith) ∙ omega arith
+  pub total-step : (own : ℕ → ℕ) (i : ℕ) → i < length fs → total-by own fs (length fs) i ≡ own i + sum-of (total-by own fs (length fs)) (kids-of (field-at fs i))
+  unfolding total-by
+  total-step own i l = total-fuel own (length fs) (suc (length fs)) i l l (omega arith)
 
   -- no child at or above the last node
   none-above : (c : ℕ) → length fs - 1 ≤ c → count c (all-kids fs) ≡ 0
@@ -61,15 +65,18 @@ module _ (fs : List Field) (good : (j : ℕ) → j < length fs → shape-at fs j
       (eq-zero-or-pos (count c (all-kids fs)))
 
   module _ (some : 1 ≤ length fs) (once : (c : ℕ) → c < length fs - 1 → count c (all-kids fs) ≡ 1) where
-    pub tree-size : size-by fs (length fs) (length fs - 1) ≡ length fs
+    pub tree-total : (own : ℕ → ℕ) → total-by own fs (length fs) (length fs - 1) ≡ sum-to own (length fs)
     unfolding sum-to
-    tree-size =
-        let S : ℕ → ℕ = size-by fs (length fs) in
+    tree-total own =
+        let S : ℕ → ℕ = total-by own fs (length fs) in
         let K : ℕ → ℕ = λ i. sum-of S (kids-of (field-at fs i)) in
-        let a : sum-to S (length fs) ≡ sum-to (λ i. 1 + K i) (length fs) = sum-to-same S (λ i. 1 + K i) (length fs) size-step in
-        let b : sum-to (λ i. 1 + K i) (length fs) ≡ sum-to (λ i. 1) (length fs) + sum-to K (length fs) = sum-to-plus (λ i. 1) K (length fs) in
+        let a : sum-to S (length fs) ≡ sum-to (λ i. own i + K i) (length fs) = sum-to-same S (λ i. own i + K i) (length fs) (total-step own) in
+        let b : sum-to (λ i. own i + K i) (length fs) ≡ sum-to own (length fs) + sum-to K (length fs) = sum-to-plus own K (length fs) in
         let d : sum-to K (length fs) ≡ sum-to S (length fs - 1) = kids-sum-at S fs ∙ kids-sum-all S fs ∙ sum-of-once S (length fs - 1) (all-kids fs) none-above once in
         let e : sum-to S (suc (length fs - 1)) ≡ sum-to S (length fs - 1) + S (length fs - 1) = refl in
         let f : suc (length fs - 1) ≡ length fs = omega arith in
         let g : sum-to S (length fs) ≡ sum-to S (length fs - 1) + S (length fs - 1) = subst (λ (m : ℕ). sum-to S m ≡ sum-to S (length fs - 1) + S (length fs - 1)) f e in
-        omega (arith, sum-to-ones (length fs))
+        omega arith
+
+    pub tree-size : size-by fs (length fs) (length fs - 1) ≡ length fs
+    tree-size = tree-total (λ j. 1) ∙ sum-to-ones (length fs)

@@ -10,6 +10,7 @@ pub mod Rows
 pub mod Reading
 pub mod Counting
 pub mod Accepted
+pub mod Weights
 pub mod Keeps
 pub mod Grows
 pub mod Large

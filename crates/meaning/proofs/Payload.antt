@@ -195,19 +195,19 @@ module _ (ok : ℕ → ℕ → Bool) (nothing : (w : ℕ) → Ok ok none w → �
 
 -- ---- the same of a node of the right shape
 
+pub none-lawful : (ts : List ℕ) (i w : ℕ) → lawful ts i none w ≡ true → ⊥
+unfolding lawful names
+none-lawful ts i w e = inside-none w e
+
 module _ (fs : List Field) (i : ℕ) (shape : shape-at fs i ≡ true) where
   words-fit : fit (lawful (tags-of fs) i) (items-of (tag-of fs i)) (words-at fs i) ≡ true
   words-fit = fits-words (lawful (tags-of fs) i) (items-of (tag-of fs i)) (field-at fs i .payload) (shape-fits fs i shape)
 
-  nothing-at : (w : ℕ) → Ok (lawful (tags-of fs) i) none w → ⊥
-  unfolding lawful names
-  nothing-at w e = inside-none w e
-
   pub due-at : Due (lawful (tags-of fs) i) (words-at fs i) (items-of (tag-of fs i)) 0
-  due-at = parsed (lawful (tags-of fs) i) nothing-at (λ c. 0) (words-at fs i) (items-of (tag-of fs i)) 0 (omega arith) words-fit .0
+  due-at = parsed (lawful (tags-of fs) i) (none-lawful (tags-of fs) i) (λ c. 0) (words-at fs i) (items-of (tag-of fs i)) 0 (omega arith) words-fit .0
 
   pub sum-at : (g : ℕ → ℕ) → sum-of g (kids-of (field-at fs i)) ≡ Sum g (words-at fs i) (items-of (tag-of fs i)) 0
   unfolding kids-of
   sum-at g =
       sum-words g (items-of (tag-of fs i)) (field-at fs i .payload)
-      ∙ parsed (lawful (tags-of fs) i) nothing-at g (words-at fs i) (items-of (tag-of fs i)) 0 (omega arith) words-fit .1
+      ∙ parsed (lawful (tags-of fs) i) (none-lawful (tags-of fs) i) g (words-at fs i) (items-of (tag-of fs i)) 0 (omega arith) words-fit .1

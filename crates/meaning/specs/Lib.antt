@@ -9,6 +9,7 @@ pub mod Constant
 pub mod Syntax
 pub mod Read
 pub mod At
+pub mod Weight
 pub mod State
 pub mod Chunk
 pub mod Expressions
