@@ -2,12 +2,13 @@
 
 const FILES: [&str; 7] = ["compiler", "errors", "expr", "instruction", "stmt", "token", "value"];
 
-/// The folder of the source: GROTSKY_SRC (a relative one from the project's root), else ../shared/docs/src/src beside the project.
+/// The folder of the source: GROTSKY_SRC, else ../shared/docs/src/src; a relative one is meant from the project's root.
 fn source() -> std::path::PathBuf {
     println!("cargo:rerun-if-env-changed=GROTSKY_SRC");
     let root = std::path::Path::new(env!("CARGO_MANIFEST_DIR")).join("../..");
     let folder = root.join(std::env::var_os("GROTSKY_SRC").unwrap_or("../shared/docs/src/src".into()));
-    let folder = folder.canonicalize().unwrap_or_else(|_| panic!("the source is not at {}: set GROTSKY_SRC", folder.display()));
+    let folder =
+        folder.canonicalize().unwrap_or_else(|_| panic!("the source is not at {}: set GROTSKY_SRC", folder.display()));
     for name in FILES {
         println!("cargo:rerun-if-changed={}", folder.join(name).with_extension("rs").display());
     }

@@ -10,8 +10,18 @@ use files::NONE;
 const UNARY: [Token; 2] = [Token::Not, Token::Minus];
 const LOGICAL: [Token; 2] = [Token::Or, Token::And];
 const BINARY: [Token; 12] = [
-    Token::Plus, Token::Less, Token::EqualEqual, Token::BangEqual, Token::Greater, Token::GreaterEqual,
-    Token::LessEqual, Token::Minus, Token::Slash, Token::Mod, Token::Star, Token::Power,
+    Token::Plus,
+    Token::Less,
+    Token::EqualEqual,
+    Token::BangEqual,
+    Token::Greater,
+    Token::GreaterEqual,
+    Token::LessEqual,
+    Token::Minus,
+    Token::Slash,
+    Token::Mod,
+    Token::Star,
+    Token::Power,
 ];
 
 /// The statements of the program, which is the last node.
@@ -117,11 +127,10 @@ impl<'t> Tree<'t> {
                 let operator = w.operator(&LOGICAL);
                 Expr::Logical(node!(node, LogicalExpr { operator, left: w.boxed_expr(), right: w.boxed_expr() }))
             }
-            0x08 => Expr::Call(node!(node, CallExpr {
-                callee: w.boxed_expr(),
-                paren: w.keyword(Token::RightParen),
-                arguments: w.exprs(),
-            })),
+            0x08 => Expr::Call(node!(
+                node,
+                CallExpr { callee: w.boxed_expr(), paren: w.keyword(Token::RightParen), arguments: w.exprs() }
+            )),
             0x09 => Expr::Fn(node!(node, FnExpr { params: w.params(), body: w.stmts() })),
             tag => unreachable!("tag {tag:02X} is no expression"),
         }
@@ -137,28 +146,31 @@ impl<'t> Tree<'t> {
             0x10 => Stmt::Expr(node!(node, ExprStmt { last: None, expression: w.expr() })),
             0x11 => Stmt::Let(node!(node, LetStmt { name: w.name(), initializer: w.perhaps_expr() })),
             0x12 => Stmt::Block(node!(node, BlockStmt { stmts: w.stmts() })),
-            0x13 => Stmt::While(node!(node, WhileStmt {
-                keyword: w.keyword(Token::While),
-                condition: w.expr(),
-                body: w.boxed_stmt(),
-            })),
+            0x13 => Stmt::While(node!(
+                node,
+                WhileStmt { keyword: w.keyword(Token::While), condition: w.expr(), body: w.boxed_stmt() }
+            )),
             0x14 => self.classic_for(node),
             0x15 => self.enhanced_for(node),
             0x16 => Stmt::Break(node!(node, BreakStmt { keyword: w.keyword(Token::Break) })),
             0x17 => Stmt::Continue(node!(node, ContinueStmt { keyword: w.keyword(Token::Continue) })),
-            0x18 => Stmt::Return(node!(node, ReturnStmt { keyword: w.keyword(Token::Return), value: w.perhaps_expr() })),
-            0x19 => Stmt::If(node!(node, IfStmt {
-                keyword: w.keyword(Token::If),
-                condition: w.expr(),
-                then_branch: w.counted(Tree::stmt),
-                elifs: w.counted(Tree::elif),
-                else_branch: w.stmts(),
-            })),
-            0x1B => Stmt::TryCatch(node!(node, TryCatchStmt {
-                try_body: w.boxed_stmt(),
-                name: w.name(),
-                catch_body: w.boxed_stmt(),
-            })),
+            0x18 => {
+                Stmt::Return(node!(node, ReturnStmt { keyword: w.keyword(Token::Return), value: w.perhaps_expr() }))
+            }
+            0x19 => Stmt::If(node!(
+                node,
+                IfStmt {
+                    keyword: w.keyword(Token::If),
+                    condition: w.expr(),
+                    then_branch: w.counted(Tree::stmt),
+                    elifs: w.counted(Tree::elif),
+                    else_branch: w.stmts(),
+                }
+            )),
+            0x1B => Stmt::TryCatch(node!(
+                node,
+                TryCatchStmt { try_body: w.boxed_stmt(), name: w.name(), catch_body: w.boxed_stmt() }
+            )),
             0x1C => Stmt::Fn(self.function(node)),
             0x1D => self.class(node),
             tag => unreachable!("tag {tag:02X} is no statement"),
@@ -169,13 +181,16 @@ impl<'t> Tree<'t> {
         let mut w = self.words(node);
         let keyword = w.keyword(Token::For);
         let initializer = Some(w.word()).filter(|child| *child != NONE);
-        Stmt::ClassicFor(node!(node, ClassicForStmt {
-            keyword,
-            initializer: initializer.map(|child| Box::new(self.stmt(child.into()))),
-            condition: w.expr(),
-            increment: w.expr(),
-            body: w.boxed_stmt(),
-        }))
+        Stmt::ClassicFor(node!(
+            node,
+            ClassicForStmt {
+                keyword,
+                initializer: initializer.map(|child| Box::new(self.stmt(child.into()))),
+                condition: w.expr(),
+                increment: w.expr(),
+                body: w.boxed_stmt(),
+            }
+        ))
     }
 
     fn enhanced_for(self, node: usize) -> Stmt {
@@ -184,7 +199,10 @@ impl<'t> Tree<'t> {
         let collection = w.expr();
         let body = w.boxed_stmt();
         let pairs = w.words.len() / 2;
-        Stmt::EnhancedFor(node!(node, EnhancedForStmt { keyword, collection, body, identifiers: w.names(pairs as u16) }))
+        Stmt::EnhancedFor(node!(
+            node,
+            EnhancedForStmt { keyword, collection, body, identifiers: w.names(pairs as u16) }
+        ))
     }
 
     fn elif(self, node: usize) -> ElifBranch {
@@ -203,11 +221,14 @@ impl<'t> Tree<'t> {
         let superclass = Some(w.word()).filter(|child| *child != NONE);
         let methods = w.counted(Tree::function);
         let rest: Vec<u16> = w.words.collect();
-        Stmt::Class(node!(node, ClassStmt {
-            name,
-            superclass: superclass.map(|child| self.variable(child.into())),
-            methods,
-            static_methods: rest.iter().map(|child| self.function((*child).into())).collect(),
-        }))
+        Stmt::Class(node!(
+            node,
+            ClassStmt {
+                name,
+                superclass: superclass.map(|child| self.variable(child.into())),
+                methods,
+                static_methods: rest.iter().map(|child| self.function((*child).into())).collect(),
+            }
+        ))
     }
 }

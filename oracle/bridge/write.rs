@@ -17,12 +17,11 @@ fn prototype(p: &FnPrototype) -> Prototype {
         parameters: p.param_count.try_into().expect("a parameter count is a word"),
         registers: p.register_count.into(),
         captures: p.upvalues.iter().map(|u| Capture { local: u.is_local, index: u.index }).collect(),
-        instructions: p.instructions.iter().zip(marks).map(|(i, mark)| Instruction {
-            opcode: i.opcode.clone() as u8,
-            a: i.a,
-            b: i.b,
-            c: i.c,
-            mark,
-        }).collect(),
+        instructions: p
+            .instructions
+            .iter()
+            .zip(marks)
+            .map(|(i, mark)| Instruction { opcode: i.opcode.clone() as u8, a: i.a, b: i.b, c: i.c, mark })
+            .collect(),
     }
 }

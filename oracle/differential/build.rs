@@ -1,4 +1,5 @@
-//! Links the static libraries that stand in the folder of YENGRAZUL_LIB: liblower.a with `yengrazul_lower`, libtree.a with `yengrazul_check`.
+//! Links the static libraries that stand in the folder of YENGRAZUL_LIB:
+//! liblower.a with `yengrazul_lower`, libtree.a with `yengrazul_check`.
 use std::path::Path;
 
 fn main() {

@@ -22,7 +22,15 @@ pub fn lower(function: Lower, asked: &Asked, rng: &mut Rng) -> Result<(), Fault>
     let mut answer: Lent<u64> = Lent::noise(rng, 3);
     let (t, w, o) = (tree.slice(), work.slice_mut(), out.slice_mut());
     unsafe {
-        function(t.as_ptr(), t.len(), w.as_mut_ptr(), w.len(), o.as_mut_ptr(), o.len(), answer.slice_mut().as_mut_ptr());
+        function(
+            t.as_ptr(),
+            t.len(),
+            w.as_mut_ptr(),
+            w.len(),
+            o.as_mut_ptr(),
+            o.len(),
+            answer.slice_mut().as_mut_ptr(),
+        );
     }
     same_numbers(answer.slice(), asked.answer.numbers())?;
     guarded([tree.is_guarded(), work.is_guarded(), out.is_guarded(), answer.is_guarded()])?;
@@ -53,7 +61,11 @@ pub fn check(function: Check, tree: &[u8], work: u64, due: Result<usize, Refusal
 }
 
 fn same_numbers(got: &[u64], due: [u64; 3]) -> Result<(), Fault> {
-    if got == due { Ok(()) } else { Err(format!("{got:?} where {due:?} is due")) }
+    if got == due {
+        Ok(())
+    } else {
+        Err(format!("{got:?} where {due:?} is due"))
+    }
 }
 
 fn guarded<const N: usize>(all: [bool; N]) -> Result<(), Fault> {
@@ -61,5 +73,9 @@ fn guarded<const N: usize>(all: [bool; N]) -> Result<(), Fault> {
 }
 
 fn holds(is: bool, otherwise: &str) -> Result<(), Fault> {
-    if is { Ok(()) } else { Err(otherwise.into()) }
+    if is {
+        Ok(())
+    } else {
+        Err(otherwise.into())
+    }
 }

@@ -1,11 +1,19 @@
-//! `differential [--seed S] [--random N] [--damaged N] [--threads N] [--only lower|check] [--announce yes]`: exit status 0 where nothing differs.
+//! The command line of the runner, with the libraries that were linked; README.md says what each word does.
 use differential::calls::{Check, Lower};
 use differential::run::{run, Plan};
 use std::process::ExitCode;
 
 #[cfg(has_lower)]
 extern "C" {
-    fn yengrazul_lower(tree: *const u8, tree_len: usize, work: *mut u32, work_len: usize, out: *mut u8, out_len: usize, answer: *mut u64);
+    fn yengrazul_lower(
+        tree: *const u8,
+        tree_len: usize,
+        work: *mut u32,
+        work_len: usize,
+        out: *mut u8,
+        out_len: usize,
+        answer: *mut u64,
+    );
 }
 
 #[cfg(has_check)]
@@ -31,7 +39,7 @@ fn main() -> ExitCode {
     let words: Vec<String> = std::env::args().skip(1).collect();
     match plan(&words) {
         Ok(plan) if plan.lower.is_none() && plan.check.is_none() => {
-            eprintln!("differential: no library is linked; build with YENGRAZUL_LIB naming the folder of liblower.a or libtree.a");
+            eprintln!("differential: no library is linked: set YENGRAZUL_LIB to the folder of liblower.a or libtree.a");
             ExitCode::from(2)
         }
         Ok(plan) => report(&plan),
@@ -79,7 +87,13 @@ fn fresh_seed() -> u64 {
 fn report(plan: &Plan) -> ExitCode {
     let names = [("lower", plan.lower.is_some()), ("check", plan.check.is_some())];
     let names: Vec<&str> = names.iter().filter(|(_, is)| *is).map(|(name, _)| *name).collect();
-    println!("seed {}: {} random and {} damaged trees, limits and shapes, against {}", plan.seed, plan.random, plan.damaged, names.join(" and "));
+    println!(
+        "seed {}: {} random and {} damaged trees, limits and shapes, against {}",
+        plan.seed,
+        plan.random,
+        plan.damaged,
+        names.join(" and ")
+    );
     let report = run(plan);
     for (number, n) in report.by_number.iter().enumerate().filter(|(_, n)| **n > 0) {
         println!("  {number:2}: {n}");
@@ -88,5 +102,9 @@ fn report(plan: &Plan) -> ExitCode {
         println!("DIFFERS: {difference}");
     }
     println!("{} trees, {} differences", report.total(), report.differences.len());
-    if report.differences.is_empty() { ExitCode::SUCCESS } else { ExitCode::FAILURE }
+    if report.differences.is_empty() {
+        ExitCode::SUCCESS
+    } else {
+        ExitCode::FAILURE
+    }
 }

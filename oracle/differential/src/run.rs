@@ -96,7 +96,13 @@ pub fn run(plan: &Plan) -> Report {
 
 fn ask(plan: &Plan, turn: &Turn, question: Question, rng: &mut Rng, report: &mut Report) {
     let mut fail = |what: &str, tree: &[u8], fault: Fault| {
-        report.differences.push(format!("{what}, {} {} of seed {}: {fault}; tree {}", turn.kind, turn.k, plan.seed, short(tree)));
+        report.differences.push(format!(
+            "{what}, {} {} of seed {}: {fault}; tree {}",
+            turn.kind,
+            turn.k,
+            plan.seed,
+            short(tree)
+        ));
     };
     let mut number = None;
     if let Some(function) = plan.check {
@@ -121,5 +127,9 @@ fn ask(plan: &Plan, turn: &Turn, question: Question, rng: &mut Rng, report: &mut
 
 /// A tree for a line of text; a long one is made again from its seed.
 fn short(tree: &[u8]) -> String {
-    if tree.len() > 1000 { format!("of {} bytes", tree.len()) } else { export::hex(tree) }
+    if tree.len() > 1000 {
+        format!("of {} bytes", tree.len())
+    } else {
+        export::hex(tree)
+    }
 }

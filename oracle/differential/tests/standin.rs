@@ -21,7 +21,15 @@ macro_rules! wrong {
     ($name:ident, |$tree:ident, $work:ident, $out:ident, $answer:ident| $harm:expr) => {
         #[test]
         fn $name() {
-            unsafe extern "C" fn wrong(t: *const u8, tn: usize, w: *mut u32, wn: usize, o: *mut u8, on: usize, a: *mut u64) {
+            unsafe extern "C" fn wrong(
+                t: *const u8,
+                tn: usize,
+                w: *mut u32,
+                wn: usize,
+                o: *mut u8,
+                on: usize,
+                a: *mut u64,
+            ) {
                 yengrazul_lower(t, tn, w, wn, o, on, a);
                 #[allow(unused_variables)]
                 let ($tree, $work) = (from_raw_parts_mut(t as *mut u8, tn), from_raw_parts_mut(w, wn));
@@ -35,15 +43,33 @@ macro_rules! wrong {
     };
 }
 
-wrong!(a_number_off, |tree, work, out, answer| if answer[0] == 9 { answer[0] = 10 });
-wrong!(a_place_off, |tree, work, out, answer| if answer[0] == 3 { answer[1] += 1 });
-wrong!(a_length_off, |tree, work, out, answer| if answer[0] == 0 { answer[2] -= 1 });
-wrong!(a_length_when_refused, |tree, work, out, answer| if answer[0] == 18 { answer[2] = 22 });
-wrong!(a_byte_of_the_image, |tree, work, out, answer| if answer[0] == 0 { out[answer[2] as usize - 1] ^= 1 });
-wrong!(a_byte_behind_the_image, |tree, work, out, answer| if out.len() as u64 > answer[2] { *out.last_mut().unwrap() = 1 });
-wrong!(a_byte_when_refused, |tree, work, out, answer| if answer[0] > 0 && !out.is_empty() { out[0] = 0x41 });
-wrong!(the_last_work_word, |tree, work, out, answer| if let Some(word) = work.last_mut() { *word = 1 });
-wrong!(the_tree, |tree, work, out, answer| if tree.len() > 400 { tree[7] ^= 1 });
+wrong!(a_number_off, |tree, work, out, answer| if answer[0] == 9 {
+    answer[0] = 10
+});
+wrong!(a_place_off, |tree, work, out, answer| if answer[0] == 3 {
+    answer[1] += 1
+});
+wrong!(a_length_off, |tree, work, out, answer| if answer[0] == 0 {
+    answer[2] -= 1
+});
+wrong!(a_length_when_refused, |tree, work, out, answer| if answer[0] == 18 {
+    answer[2] = 22
+});
+wrong!(a_byte_of_the_image, |tree, work, out, answer| if answer[0] == 0 {
+    out[answer[2] as usize - 1] ^= 1
+});
+wrong!(a_byte_behind_the_image, |tree, work, out, answer| if out.len() as u64 > answer[2] {
+    *out.last_mut().unwrap() = 1
+});
+wrong!(a_byte_when_refused, |tree, work, out, answer| if answer[0] > 0 && !out.is_empty() {
+    out[0] = 0x41
+});
+wrong!(the_last_work_word, |tree, work, out, answer| if let Some(word) = work.last_mut() {
+    *word = 1
+});
+wrong!(the_tree, |tree, work, out, answer| if tree.len() > 400 {
+    tree[7] ^= 1
+});
 wrong!(behind_the_output, |tree, work, out, answer| *out.as_mut_ptr().add(out.len()) ^= 1);
 wrong!(before_the_work_area, |tree, work, out, answer| *work.as_mut_ptr().sub(1) ^= 1);
 wrong!(behind_the_answer, |tree, work, out, answer| *answer.as_mut_ptr().add(3) ^= 1);

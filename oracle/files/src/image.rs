@@ -84,7 +84,8 @@ impl Image {
 
 impl Prototype {
     fn write(&self, file: &mut Vec<u8>) {
-        let counts = [self.name, self.parameters, self.registers, count(self.captures.len()), count(self.instructions.len())];
+        let counts =
+            [self.name, self.parameters, self.registers, count(self.captures.len()), count(self.instructions.len())];
         push_field(file, 0x41, &counts.map(u16::to_be_bytes).concat());
         for c in &self.captures {
             push_field(file, 0x42, &[u8::from(c.local), c.index]);

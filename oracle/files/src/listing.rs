@@ -4,11 +4,57 @@ use crate::NONE;
 
 /// The opcodes in the order of `OpCode`.
 pub const OPCODES: [&str; 51] = [
-    "Move", "LoadK", "LoadNil", "Jmp", "Test", "Add", "Sub", "Div", "Mod", "Mul", "Pow", "Lt", "Gt", "Lte", "Gte", "Eq",
-    "Neq", "Not", "Neg", "Call", "Return", "SetUpval", "GetUpval", "Closure", "List", "PushList", "Dict", "PushDict",
-    "Slice", "Access", "Set", "Class", "ClassMeth", "ClassStMeth", "GetObj", "SetObj", "Addi", "Subi", "GetIter",
-    "GetIterk", "GetIteri", "Length", "Super", "This", "GetGlobal", "SetGlobal", "GetCurrentFunc", "GetBuiltin",
-    "RegisterTryCatch", "DeregisterTryCatch", "GetExcept",
+    "Move",
+    "LoadK",
+    "LoadNil",
+    "Jmp",
+    "Test",
+    "Add",
+    "Sub",
+    "Div",
+    "Mod",
+    "Mul",
+    "Pow",
+    "Lt",
+    "Gt",
+    "Lte",
+    "Gte",
+    "Eq",
+    "Neq",
+    "Not",
+    "Neg",
+    "Call",
+    "Return",
+    "SetUpval",
+    "GetUpval",
+    "Closure",
+    "List",
+    "PushList",
+    "Dict",
+    "PushDict",
+    "Slice",
+    "Access",
+    "Set",
+    "Class",
+    "ClassMeth",
+    "ClassStMeth",
+    "GetObj",
+    "SetObj",
+    "Addi",
+    "Subi",
+    "GetIter",
+    "GetIterk",
+    "GetIteri",
+    "Length",
+    "Super",
+    "This",
+    "GetGlobal",
+    "SetGlobal",
+    "GetCurrentFunc",
+    "GetBuiltin",
+    "RegisterTryCatch",
+    "DeregisterTryCatch",
+    "GetExcept",
 ];
 
 /// The number of an opcode by its name.
@@ -25,7 +71,8 @@ pub fn line(i: &Instruction) -> String {
 pub fn listing(image: &Image) -> String {
     let mut text = String::new();
     for (k, p) in image.prototypes.iter().enumerate() {
-        text += &format!("prototype {k}: name {}, {} parameters, {} registers\n", word(p.name), p.parameters, p.registers);
+        text +=
+            &format!("prototype {k}: name {}, {} parameters, {} registers\n", word(p.name), p.parameters, p.registers);
         for c in &p.captures {
             text += &format!("  captures {} {}\n", if c.local { "register" } else { "capture" }, c.index);
         }
@@ -44,5 +91,9 @@ pub fn listing(image: &Image) -> String {
 }
 
 fn word(w: u16) -> String {
-    if w == NONE { "none".into() } else { w.to_string() }
+    if w == NONE {
+        "none".into()
+    } else {
+        w.to_string()
+    }
 }

@@ -42,7 +42,11 @@ pub fn whole_fields(bytes: &[u8]) -> (Vec<Field<'_>>, &[u8]) {
 /// All fields, or how many whole ones stand before the one that is cut.
 pub fn fields(bytes: &[u8]) -> Result<Vec<Field<'_>>, usize> {
     let (found, rest) = whole_fields(bytes);
-    if rest.is_empty() { Ok(found) } else { Err(found.len()) }
+    if rest.is_empty() {
+        Ok(found)
+    } else {
+        Err(found.len())
+    }
 }
 
 /// Appends one field.

@@ -6,10 +6,19 @@ use files::tree::Field;
 #[derive(Debug, PartialEq)]
 pub enum Outcome {
     /// It finished. How many prototypes and constants, the longest prototype, and the jumps left unpatched.
-    Finished { prototypes: usize, constants: usize, longest: usize, strays: usize },
+    Finished {
+        prototypes: usize,
+        constants: usize,
+        longest: usize,
+        strays: usize,
+    },
     Panicked(String),
     /// It printed this and ended the process.
-    Exited { line: u16, message: String, lexeme: String },
+    Exited {
+        line: u16,
+        message: String,
+        lexeme: String,
+    },
 }
 
 /// Compares on one tree, in this process; says whether there was something to compare.
@@ -85,7 +94,9 @@ impl std::fmt::Display for Outcome {
                 write!(f, "finished {prototypes} {constants} {longest} {strays}")
             }
             Outcome::Panicked(words) => write!(f, "panicked {words}"),
-            Outcome::Exited { line, message, lexeme } => write!(f, "Compilation Error on line {line}\n\t{message}: {lexeme}"),
+            Outcome::Exited { line, message, lexeme } => {
+                write!(f, "Compilation Error on line {line}\n\t{message}: {lexeme}")
+            }
         }
     }
 }

@@ -89,7 +89,11 @@ impl Here<'_> {
 }
 
 fn within(what: &str, n: isize, count: usize) -> Result<(), String> {
-    if n < 0 || n >= count as isize { Err(format!("{what} {n} of {count}")) } else { Ok(()) }
+    if n < 0 || n >= count as isize {
+        Err(format!("{what} {n} of {count}"))
+    } else {
+        Ok(())
+    }
 }
 
 /// 01, "Allowed steps".
@@ -112,7 +116,13 @@ fn registers_met(i: &Instruction) -> Vec<usize> {
         "Class" | "ClassMeth" | "ClassStMeth" | "GetIter" | "GetIterk" => vec![a, b, c],
         "Move" | "Test" | "Not" | "Neg" | "Addi" | "GetIteri" | "Length" => vec![a, b],
         "Jmp" | "RegisterTryCatch" | "DeregisterTryCatch" => vec![],
-        "Return" => if b == 0 { vec![] } else { vec![a] },
+        "Return" => {
+            if b == 0 {
+                vec![]
+            } else {
+                vec![a]
+            }
+        }
         // the function, its b - 1 arguments behind it, and the result before c
         "Call" => (a..a + b).chain([c.wrapping_sub(1)]).collect(),
         _ => vec![a],

@@ -37,7 +37,11 @@ fn frame(tree: &[u8]) -> Result<Vec<Field<'_>>, Refusal> {
 
 /// 2: over 32,768 fields.
 fn many(nodes: &[Field]) -> Result<(), Refusal> {
-    if nodes.len() > MOST_FIELDS { refusal(2, MOST_FIELDS) } else { Ok(()) }
+    if nodes.len() > MOST_FIELDS {
+        refusal(2, MOST_FIELDS)
+    } else {
+        Ok(())
+    }
 }
 
 /// 3: the lowest node that breaks a rule; else the children of each node, absent ones left out.
@@ -85,7 +89,11 @@ fn depth(children: &[Vec<usize>]) -> Result<(), Refusal> {
 
 /// 6: the work area is shorter than 12,288 words and 16 more for each node.
 fn work(nodes: &[Field], words: u64) -> Result<(), Refusal> {
-    if words < work_for(nodes.len()) { refusal(6, 0) } else { Ok(()) }
+    if words < work_for(nodes.len()) {
+        refusal(6, 0)
+    } else {
+        Ok(())
+    }
 }
 
 /// What a child has to be.
@@ -267,7 +275,11 @@ impl Payload<'_> {
     }
 
     fn perhaps_child(&mut self, role: Role) -> Option<()> {
-        if self.words.is_empty() { Some(()) } else { self.child(role) }
+        if self.words.is_empty() {
+            Some(())
+        } else {
+            self.child(role)
+        }
     }
 
     fn counted_children(&mut self, role: Role) -> Option<()> {

@@ -54,7 +54,8 @@ pub fn write(cases: &[Packed]) -> Vec<u8> {
     for case in cases {
         write_rule(&mut out, &case.rule);
         let a = case.answer;
-        let numbers = [case.tree_length, case.work, case.room, a.number.into(), a.place as u32, a.length as u32, case.checksum];
+        let numbers =
+            [case.tree_length, case.work, case.room, a.number.into(), a.place as u32, a.length as u32, case.checksum];
         numbers.iter().for_each(|n| long(&mut out, *n));
         long(&mut out, case.image.len() as u32);
         out.extend(&case.image);

@@ -9,7 +9,8 @@ pub const SEED: u64 = 20_260;
 
 /// Reference programs and limits, the zoo, then random and damaged trees of the seed.
 pub fn sample(seed: u64) -> Vec<Packed> {
-    let mut asked: Vec<Asked> = cases().into_iter().enumerate().filter(|(k, c)| chosen(*k, c)).map(|(_, c)| c.ask()).collect();
+    let mut asked: Vec<Asked> =
+        cases().into_iter().enumerate().filter(|(k, c)| chosen(*k, c)).map(|(_, c)| c.ask()).collect();
     asked.push(ask(post(&zoo()), Work::Exact, Room::Exact));
     let small = |a: &Asked| a.tree.len() < 2000 && a.image.len() < 4000;
     asked.extend((0..).map(|k| questions::random(seed, k).ask()).filter(small).take(400));

@@ -11,7 +11,8 @@ use oracle::{compare, questions};
 
 /// What the lowering of 01's nodes never writes.
 const UNWRITTEN: [&str; 13] = [
-    "SetUpval", "List", "PushList", "Dict", "PushDict", "Slice", "Access", "Set", "GetObj", "SetObj", "Subi", "Super", "This",
+    "SetUpval", "List", "PushList", "Dict", "PushDict", "Slice", "Access", "Set", "GetObj", "SetObj", "Subi", "Super",
+    "This",
 ];
 
 struct Seen {
@@ -45,8 +46,15 @@ impl Seen {
 
 #[test]
 fn random_trees_reach_everything() {
-    let mut seen =
-        Seen { numbers: [0; 19], opcodes: [0; 51], tags: [0; 31], ops: [[0; 13]; 3], absent: [0; 2], outer_captures: 0, out_of_order: 0 };
+    let mut seen = Seen {
+        numbers: [0; 19],
+        opcodes: [0; 51],
+        tags: [0; 31],
+        ops: [[0; 13]; 3],
+        absent: [0; 2],
+        outer_captures: 0,
+        out_of_order: 0,
+    };
     let count = 15_000;
     for k in 0..count {
         let asked = questions::random(99, k).ask();

@@ -84,7 +84,13 @@ fn program_7() {
 
 #[test]
 fn program_8() {
-    let due = ["RegisterTryCatch 0 0 3", "DeregisterTryCatch 0 0 0", "Jmp 0 0 3", "GetExcept 0 0 0", "DeregisterTryCatch 0 0 0"];
+    let due = [
+        "RegisterTryCatch 0 0 3",
+        "DeregisterTryCatch 0 0 0",
+        "Jmp 0 0 3",
+        "GetExcept 0 0 0",
+        "DeregisterTryCatch 0 0 0",
+    ];
     assert_eq!(code(&accepted("8"), 0), due);
 }
 

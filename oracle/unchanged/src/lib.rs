@@ -30,12 +30,8 @@ use files::tree::Field;
 
 /// The compiler after the whole program. Panics and ends the process where the source does.
 pub fn compile(program: Vec<stmt::Stmt>) -> Compiler {
-    let mut compiler = Compiler {
-        constants: vec![],
-        contexts: vec![],
-        prototypes: vec![],
-        globals: Default::default(),
-    };
+    let mut compiler =
+        Compiler { constants: vec![], contexts: vec![], prototypes: vec![], globals: Default::default() };
     compiler.compile(program);
     compiler.leave_function(0);
     compiler

@@ -49,7 +49,8 @@ fn counts() -> Vec<Case> {
 fn lent() -> Vec<Case> {
     let mut all = vec![];
     for (name, rule) in reference::programs() {
-        let due = crate::answer::image(&rule.expand(), 1 << 40).map_or_else(|r| (r.number, r.place as usize), |_| (0, 0));
+        let due =
+            crate::answer::image(&rule.expand(), 1 << 40).map_or_else(|r| (r.number, r.place as usize), |_| (0, 0));
         let last = files::tree::fields(&rule.expand()).unwrap().len().saturating_sub(1);
         let case = || Case::file(format!("reference {name}"), rule.clone(), Some(due));
         all.push(case());

@@ -25,8 +25,14 @@ pub fn cases() -> Vec<Case> {
         of("a function lowered until the registers end", minuses(7, function_of_ifs(100))),
         of("120 numerals minus a numeral", minuses(120, number(2.0))),
         of("120 numerals minus a function", minuses(120, function(&[], vec![]))),
-        of("functions within functions, each lowered twice", (0..7).fold(number(1.0), |x, _| function(&[], vec![expression(minuses(1, x))]))),
-        of("functions within functions, each lowered 8 times", (0..7).fold(number(1.0), |x, _| function(&[], vec![expression(minuses(3, x))]))),
+        of(
+            "functions within functions, each lowered twice",
+            (0..7).fold(number(1.0), |x, _| function(&[], vec![expression(minuses(1, x))])),
+        ),
+        of(
+            "functions within functions, each lowered 8 times",
+            (0..7).fold(number(1.0), |x, _| function(&[], vec![expression(minuses(3, x))])),
+        ),
         of("calls within calls", (0..120).fold(number(1.0), |x, _| call(x, 7, vec![]))),
         of("calls as arguments", (0..120).fold(number(1.0), |x, _| call(number(1.0), 7, vec![x]))),
     ]

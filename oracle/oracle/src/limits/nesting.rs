@@ -46,7 +46,11 @@ fn open_functions() -> Vec<Case> {
     let full = nested(7, &parameters(254), vec![expression(function(&[], vec![]))]);
     all.push(Case::tree("7 of the result before 16", &full, (7, 0)));
     all.push(Case::tree("the body is not lowered", &nested(8, &[], vec![break_(7)]), (16, 1)));
-    all.push(Case::tree("what stands before it is", &nested(7, &[], vec![break_(7), expression(function(&[], vec![]))]), (11, 0)));
+    all.push(Case::tree(
+        "what stands before it is",
+        &nested(7, &[], vec![break_(7), expression(function(&[], vec![]))]),
+        (11, 0),
+    ));
     all
 }
 

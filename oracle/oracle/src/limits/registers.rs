@@ -75,12 +75,22 @@ fn loops_and_branches() -> Vec<Row> {
     let elifs = || vec![elif(one(), vec![says(one())])];
     vec![
         row("while", vec![while_(7, one(), says(one()))], &[0, 1], &[0, 1]),
-        row("for", vec![for_(7, Some(let_(X, Some(one()))), one(), one(), says(one()))], &[0, 2, 4, 3], &[1, 0, 2, 4, 3]),
+        row(
+            "for",
+            vec![for_(7, Some(let_(X, Some(one()))), one(), one(), says(one()))],
+            &[0, 2, 4, 3],
+            &[1, 0, 2, 4, 3],
+        ),
         row("for without initializer", vec![for_(7, None, one(), one(), body())], &[0, 1], &[0, 1]),
         row("for-in", vec![for_in(7, one(), body(), &[X])], &[2, 2, 2, 2, 0], &[2, 0]),
         row("for-in of three", vec![for_in(7, one(), body(), &three)], &[2, 2, 2, 2, 0, 2, 2, 2], &[2, 0]),
         row("for-in with a body", vec![for_in(7, one(), says(one()), &[X])], &[3, 3, 3, 3, 0, 1], &[3, 0, 1]),
-        row("if", vec![if_(7, one(), vec![says(one())], elifs(), vec![says(one())])], &[0, 1, 3, 4, 7], &[0, 1, 3, 4, 7]),
+        row(
+            "if",
+            vec![if_(7, one(), vec![says(one())], elifs(), vec![says(one())])],
+            &[0, 1, 3, 4, 7],
+            &[0, 1, 3, 4, 7],
+        ),
         row("try", vec![try_(says(one()), X, says(one()))], &[0, 4, 2], &[0, 2]),
     ]
 }
@@ -92,8 +102,18 @@ fn functions_and_classes() -> Vec<Row> {
         row("local function statement", vec![block(vec![function_statement(X, &[], vec![])])], &[0], &[]),
         row("class", vec![class(X, None, vec![], vec![])], &[0, 0, 0], &[0, 0]),
         row("local class", vec![block(vec![class(X, None, vec![], vec![])])], &[0, 0, 0], &[0]),
-        row("class with methods", vec![class(X, None, vec![method(20)], vec![method(21)])], &[2, 2, 2, 0, 1], &[2, 2, 2, 2]),
-        row("class with a superclass", vec![class(X, Some(variable((1, 7))), vec![method(20)], vec![])], &[2, 2, 0, 1], &[2, 0, 2, 2]),
+        row(
+            "class with methods",
+            vec![class(X, None, vec![method(20)], vec![method(21)])],
+            &[2, 2, 2, 0, 1],
+            &[2, 2, 2, 2],
+        ),
+        row(
+            "class with a superclass",
+            vec![class(X, Some(variable((1, 7))), vec![method(20)], vec![])],
+            &[2, 2, 0, 1],
+            &[2, 0, 2, 2],
+        ),
     ]
 }
 

@@ -80,7 +80,11 @@ fn children() -> Vec<Case> {
         let mut payload = [7, NONE, 0, 1, 2];
         payload[at] = NONE;
         let due = if at == 1 { (0, 0) } else { (3, 3) };
-        all.push(rows(format!("for with child {at} absent"), &[ONE, ONE, (0x12, &[]), (0x14, &payload), (0x1E, &[3])], due));
+        all.push(rows(
+            format!("for with child {at} absent"),
+            &[ONE, ONE, (0x12, &[]), (0x14, &payload), (0x1E, &[3])],
+            due,
+        ));
     }
     all.push(rows("class without superclass", &[(0x1D, &[10, 0, NONE, 0]), (0x1E, &[0])], (0, 0)));
     all.push(rows("class with an absent method", &[(0x1D, &[10, 0, NONE, 1, NONE]), (0x1E, &[0])], (3, 0)));
@@ -102,8 +106,16 @@ fn roles() -> Vec<Case> {
         rows("a function expression as method", &[(0x09, &[0]), (0x1D, &[10, 0, NONE, 1, 0]), (0x1E, &[1])], (3, 1)),
         rows("a block as static method", &[block, (0x1D, &[10, 0, NONE, 0, 0]), (0x1E, &[1])], (3, 1)),
         rows("a block as initializer", &[block, ONE, ONE, block, (0x14, &[0, 0, 1, 2, 3]), (0x1E, &[4])], (3, 4)),
-        rows("a return as initializer", &[(0x18, &[0]), ONE, ONE, block, (0x14, &[0, 0, 1, 2, 3]), (0x1E, &[4])], (3, 4)),
-        rows("a let as initializer", &[(0x11, &[10, 0]), ONE, ONE, block, (0x14, &[0, 0, 1, 2, 3]), (0x1E, &[4])], (0, 0)),
+        rows(
+            "a return as initializer",
+            &[(0x18, &[0]), ONE, ONE, block, (0x14, &[0, 0, 1, 2, 3]), (0x1E, &[4])],
+            (3, 4),
+        ),
+        rows(
+            "a let as initializer",
+            &[(0x11, &[10, 0]), ONE, ONE, block, (0x14, &[0, 0, 1, 2, 3]), (0x1E, &[4])],
+            (0, 0),
+        ),
         rows("a program as statement", &[(0x1E, &[]), (0x1E, &[0])], (3, 0)),
     ]
 }
@@ -121,7 +133,11 @@ fn counts() -> Vec<Case> {
         rows("if with too large a count", &[ONE, block, (0x19, &[0, 0, 2, 1, 0]), (0x1E, &[2])], (3, 2)),
         rows("if without a second count", &[ONE, block, (0x19, &[0, 0, 1, 1]), (0x1E, &[2])], (3, 2)),
         rows("if with too many elifs", &[ONE, (0x19, &[0, 0, 0, 1]), (0x1E, &[1])], (3, 1)),
-        rows("class with too large a count", &[(0x1C, &[10, 0, 0]), (0x1D, &[10, 0, NONE, 2, 0]), (0x1E, &[1])], (3, 1)),
+        rows(
+            "class with too large a count",
+            &[(0x1C, &[10, 0, 0]), (0x1D, &[10, 0, NONE, 2, 0]), (0x1E, &[1])],
+            (3, 1),
+        ),
         rows("let with two initializers", &[ONE, ONE, (0x11, &[10, 0, 0, 1]), (0x1E, &[2])], (3, 2)),
         rows("return with two values", &[ONE, ONE, (0x18, &[0, 0, 1]), (0x1E, &[2])], (3, 2)),
         rows("number of six bytes", &[(0x01, &[0, 0, 0]), (0x10, &[0]), (0x1E, &[1])], (3, 0)),

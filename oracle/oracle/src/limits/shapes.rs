@@ -14,11 +14,25 @@ pub fn zoo() -> Node {
         let_((11, 6), None),
         expression(call(var(), 7, vec![text(NONE), other(8)])),
         block(vec![let_((12, 9), Some(unary(1, 10, var())))]),
-        while_(11, logical(1, 12, var(), var()), if_(13, var(), vec![break_(14)], vec![elif(var(), vec![continue_(15)])], vec![return_(16, None)])),
-        for_(17, Some(let_((14, 18), Some(number(0.0)))), binary(2, 19, variable((14, 20)), number(9.0)), binary(1, 21, variable((14, 22)), number(1.0)), block(vec![])),
+        while_(
+            11,
+            logical(1, 12, var(), var()),
+            if_(13, var(), vec![break_(14)], vec![elif(var(), vec![continue_(15)])], vec![return_(16, None)]),
+        ),
+        for_(
+            17,
+            Some(let_((14, 18), Some(number(0.0)))),
+            binary(2, 19, variable((14, 20)), number(9.0)),
+            binary(1, 21, variable((14, 22)), number(1.0)),
+            block(vec![]),
+        ),
         for_(23, None, var(), var(), expression(var())),
         for_in(24, var(), block(vec![]), &[(15, 25), (16, 26)]),
-        try_(block(vec![expression(function(&[(17, 27)], vec![expression(variable((17, 28))), return_(29, None)]))]), (18, 30), block(vec![])),
+        try_(
+            block(vec![expression(function(&[(17, 27)], vec![expression(variable((17, 28))), return_(29, None)]))]),
+            (18, 30),
+            block(vec![]),
+        ),
         class((19, 31), Some(variable((2, 32))), vec![method(20)], vec![method(21), method(22)]),
         class((23, 33), None, vec![], vec![]),
     ])

@@ -43,7 +43,11 @@ pub fn captures(rng: &mut Rng) -> Node {
     while !uses.is_empty() {
         let n = rng.range(1, 150).min(uses.len());
         let reads: Vec<Node> = uses.drain(..n).map(|pair| expression(variable(pair))).collect();
-        if rng.chance(850) { body.push(expression(function(&[], reads))) } else { body.extend(reads) }
+        if rng.chance(850) {
+            body.push(expression(function(&[], reads)))
+        } else {
+            body.extend(reads)
+        }
     }
     let f = function(&inner, vec![expression(function(&[], body))]);
     program(vec![expression(function(&outer, vec![expression(f)]))])
@@ -117,7 +121,11 @@ pub fn long(rng: &mut Rng) -> Node {
         body.push(statement);
     }
     body.extend((0..rng.below(7)).map(|_| return_(10, None)));
-    if rng.chance(500) { program(vec![block(body)]) } else { program(vec![expression(function(&[], body))]) }
+    if rng.chance(500) {
+        program(vec![block(body)])
+    } else {
+        program(vec![expression(function(&[], body))])
+    }
 }
 
 /// 5: one chain of nodes, 118 to 131 deep.

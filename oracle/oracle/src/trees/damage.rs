@@ -1,4 +1,4 @@
-//! Damaged files: bytes changed or cut, fields dropped, doubled and swapped, payloads too short and too long, words replaced.
+//! Damaged files: bytes changed or cut, fields dropped, doubled and swapped, payloads too short or long, words replaced.
 use crate::rng::Rng;
 use files::tree::{fields, push_field};
 use files::NONE;

@@ -90,8 +90,11 @@ fn row(fields: &[Field], period: usize) -> Option<Part> {
     let pattern: Vec<u8> = groups[0].iter().flat_map(bytes_of).collect();
     let saved = pattern.len() * like;
     let steps: Vec<(u16, u16)> = steps.into_iter().filter(|(_, step)| *step != 0).collect();
-    (like >= 2 && saved > COST + 4 * steps.len() && pattern.len() < 60_000)
-        .then(|| Part { times: like as u32 + 1, pattern, steps })
+    (like >= 2 && saved > COST + 4 * steps.len() && pattern.len() < 60_000).then(|| Part {
+        times: like as u32 + 1,
+        pattern,
+        steps,
+    })
 }
 
 fn bytes_of(field: &Field) -> Vec<u8> {

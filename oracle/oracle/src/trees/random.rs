@@ -170,7 +170,11 @@ impl Grower<'_> {
     /// The body of a loop: one statement, more often a block.
     fn loop_body(&mut self, depth: usize) -> Node {
         self.scope.open_loop();
-        let body = if self.rng.chance(600) && self.may_grow(depth) { self.block_statement(depth) } else { self.statement(depth) };
+        let body = if self.rng.chance(600) && self.may_grow(depth) {
+            self.block_statement(depth)
+        } else {
+            self.statement(depth)
+        };
         self.scope.close_loop();
         body.node
     }

@@ -16,7 +16,8 @@ const LOCALS: [u16; 6] = [A, A + 1, A + 2, A + 3, A + 4, A + 5];
 /// A function of three parameters and three locals.
 fn one_function(rng: &mut Rng, name: u16, nodes: usize) -> Node {
     let params = [A, A + 1, A + 2].map(|p| (p, values::mark(rng)));
-    let mut body = vec![let_((A + 3, 1), Some(text(name))), let_((A + 4, 2), Some(number(0.5))), let_((A + 5, 3), None)];
+    let mut body =
+        vec![let_((A + 3, 1), Some(text(name))), let_((A + 4, 2), Some(number(0.5))), let_((A + 5, 3), None)];
     let mut left = nodes as isize - 8;
     while left > 0 {
         // smaller statements towards the end
