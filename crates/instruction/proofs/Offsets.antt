@@ -1,0 +1,87 @@
+-- The signed reading. Below 32,768 a number reads as itself; from there on, being 65,536 less some k + 1, it reads as -(k + 1).
+-- So what is stored for an offset is read back as that offset: `inverse`, one law over every offset of 16 bits,
+-- -32,768 to 32,767. A function of at most 32,767 instructions holds no other.
+use Prim.Native.Nat.{ℕ, zero, suc, _-_, _/_, _%_, _<_, _≤_}
+use mathlib.Core.Path.{_≡_, refl, sym, _∙_}
+use mathlib.Core.Bool.{Bool, true, false}
+use native.Mathlib.Omega.{arith}
+use lib.Dec.{ltb}
+use lib.IntN.{ℤ, pos, negsuc, negℤ, _-ℤ_}
+use lib.Signed.{mag}
+use borrow.Author.Tests.{lt-ltb, le-ltb, ltb-true, ltb-false}
+use mir.Syntax.{w16, w32}
+use mir.Val.{SFits, toZ, ofZ}
+use mir.Facts.{toZ-pos, toZ-ofZ}
+use Rattle.meaning.specs.Opcode.{wide, bx, back}
+use Rattle.instruction.specs.Offset.{signed, sbx, stored, halves-of}
+
+-- ---- what `reading` and `sbx` ask
+
+unsuc : (n : ℕ) → 1 ≤ n → (k : ℕ) × (n ≡ suc k)
+unsuc zero h = absurd (omega arith)
+unsuc (suc k) h = (k, refl)
+
+negated : (k : ℕ) → pos 0 -ℤ pos (suc k) ≡ negsuc k
+negated k =
+    let e : suc k - 1 ≡ k = omega arith in
+    simp (lt-ltb 0 (suc k) (omega arith), e)
+
+pub reads-low : (n : ℕ) → n < 32768 → signed n ≡ pos n
+reads-low n h = rw (lt-ltb n 32768 h)
+
+pub reads-high : (n k : ℕ) → 32768 ≤ n → 65536 - n ≡ suc k → signed n ≡ negsuc k
+reads-high n k h e = rw (le-ltb n 32768 h, e)
+
+module _ (n : ℕ) (h : 32768 ≤ n) (f : n < 65536) where
+  below : (k : ℕ) × (65536 - n ≡ suc k)
+  below = unsuc (65536 - n) (omega arith)
+
+  difference : pos 0 -ℤ toZ w32 (65536 - n) ≡ negsuc (below .0)
+  difference = rw (toZ-pos w32 {n = 65536 - n} (omega arith), below .1) (negated (below .0))
+
+  pub negation-fits : SFits w32 (pos 0 -ℤ toZ w32 (65536 - n))
+  negation-fits = rw difference (record { sfits = omega (arith, below .1) })
+
+  pub negation-reads : toZ w32 (ofZ w32 (pos 0 -ℤ toZ w32 (65536 - n))) ≡ signed n
+  negation-reads = toZ-ofZ negation-fits ∙ difference ∙ sym (reads-high n (below .0) h (below .1))
+
+-- the reading fits the 16 bits that it came from
+fits-by : (n : ℕ) → n < 65536 → (low : Bool) → ltb n 32768 ≡ low → SFits w16 (signed n)
+fits-by n f true e = rw (reads-low n (ltb-true n 32768 e)) (record { sfits = ltb-true n 32768 e })
+fits-by n f false e =
+    let h = ltb-false n 32768 e in
+    rw (reads-high n (below n h f .0) h (below n h f .1)) (record { sfits = omega (arith, below n h f .1) })
+
+pub reading-fits : (n : ℕ) → n < 65536 → SFits w16 (signed n)
+reading-fits n f = fits-by n f (ltb n 32768) refl
+
+-- ---- what `forward` and `backward` ask
+
+-- the two bytes of a number are those of its last 16 bits
+pub last-halves : (n : ℕ) → halves-of (n % 65536) ≡ halves-of n
+last-halves n =
+    let high : n % 65536 / 256 % 256 ≡ n / 256 % 256 = omega arith in
+    let low : n % 65536 % 256 ≡ n % 256 = omega arith in
+    rw (high, low)
+
+-- ---- the law
+
+-- b and c hold a number's last 16 bits
+held : (op a n mark : ℕ) → bx (wide op a n mark) ≡ n % 65536
+held op a n mark = omega arith
+
+pub inverse : (op a mark : ℕ) (z : ℤ) → mag z < 32768 → sbx (wide op a (stored z) mark) ≡ z
+inverse op a mark (pos n) h =
+    let e : n % 65536 ≡ n = omega arith in
+    rw (held op a n mark, e) (reads-low n h)
+inverse op a mark (negsuc k) h =
+    let e : back (suc k) % 65536 ≡ 65536 - suc k = omega arith in
+    rw (held op a (back (suc k)) mark, e) (reads-high (65536 - suc k) k (omega arith) (omega arith))
+
+-- at a jump forward, and at one backward
+pub read-forward : (op a mark n : ℕ) → n ≤ 32767 → sbx (wide op a n mark) ≡ pos n
+read-forward op a mark n h = inverse op a mark (pos n) (omega arith)
+
+pub read-backward : (op a mark n : ℕ) → n ≤ 32768 → sbx (wide op a (back n) mark) ≡ negℤ (pos n)
+read-backward op a mark zero h = inverse op a mark (pos 0) (omega arith)
+read-backward op a mark (suc k) h = inverse op a mark (negsuc k) (omega arith)

@@ -1,0 +1,3 @@
+-- What the crate's promises speak of, beside the definition's own opcodes and instructions.
+pub mod OpCodes
+pub mod Offset
