@@ -2,7 +2,7 @@
 -- What such a function promises is said in these words: the run after it is `bind` of the run before it and an operation.
 -- An operation speaks of the configuration c that it meets (`c .result`, the length of its code) and of numbers that were read before: registers, and
 -- lengths of the code, by which places are named.
-use Prim.Native.Nat.{ℕ, zero, suc, _+_, _-_}
+use Prim.Native.Nat.{ℕ, _+_, _-_}
 use mathlib.Core.Path.{_≡_}
 use mathlib.Core.Bool.{Bool, true, false}
 use mathlib.Core.List.{List, [], _∷_, _++_}
@@ -68,7 +68,11 @@ fwd-by w m c = on (m (c .state)) (λ a t. going (w a (at t c)))
 unfoldable pub ask : {A : Type 0} → M A → Config → (A → Config → Run) → Run
 ask m c rest = on (m (c .state)) (λ a t. rest a (at t c))
 
--- ---- the smallest operations: none is refused
+-- ---- the smallest operations
+
+-- refused
+abbrev pub stop : Cause → ℕ → Config → Run
+stop cause node c = stopped cause node
 
 -- an operation that is never refused, as one that may be
 abbrev pub sure : (Config → Config) → Config → Run
@@ -81,6 +85,10 @@ emit i c = config (c .code ++ i ∷ []) (c .result) (c .state)
 -- the result register
 abbrev pub give : ℕ → Config → Config
 give r c = config (c .code) r (c .state)
+
+-- one instruction more, and the result register
+abbrev pub put : ℕ → Instruction → Config → Config
+put r i c = give r (emit i c)
 
 -- the code anew
 abbrev pub recode : (List Instruction → List Instruction) → Config → Config
@@ -202,14 +210,14 @@ open-fun node x params c = do
   f ← fwd-zero (parameters node params) e
   going (emit (inst GetCurrentFunc (d .result) 0 0 (x .mark)) f)
 
--- the end of a body of n statements that begins at `first`: 13 Return, then 12 Empty, for one statement alone
+-- the end of a body of n statements that begins at `first`: one statement alone is returned, 13 Return, then 12 Empty
 unfoldable pub end-body : (n first node : ℕ) → Config → Run
-end-body zero first node c = going (give 0 c)
-end-body (suc zero) first node c =
-    pick (eqb (c .result) 254) (stopped Returned node)
+end-body n first node c =
+    pick (eqb n 1)
+    (pick (eqb (c .result) 254) (stopped Returned node)
     (pick (eqb (length (c .code)) first) (stopped Empty node)
-    (going (give 0 (emit (inst Return (c .result) (c .result + 2) 0 (getD (c .code) (length (c .code) - 1) (inst 0 0 0 0 0) .mark)) c))))
-end-body (suc (suc n)) first node c = going (give 0 c)
+    (going (put 0 (inst Return (c .result) (c .result + 2) 0 (getD (c .code) (length (c .code) - 1) (inst 0 0 0 0 0) .mark)) c))))
+    (going (give 0 c))
 
 -- leave_function: the code from `first` on becomes a prototype, whose index is the result
 unfoldable pub leave-function : (first node params : ℕ) → Config → Run
@@ -219,7 +227,7 @@ leave-function first node params c = do
 
 -- Closure of the prototype that is the result
 unfoldable pub closure : (register mark : ℕ) → Config → Config
-closure register mark c = give register (emit (wide Closure register (c .result) mark) c)
+closure register mark c = put register (wide Closure register (c .result) mark) c
 
 -- visit_function_expr after its body
 unfoldable pub end-function : (first node params register mark : ℕ) → Config → Run
@@ -240,7 +248,7 @@ name-result node x c =
     pick global
     (do
       e ← fwd-number (add-constant node (text (x .name))) d
-      going (give (c .result) (emit (wide SetGlobal (c .result) (e .result) (x .mark)) e)))
+      going (put (c .result) (wide SetGlobal (c .result) (e .result) (x .mark)) e))
     (fwd-unit (allocate-register (x .name) (c .result)) d)
 
 -- visit_fn_stmt after its body
@@ -264,7 +272,7 @@ open-for-in node mark c = do
   condition ← fwd-number (next-register node) size
   element ← fwd-number (next-register node) condition
   k ← fwd-number (add-constant node (number 0)) element
-  going (give (counter .result) (emit (wide LoadK (counter .result) (k .result) mark) k))
+  going (put (counter .result) (wide LoadK (counter .result) (k .result) mark) k)
 
 -- visit_enhanced_for_stmt after the collection: the condition, then the names' registers
 unfoldable pub head-for-in : ℕ → List Token → (counter mark : ℕ) → Config → Run
@@ -281,7 +289,7 @@ end-for-in first condition counter mark c = end-loop first condition (condition 
 
 -- visit_return_stmt after the value: 13 Return
 unfoldable pub end-return : (node mark : ℕ) → Config → Run
-end-return node mark c = pick (eqb (c .result) 254) (stopped Returned node) (going (give 0 (emit (inst Return (c .result) (c .result + 2) 0 mark) c)))
+end-return node mark c = pick (eqb (c .result) 254) (stopped Returned node) (going (put 0 (inst Return (c .result) (c .result + 2) 0 mark) c))
 
 -- visit_if_stmt after the statements of a condition: the jump to the end, which end-if sets
 unfoldable pub end-branch : (test mark : ℕ) → Config → Config
@@ -317,7 +325,7 @@ open-class node x c = do
   d ← declare node x c
   e ← fwd-number (next-register node) d
   f ← fwd-number (add-constant node (text (x .name))) e
-  going (give (d .result) (emit (wide LoadK (e .result) (f .result) (x .mark)) f))
+  going (put (d .result) (wide LoadK (e .result) (f .result) (x .mark)) f)
 
 -- Class, of the superclass that is the result
 unfoldable pub make-class : (class mark : ℕ) → Config → Config
