@@ -1,13 +1,13 @@
 -- Brackets: a block and a loop are entered and left around a step (one law for both), a function is entered and left around its code. In a program
 -- enter, step and leave are lines of their own, then comes K.
-use Prim.Native.Nat.{ℕ, _+_, _-_}
-use mathlib.Core.Path.{_≡_, refl, ap, _∙_}
-use mathlib.Core.List.{List, [], _∷_, _++_}
-use lib.ListN.{length, take, drop}
+use Prim.Native.Nat.{ℕ}
+use mathlib.Core.Path.{_≡_, refl, _∙_}
+use mathlib.Core.List.{List, _++_}
+use lib.ListN.{length}
 use lib.Seq.{take-at, drop-at}
 use Rattle.meaning.specs.State.{State, M, _>>=_, _>>_, pure, enter-function, add-prototype, close-function, in-function}
 use Rattle.meaning.specs.declared.Instruction.{Instruction}
-use Rattle.forward.specs.Forward.{Config, config, Run, bind, on, at, fwd-by, cut, add-none, give, fwd-code, fwd-number, fwd-unit, leave-function}
+use Rattle.forward.specs.Forward.{Config, config, Run, bind, on, at, fwd-by, give, fwd-code, fwd-number, fwd-unit, leave-function}
 use Rattle.forward.proofs.Steps.{step, next, inner, group, group-next, pass}
 
 -- an answer that is written as code and a result

@@ -34,6 +34,15 @@ pub data Calls : Type 1 where
   -- what is read at the start
   entry : (Seen → Calls) → Calls
 
+-- `s ← f` in a `do` block of calls is read f (λ s. ..), a line f alone is call f ..
+infixl 10 _>>=_
+infixl 10 _>>_
+abbrev pub _>>=_ : (Config → Run) → (Seen → Calls) → Calls
+_>>=_ f p = read f p
+
+abbrev pub _>>_ : (Config → Run) → Calls → Calls
+_>>_ f p = call f p
+
 -- the whole line as one operation
 abbrev pub does : Calls → Config → Run
 does (finally f) c = f c

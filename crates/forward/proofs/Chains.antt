@@ -7,17 +7,19 @@
 --   (r9 : Run) → r9 ≡ bind r8 f → r9 ≡ bind r F                 for `finally f`
 -- so a citation is `while-chain node mark x y r _ n0 _ e1 _ n1 _ e2 _ e3 _ e4 _ e5 _ e6`.
 use Prim.Native.Nat.{ℕ, suc}
+use mathlib.Core.Path.{_≡_, ap, _∙_}
 use mathlib.Core.List.{List, [], _∷_}
-use mathlib.Core.Option.{Option, none, some}
+use mathlib.Core.Option.{none, some}
 use Rattle.meaning.specs.Constant.{Constant}
-use Rattle.meaning.specs.Syntax.{Token, Super, no-super}
+use Rattle.meaning.specs.Syntax.{Token, Super, no-super, Stmts}
 use Rattle.meaning.specs.State.{Chunk, M}
 use Rattle.meaning.specs.Expressions.{visit-literal, named, visit-outside, visit-variable, visit-unary, visit-addi, visit-both, visit-dropped, visit-binary, visit-logical, next-registers, visit-call, visit-argument}
 use Rattle.meaning.specs.Functions.{parameters, visit-body, visit-function, declare-name, visit-fun}
 use Rattle.meaning.specs.Statements.{new-global, visit-let-as, visit-let-only, visit-block, visit-while, visit-classic-for, iterate-each, iterate, visit-for-in, visit-jump, visit-return, visit-if, visit-elif, visit-try, visit-super, visit-method, visit-class}
-use Rattle.meaning.specs.Lower.{row}
+use Rattle.meaning.specs.Lower.{row, lower-stmts, start, lower-program}
 use Rattle.meaning.specs.declared.Instruction.{Instruction}
-use Rattle.forward.specs.Forward.{Run, fwd, fwd-code, fwd-row, fwd-number, fwd-unit, fwd-zero}
+use Rattle.forward.specs.Forward.{config, Run, going, bind, on, fwd, fwd-code, fwd-row, fwd-number, fwd-unit, fwd-zero, end-program}
+use Rattle.forward.proofs.Steps.{step, tail}
 use Rattle.forward.proofs.Calls.{Chain, chain}
 use Rattle.forward.proofs.Lines.{literal-calls, named-calls, outside-calls, variable-calls, unary-calls, addi-calls, both-calls, dropped-calls, minus-calls, logical-calls, register-calls, call-calls, argument-calls, parameter-calls, body-calls, function-calls, fun-calls, declare-name-calls, new-global-calls, let-as-calls, let-only-calls, block-calls, row-calls, return-calls, jump-calls, while-calls, for-calls, for-in-calls, iterate-each-calls, iterate-one-calls, iterate-many-calls, if-calls, elif-calls, try-calls, class-calls, super-none-calls, method-calls}
 use Rattle.forward.proofs.ExpressionsForward.{literal-forward, named-forward, outside-forward, variable-forward, unary-forward, addi-forward, both-forward, dropped-forward, minus-forward, logical-forward, register-forward, call-forward, argument-forward}
@@ -148,3 +150,10 @@ pub iterate-many-chain : (node mark element collection counter : ℕ) (x y : Tok
     → Chain (iterate-many-calls node mark element collection counter (x ∷ y ∷ xs)) r (fwd-code (iterate node mark element collection counter (x ∷ y ∷ xs)))
 iterate-many-chain node mark element collection counter x y xs =
     chain (iterate-many-calls node mark element collection counter (x ∷ y ∷ xs)) _ (iterate-many-forward node mark element collection counter x y xs)
+
+-- ---- a whole program: its statements from the start, then leave_function of the main function
+
+pub program-chain : (node : ℕ) (ss : Stmts) (r1 r2 : Run)
+    → r1 ≡ bind (going (config [] 0 start)) (fwd-row (lower-stmts ss)) → r2 ≡ bind r1 (end-program node) → r2 ≡ on (lower-program node ss) (λ i t. going (config [] i t))
+unfolding bind lower-program end-program
+program-chain node ss r1 r2 e1 e2 = e2 ∙ ap (λ r. bind r (end-program node)) e1 ∙ step _ _ _ _ _ _ λ cs t. tail _ _ _

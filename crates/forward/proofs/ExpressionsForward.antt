@@ -1,22 +1,18 @@
 -- impl ExprVisitor, written forward: the line of calls of each visitor (Lines) does what the visitor does. A law follows the visitor's `do` block line by
 -- line (Steps); what is left is an equation of lists.
-use Prim.Native.Nat.{ℕ, zero, suc, _+_, _-_}
+use Prim.Native.Nat.{ℕ, suc}
 use mathlib.Core.Path.{_≡_, refl, sym, ap, _∙_}
-use mathlib.Core.Bool.{Bool, true, false}
 use mathlib.Core.List.{List, [], _∷_, _++_, append-assoc, append-nil}
 use mathlib.Core.Option.{Option, none, some}
 use lib.ListN.{length}
 use lib.Seq.{take-at}
-use lib.Dec.{eqb}
-use Rattle.meaning.specs.Opcode.{inst, wide, no-mark, unary-opcode, binary-opcode, or, Move, LoadK, Jmp, Test, Call, GetUpval, Addi, GetGlobal, GetBuiltin}
-use Rattle.meaning.specs.Constant.{Constant, text}
+use Rattle.meaning.specs.Constant.{Constant}
 use Rattle.meaning.specs.Syntax.{Token}
-use Rattle.meaning.specs.State.{Chunk, M, pure, next-register, add-constant, is-global-var, is-builtin-var, get-var-register, get-upvalue}
-use Rattle.meaning.specs.Expressions.{or-flag, visit-literal, named, visit-outside, visit-captured, visit-local, visit-variable, visit-unary, visit-addi, visit-both, visit-dropped, visit-binary, visit-logical, next-registers, visit-call, visit-argument}
-use Rattle.meaning.specs.declared.Cause.the-variants.{Undefined}
+use Rattle.meaning.specs.State.{Chunk, M, pure, is-builtin-var}
+use Rattle.meaning.specs.Expressions.{visit-literal, named, visit-outside, visit-captured, visit-local, visit-variable, visit-unary, visit-addi, visit-both, visit-dropped, visit-binary, visit-logical, next-registers, visit-call, visit-argument}
 use Rattle.meaning.specs.declared.Instruction.{Instruction}
-use Rattle.forward.specs.Forward.{Config, config, Run, going, bind, stop, sure, emit, give, put, fwd, fwd-code, fwd-number, fwd-zero, test-and-jump, jump-here, roll-back, end-logical, open-call, end-call}
-use Rattle.forward.proofs.Steps.{bind-ext, group-then, pass-next, now, inner, same, start, step, step-known, step-as, next, asked, tail, last, halt, either, more}
+use Rattle.forward.specs.Forward.{Config, config, going, give, fwd, fwd-code, fwd-zero, test-and-jump, jump-here, roll-back, end-logical, open-call, end-call}
+use Rattle.forward.proofs.Steps.{group-then, pass-next, now, inner, same, start, step, step-known, step-as, next, asked, tail, last, halt, either, more}
 use Rattle.forward.proofs.Calls.{does}
 use Rattle.forward.proofs.Lines.{literal-calls, named-calls, outside-calls, captured-calls, local-calls, variable-calls, unary-calls, addi-calls, both-calls, dropped-calls, minus-calls, logical-calls, register-calls, argument-calls, call-calls}
 use Rattle.forward.proofs.Jumps.{leap}

@@ -2,7 +2,7 @@
 -- its calls: that its row gives as many chunks as it has statements (`Rows`, which `rows` proves for every list of statements).
 use Prim.Native.Nat.{ℕ, zero, suc, _+_, _-_}
 use mathlib.Core.Path.{_≡_, refl, sym, ap, _∙_}
-use mathlib.Core.Bool.{Bool, true, false}
+use mathlib.Core.Bool.{false}
 use mathlib.Core.List.{List, [], _∷_, _++_, append-assoc, append-nil}
 use native.Mathlib.Omega.{arith}
 use lib.ListN.{getD, length, length-append}
@@ -11,17 +11,17 @@ use lib.Dec.{eqb}
 use borrow.Author.Tests.{eq-eqb, ne-eqb}
 use Rattle.meaning.specs.Opcode.{inst, wide, Return, Closure}
 use Rattle.meaning.specs.Syntax.{Token, Stmts, no-stmt, and-stmt}
-use Rattle.meaning.specs.State.{State, Chunk, M, Res, refused, done, and-then, _>>=_, pure, only-if, leave-block, in-block, in-function}
+use Rattle.meaning.specs.State.{State, Chunk, M, Res, refused, done, and-then, _>>=_, pure, only-if, leave-block, in-block}
 use Rattle.meaning.specs.Chunk.{chunk}
-use Rattle.meaning.specs.Functions.{parameters, last-mark, return-of-code, close-body, visit-body, first-mark, no-name, function-code, visit-function, fun-code, define-name, declare-name, visit-fun}
+use Rattle.meaning.specs.Functions.{parameters, last-mark, return-of-code, close-body, visit-body, no-name, function-code, visit-function, fun-code, define-name, declare-name, visit-fun}
 use Rattle.meaning.specs.Lower.{row, lower-stmt, lower-stmts}
 use Rattle.meaning.specs.declared.Cause.the-variants.{Empty}
 use Rattle.meaning.specs.declared.Instruction.{Instruction}
-use Rattle.forward.specs.Forward.{Config, config, Run, stopped, going, bind, pick, on, at, give, put, add-chunk, add-code, add-row, fwd, fwd-code, fwd-row, fwd-number, fwd-unit, fwd-zero, open-function, open-fun, end-body, leave-function, closure, end-function, declare, name-result, end-fun}
+use Rattle.forward.specs.Forward.{Config, config, stopped, going, bind, pick, on, at, give, put, add-chunk, add-code, add-row, fwd, fwd-code, fwd-unit, fwd-zero, open-function, open-fun, end-body, closure, end-function, declare, name-result, end-fun}
 use Rattle.forward.proofs.Steps.{bind-ext, now, inner, joint, group, same, start, step, step-known, next, asked, tail, last, halt, either, more, closing, Such, such}
 use Rattle.forward.proofs.Calls.{does}
 use Rattle.forward.proofs.Around.{in-function-bracket}
-use Rattle.forward.proofs.Lines.{parameter-calls, body-calls, function-calls, fun-calls, declare-name-calls, name-result-calls}
+use Rattle.forward.proofs.Lines.{parameter-calls, body-calls, function-calls, fun-calls, declare-name-calls}
 
 -- ---- parameters
 
@@ -103,10 +103,6 @@ rows (and-stmt x xs) s = rows-row (stmt-count xs) (lower-stmt x) (lower-stmts xs
 pub declare-name-forward : (x : Token) (c : Config) → does (declare-name-calls x) c ≡ fwd-unit (declare-name x) c
 unfolding declare-name only-if
 declare-name-forward x c = start _ _ _ _ (asked _ _ _ _ _ λ g t. either g _ _ _ _ _ _ (tail _ _ _) (last _ _ _ _ refl))
-
-pub name-result-is : (node : ℕ) (x : Token) (c : Config) → does (name-result-calls node x) c ≡ name-result node x c
-unfolding name-result
-name-result-is node x c = refl
 
 -- the code and the result of k being written
 pub define-forward : (node : ℕ) (x : Token) (k : Chunk) (c : Config) → name-result node x (add-chunk k c) ≡ fwd (define-name node x k) c

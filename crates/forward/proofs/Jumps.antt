@@ -1,15 +1,15 @@
 -- Jumps that are set when the code that they leap over is there. A list that is known in parts, p ++ Test ∷ jump ∷ q, has at place `length p + 1` the jump,
 -- and from there to its end are `length q + 1` instructions; so what an operation sets is what the definition writes when it joins the parts.
-use Prim.Native.Nat.{ℕ, suc, _+_, _-_}
+use Prim.Native.Nat.{ℕ, _+_, _-_}
 use mathlib.Core.Path.{_≡_, refl, sym, ap, _∙_}
-use mathlib.Core.List.{List, [], _∷_, _++_, append-assoc, append-nil}
+use mathlib.Core.List.{List, [], _∷_, _++_, append-assoc}
 use native.Mathlib.Omega.{arith}
 use lib.ListN.{length, set, take, drop, length-append}
 use lib.Seq.{take-at, drop-at, set-at}
 use Rattle.meaning.specs.Opcode.{inst, wide, back, no-mark, Jmp, Test, RegisterTryCatch, DeregisterTryCatch}
 use Rattle.meaning.specs.Chunk.{patch-loop, open-loop, loop-code, patch-first, open-try, try-code}
 use Rattle.meaning.specs.declared.Instruction.{Instruction}
-use Rattle.forward.specs.Forward.{Config, config, emit, jump-here, end-loop, end-try}
+use Rattle.forward.specs.Forward.{Config, config, jump-here, end-loop, end-try}
 
 -- an instruction set anew, in a list that is known in parts
 pub set-in : (l p q : List Instruction) (j i : Instruction) (k : ℕ) → l ≡ p ++ j ∷ q → length p ≡ k → set l k i ≡ p ++ i ∷ q

@@ -9,3 +9,6 @@ pub mod ExpressionsForward
 pub mod FunctionsForward
 pub mod StatementsForward
 pub mod Chains
+pub mod Leaves
+pub mod Opened
+pub mod Scan

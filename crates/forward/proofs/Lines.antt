@@ -2,12 +2,11 @@
 -- whose step is only handed on. That a line does what its visitor does is the visitor's law (ExpressionsForward, FunctionsForward, StatementsForward);
 -- that the equations of its calls make the equation of the whole is its chain (Chains).
 use Prim.Native.Nat.{ℕ, suc, _+_}
-use mathlib.Core.Bool.{Bool}
-use mathlib.Core.List.{List, _∷_}
+use mathlib.Core.List.{List}
 use mathlib.Core.Option.{Option, none, some}
 use lib.ListN.{length}
 use lib.Dec.{eqb}
-use Rattle.meaning.specs.Opcode.{inst, wide, no-mark, unary-opcode, binary-opcode, or, Move, LoadK, LoadNil, Jmp, GetUpval, Addi, GetIter, GetIterk, GetIteri, GetGlobal, GetBuiltin, Return, ClassMeth, ClassStMeth, SetGlobal}
+use Rattle.meaning.specs.Opcode.{inst, wide, no-mark, unary-opcode, binary-opcode, or, Move, LoadK, LoadNil, Jmp, GetUpval, Addi, GetIter, GetIterk, GetIteri, GetGlobal, GetBuiltin, ClassMeth, ClassStMeth, SetGlobal}
 use Rattle.meaning.specs.Constant.{Constant, text}
 use Rattle.meaning.specs.Syntax.{Token, Super}
 use Rattle.meaning.specs.State.{Chunk, M, get, next-register, allocate-register, enter-block, leave-block, enter-loop, leave-loop, add-constant, is-global-context, is-global-var, is-builtin-var, add-global, get-var-register, get-upvalue, enter-function}
@@ -16,16 +15,8 @@ use Rattle.meaning.specs.Functions.{parameters, visit-body, first-mark, no-name
 use Rattle.meaning.specs.Statements.{new-global, iterate-each, visit-super}
 use Rattle.meaning.specs.declared.Cause.the-variants.{Undefined, Redefined, Stray}
 use Rattle.meaning.specs.declared.Instruction.{Instruction}
-use Rattle.forward.specs.Forward.{Config, Run, stop, sure, emit, give, put, fwd, fwd-code, fwd-row, fwd-number, fwd-unit, fwd-zero, test-and-jump, roll-back, end-logical, open-call, end-call, open-function, open-fun, end-body, end-function, declare, end-fun, end-loop, open-for-in, head-for-in, end-for-in, end-return, end-branch, end-if, open-try-body, end-try-body, open-catch, end-try, open-class, make-class, add-method, end-class, end-program}
-use Rattle.forward.proofs.Calls.{Seen, Calls, finally, call, read, answer, choose, entry}
-
-infixl 10 _>>=_
-infixl 10 _>>_
-abbrev _>>=_ : (Config → Run) → (Seen → Calls) → Calls
-_>>=_ f p = read f p
-
-abbrev _>>_ : (Config → Run) → Calls → Calls
-_>>_ f p = call f p
+use Rattle.forward.specs.Forward.{stop, sure, emit, give, put, fwd, fwd-code, fwd-row, fwd-number, fwd-unit, fwd-zero, test-and-jump, roll-back, end-logical, open-call, end-call, open-function, open-fun, end-body, end-function, declare, end-fun, end-loop, open-for-in, head-for-in, end-for-in, end-return, end-branch, end-if, open-try-body, end-try-body, open-catch, end-try, open-class, make-class, add-method, end-class}
+use Rattle.forward.proofs.Calls.{Calls, finally, answer, choose, entry, _>>=_, _>>_}
 
 -- ---- literals and variables
 
@@ -155,17 +146,6 @@ fun-calls node x ps xs = do
 
 abbrev pub declare-name-calls : Token → Calls
 declare-name-calls x = answer is-global-context λ g. choose g (finally (fwd-unit (add-global (x .name)))) (finally (sure (λ c. c)))
-
--- the result gets its name
-abbrev pub name-result-calls : ℕ → Token → Calls
-name-result-calls node x =
-    entry λ s.
-    answer is-global-context λ g.
-    choose g
-    (do
-      s1 ← fwd-number (add-constant node (text (x .name)))
-      finally (sure (put (s .result) (wide SetGlobal (s .result) (s1 .result) (x .mark)))))
-    (finally (fwd-unit (allocate-register (x .name) (s .result))))
 
 -- ---- let, block, return, break and continue
 
@@ -332,10 +312,3 @@ method-calls node mark op class tmp name x others = do
   fwd x
   add-method node mark op class tmp name
   finally (fwd-code others)
-
--- ---- a whole program
-
-abbrev pub program-calls : ℕ → M (List Chunk) → Calls
-program-calls node xs = do
-  fwd-row xs
-  finally (end-program node)

@@ -1,21 +1,20 @@
 -- impl StmtVisitor, written forward: the line of calls of each visitor (Lines) does what the visitor does. A law follows the visitor's `do` block line by
 -- line (Steps, Around); what is left is an equation of lists (Jumps).
-use Prim.Native.Nat.{ℕ, zero, suc, _+_, _-_}
+use Prim.Native.Nat.{ℕ, _+_}
 use mathlib.Core.Path.{_≡_, refl, sym, ap, _∙_}
-use mathlib.Core.Bool.{Bool, true, false}
 use mathlib.Core.List.{List, [], _∷_, _++_, append-assoc, append-nil}
 use native.Mathlib.Omega.{arith}
 use lib.ListN.{length, length-append}
 use lib.Dec.{eqb}
 use Rattle.meaning.specs.Opcode.{inst, wide, no-mark, LoadK, LoadNil, Jmp, Test, Lt, Return, Class, ClassMeth, ClassStMeth, Addi, Length, RegisterTryCatch}
 use Rattle.meaning.specs.Syntax.{Token, Super, no-super, super}
-use Rattle.meaning.specs.State.{State, Chunk, M, _>>=_, pure, enter-block, leave-block, enter-loop, leave-loop, in-block, in-loop}
+use Rattle.meaning.specs.State.{Chunk, M, pure, enter-loop, leave-loop, in-block, in-loop}
 use Rattle.meaning.specs.Chunk.{chunk, joined, branch-code, patch-ends}
 use Rattle.meaning.specs.Expressions.{visit-variable}
 use Rattle.meaning.specs.Statements.{new-global, visit-let-as, visit-let-only, visit-block, visit-while, visit-classic-for, iterate-each, iterate, visit-for-in, visit-jump, visit-return, visit-return-none, visit-if, visit-elif, visit-catch, visit-try, visit-super, visit-method, visit-methods, visit-class}
 use Rattle.meaning.specs.Lower.{row}
 use Rattle.meaning.specs.declared.Instruction.{Instruction}
-use Rattle.forward.specs.Forward.{Config, config, Run, going, bind, at, sure, emit, give, put, fwd, fwd-code, fwd-row, fwd-number, test-and-jump, jump-here, declare, name-result, end-loop, open-for-in, head-for-in, end-for-in, end-return, end-branch, end-if, open-try-body, end-try-body, open-catch, end-try, open-class, make-class, add-method, end-class}
+use Rattle.forward.specs.Forward.{Config, config, going, at, sure, give, put, fwd, fwd-code, fwd-row, fwd-number, test-and-jump, jump-here, declare, name-result, open-for-in, head-for-in, end-for-in, end-return, end-branch, end-if, open-try-body, end-try-body, open-catch, open-class, make-class, add-method, end-class}
 use Rattle.forward.proofs.Steps.{now, inner, group, group-next, pass, same, start, step, step-known, step-as, next, next-known, asked, tail, last, halt, either, more, closing}
 use Rattle.forward.proofs.Calls.{does}
 use Rattle.forward.proofs.Jumps.{leap, mend-at, end-loop-is, end-try-is}
