@@ -1,7 +1,7 @@
 //! The command line; README.md says what each word does.
 use files::image::Image;
 use oracle::questions::Question;
-use oracle::{answer, compare, export, facts, packed, questions, sample};
+use oracle::{answer, compare, export, facts, judge, packed, questions, sample};
 use std::io::{Read, Write};
 use std::process::ExitCode;
 
@@ -24,7 +24,7 @@ fn run(words: &[&str]) -> Done {
         ["answer", tree, work, room] => tell(tree, work, room, None),
         ["answer", tree, work, room, image] => tell(tree, work, room, Some(image)),
         ["show", image] => show(&load(image)?),
-        ["rust", tree] => print(&format!("{}\n", compare::in_child(&load(tree)?))),
+        ["rust", tree] => rust(&load(tree)?),
         ["generate", kind, rest @ ..] => generate(kind, &Options::read(rest)?),
         ["sample", path] => save(path, &packed::write(&sample::sample(sample::SEED))),
         ["export", rest @ ..] => {
@@ -92,6 +92,12 @@ fn show(bytes: &[u8]) -> Done {
     let image = Image::from_bytes(bytes)?;
     print(&files::listing::listing(&image))?;
     facts::check(&image)
+}
+
+/// What the unchanged source does; it may end this process.
+fn rust(tree: &[u8]) -> Done {
+    judge::check(tree, u64::MAX).map_err(|r| format!("refusal {} at {}: not for the source", r.number, r.place))?;
+    print(&format!("{}\n", compare::in_child(tree)))
 }
 
 fn generate(kind: &str, o: &Options) -> Done {

@@ -1,6 +1,6 @@
 //! Damaged files: bytes changed or cut, fields dropped, doubled and swapped, payloads too short or long, words replaced.
 use crate::rng::Rng;
-use files::tree::{fields, push_field};
+use files::tree::{fields, push_field, whole_fields};
 use files::NONE;
 
 /// A field of its own.
@@ -119,15 +119,29 @@ fn hurt_bytes(rng: &mut Rng, bytes: &mut Vec<u8>) {
         return;
     }
     let at = rng.below(bytes.len());
-    match rng.below(5) {
+    match rng.below(7) {
         0 => bytes.truncate(at),
         1 => bytes[at] ^= 1 << rng.below(8),
         2 => bytes[at] = rng.word() as u8,
         3 => {
             bytes.remove(at);
         }
+        4..=5 => hurt_length(rng, bytes),
         _ => bytes.extend((0..rng.range(1, 3)).map(|_| rng.word() as u8)),
     }
+}
+
+/// A header that says a little more or less than its payload has.
+fn hurt_length(rng: &mut Rng, bytes: &mut [u8]) {
+    let fields = whole_fields(bytes).0;
+    if fields.is_empty() {
+        return;
+    }
+    let before = rng.below(fields.len());
+    let at = 1 + fields[..before].iter().map(|f| 3 + f.payload.len()).sum::<usize>();
+    let length = fields[before].payload.len() as u16;
+    let other = length.wrapping_add_signed(*rng.pick(&[-256, -3, -2, -1, 1, 2, 3, 256]));
+    bytes[at..at + 2].copy_from_slice(&other.to_be_bytes());
 }
 
 /// Bytes of no meaning, at times with tags that are listed.
