@@ -54,7 +54,7 @@ pub outer-same : (fs : List Open) → Outer fs fs
 outer-same [] = tt
 outer-same (f ∷ fs) = (widened-same f, outer-same fs)
 
-outer-chain : (fs gs hs : List Open) → Outer fs gs → Outer gs hs → Outer fs hs
+pub outer-chain : (fs gs hs : List Open) → Outer fs gs → Outer gs hs → Outer fs hs
 outer-chain [] [] [] p q = tt
 outer-chain [] [] (h ∷ hs) p q = q
 outer-chain [] (g ∷ gs) hs p q = absurd p

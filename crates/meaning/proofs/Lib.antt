@@ -1,6 +1,4 @@
--- Theorems about the definition.
-pub mod Computing
-pub mod Starred
+-- Theorems about the definition: first of every tree, then of the reference programs, which are computed.
 pub mod Lists
 pub mod FieldLaws
 pub mod Kids
@@ -13,7 +11,9 @@ pub mod Accepted
 pub mod Weights
 pub mod Keeps
 pub mod Grows
-pub mod Large
-pub mod Limits
 pub mod Imaged
 pub mod Safe
+pub mod Computing
+pub mod Starred
+pub mod Large
+pub mod Limits

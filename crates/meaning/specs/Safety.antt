@@ -1,5 +1,5 @@
 -- Demand 3: no walk leaves its prototype, and everything that it meets exists.
-use Prim.Native.Nat.{ℕ, zero, suc, _+_, _-_, _<_}
+use Prim.Native.Nat.{ℕ, zero, suc, _+_, _-_, _≤_, _<_}
 use mathlib.Core.Path.{_≡_}
 use mathlib.Core.Bool.{true, cond}
 use mathlib.Core.List.{List, [], _∷_, _++_}
@@ -77,9 +77,9 @@ Inside n (some i) = i < n
 
 -- of instruction x, at index i of the prototype p, which stands behind the prototypes `earlier`
 pub record Facts (constants : List Constant) (earlier : List Proto) (p : Proto) (i : ℕ) (x : Instruction) : Type 0 where
-  -- no allowed step leaves the prototype
+  -- "Allowed steps": none leads out of the prototype
   pub steps : (o : Option ℕ) → Step (p .code) i o → Inside (length (p .code)) o
-  -- no break or continue is left unpatched
+  -- a is 1 or 2 in a continue or break that was not patched: none is left
   pub jump : x .opcode ≡ Jmp → x .a ≡ 0
   -- "A prototype has the registers and captures below its counts"
   pub registers : All (λ r. r < p .registers) (met x)
@@ -87,15 +87,16 @@ pub record Facts (constants : List Constant) (earlier : List Proto) (p : Proto) 
   pub call : x .opcode ≡ Call → (0 < x .b) × (0 < x .c)
   -- "GetUpval's b is a capture"
   pub capture : x .opcode ≡ GetUpval → x .b < length (p .captures)
-  -- a Closure names an earlier prototype, and its captures name what p, which creates it, has
+  -- Closure's bx is an earlier prototype, whose captures name registers and captures of p, its creator
   pub closure : x .opcode ≡ Closure → Holds (λ q. All (Fits (p .registers) (length (p .captures))) (q .captures)) earlier (bx x)
-  -- a constant that is loaded is there
+  -- LoadK's bx is a constant
   pub constant : x .opcode ≡ LoadK → bx x < length constants
-  -- where a name is due, the constant is a text
+  -- where a name is due, bx is a constant that is a text
   pub name : among (x .opcode) name-due ≡ true → Holds IsText constants (bx x)
 
--- of a prototype: the facts hold at every instruction, reached or not, and the last is Return 0 0 0
+-- of a prototype: 16 bits hold every distance in it, its last instruction is a Return, and the facts hold at every instruction, reached or not
 pub record Safe (constants : List Constant) (earlier : List Proto) (p : Proto) : Type 0 where
+  pub short : length (p .code) ≤ 32767
   pub last : (body : List Instruction) × (p .code ≡ body ++ inst Return 0 0 0 no-mark ∷ [])
   pub facts : (i : ℕ) → i < length (p .code) → Facts constants earlier p i (inst-at (p .code) i)
 

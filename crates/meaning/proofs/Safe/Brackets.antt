@@ -14,9 +14,11 @@ use Rattle.meaning.specs.Constant.{Constant}
 use Rattle.meaning.specs.State.{State, Open, Local, Capture, Proto, Chunk, M, and-then, _>>=_, _>>_, pure, refuse, get, set-current, enter-block, leave-block, in-block, enter-loop, leave-loop, in-loop, enter-function, add-prototype, close-function, in-function, around, rest, fresh}
 use Rattle.meaning.specs.Safety.{All, Holds, Fits}
 use Rattle.meaning.specs.declared.Instruction.{Instruction}
-use Rattle.meaning.proofs.Safe.Fine.{View, view, looped, Creates, Grown, grown-same, grown-chain, grown-length, holds-new, one-more, widen}
+use Rattle.meaning.proofs.Grows.{Outer}
+use Rattle.meaning.proofs.Safe.Fine.{View, view, looped, Creates, Grown, grown-same, grown-chain, holds-new, one-more, widen}
 use Rattle.meaning.proofs.Safe.Patches.{encoded}
-use Rattle.meaning.proofs.Safe.Sound.{Outer, Locals, Chain, Finished, Protos, Pools, Sound, More, OnDone, Gives, Always, then-done, if-done, regs, encoded-holds, Code, Loose}
+use Rattle.meaning.proofs.Safe.Lookup.{widened-captures}
+use Rattle.meaning.proofs.Safe.Sound.{Locals, Chain, Finished, Protos, Pools, Sound, More, OnDone, Gives, Always, then-done, if-done, regs, encoded-holds, Code, Loose}
 
 -- ---- blocks and loops
 
@@ -142,7 +144,7 @@ record Left (s : State) (cs : List Capture) (f : Open) (fs : List Open) : Type 0
 leave : (s : State) (cs : List Capture) (c : Open) (os : List Open) → Outer (s .current ∷ s .outer) os → Chain cs os → Left s cs (around c os) (rest os)
 leave s cs c [] h k = absurd h
 leave s cs c (g ∷ gs) h k =
-    record { locals = k .1; chain = k .2; fit = k .0; registers = h .0 .registers; captures = grown-length (h .0 .captures); loops = h .0 .loops; outer = h .1 }
+    record { locals = k .1; chain = k .2; fit = k .0; registers = h .0 .registers; captures = widened-captures (s .current) g (h .0); loops = h .0 .loops; outer = h .1 }
 
 -- from the state in which a function is entered to the one in which its prototype was added
 left-by : (name : ℕ) (s t u v : State) (i : ℕ) → Entered name s t → Sound u → More t u → Added u v i → Left s (u .current .captures) (around (v .current) (v .outer)) (rest (v .outer))

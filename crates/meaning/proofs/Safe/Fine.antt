@@ -158,11 +158,6 @@ grown-same xs = record { more = []; is = sym (append-nil xs) }
 pub grown-chain : {A : Type 0} {xs ys zs : List A} → Grown xs ys → Grown ys zs → Grown xs zs
 grown-chain {A} {xs} p q = record { more = p .more ++ q .more; is = q .is ∙ ap (λ (l : List A). l ++ q .more) (p .is) ∙ append-assoc xs (p .more) (q .more) }
 
-pub grown-length : {A : Type 0} {xs ys : List A} → Grown xs ys → length xs ≤ length ys
-grown-length {A} {xs} g =
-    let e = ap (λ (l : List A). length l) (g .is) ∙ length-append xs (g .more) in
-    omega (arith, e)
-
 pub holds-grown : {A : Type 0} (P : A → Type 0) {xs ys : List A} (i : ℕ) → Grown xs ys → Holds P xs i → Holds P ys i
 holds-grown {A} P {xs} i g h = subst (λ (l : List A). Holds P l i) (sym (g .is)) (holds-more P xs (g .more) i h)
 

@@ -1,8 +1,9 @@
 -- Locals and captures: what a variable's lookup finds is there (get_var_register, get_upvalue).
--- The idea: one induction over the open functions, outward. What a search finds is a capture that the inner function has afterwards; the
--- functions around it are as they were, but for captures added; and their captures still fit, each function's in the one around it.
+-- The idea: the search goes outward one open function at a time, and changes them by captures added alone (Grows). One more induction on
+-- the same way says that what it finds is a capture that the inner function has afterwards, and that every function's captures still fit
+-- the function around it.
 use Prim.Native.Nat.{ℕ, suc, _≤_, _<_}
-use mathlib.Core.Path.{_≡_, refl, sym, subst}
+use mathlib.Core.Path.{_≡_, refl, sym, ap, _∙_, subst}
 use mathlib.Core.Bool.{Bool, true, false, _&&_, Bool·beq, cond}
 use mathlib.Core.List.{List, [], _∷_}
 use mathlib.Core.Option.{Option, none, some}
@@ -13,9 +14,10 @@ use lib.Dec.{eqb, ltb}
 use borrow.Author.Tests.{ltb-true}
 use Rattle.meaning.specs.State.{State, Open, Local, Capture, get, is-global, get-var-register, local-in-block, local-of, Search, not-found, full, found, add-upvalue, capture-index, captures-full, with-capture, local-capture, outer-capture, outward, search-outward, searched, get-upvalue}
 use Rattle.meaning.specs.Safety.{All, Fits}
-use Rattle.meaning.proofs.Safe.Fine.{View, Grown, all-append, fits-more, grown-same, grown-length}
+use Rattle.meaning.proofs.Grows.{Widened, Found, cond-either, search-found}
+use Rattle.meaning.proofs.Safe.Fine.{View, all-append, fits-more, grown-same}
 use Rattle.meaning.proofs.Safe.Patches.{choice}
-use Rattle.meaning.proofs.Safe.Sound.{Widened, Outer, outer-same, Locals, Chain, Sound, more-same, Post, Gives, regs}
+use Rattle.meaning.proofs.Safe.Sound.{Locals, Chain, Sound, more-same, Post, Gives, regs}
 
 -- ---- locals
 
@@ -23,10 +25,6 @@ use Rattle.meaning.proofs.Safe.Sound.{Widened, Outer, outer-same, Local
 abbrev pub Maybe : ℕ → Option ℕ → Type 0
 Maybe n none = Unit {0}
 Maybe n (some r) = r < n
-
--- a property of both branches is one of the choice
-cond-either : {A : Type 0} (P : A → Type 0) (b : Bool) {x y : A} → P x → P y → P (cond b x y)
-cond-either P b h k = choice P b (λ e. h) (λ e. k)
 
 in-block-below : (n name : ℕ) (ls : List Local) (o : Option ℕ) → All (λ (l : Local). l .register < n) ls → Maybe n o → Maybe n (local-in-block name ls o)
 in-block-below n name [] o h k = k
@@ -51,9 +49,6 @@ index-below c cs =
     choice (λ (l : List Capture). capture-index c cs < length l) (ltb (capture-index c cs) (length cs)) (λ e. ltb-true (capture-index c cs) (length cs) e)
     (λ e. omega (arith, index-le c cs, length-append cs (c ∷ [])))
 
-with-capture-adds : (c : Capture) (cs : List Capture) → Grown cs (with-capture c cs)
-with-capture-adds c cs = cond-either (Grown cs) (ltb (capture-index c cs) (length cs)) (grown-same cs) (record { more = c ∷ []; is = refl })
-
 with-capture-fits : (r n : ℕ) (c : Capture) (cs : List Capture) → All (Fits r n) cs → Fits r n c → All (Fits r n) (with-capture c cs)
 with-capture-fits r n c cs h k = cond-either (All (Fits r n)) (ltb (capture-index c cs) (length cs)) h (all-append (Fits r n) cs (c ∷ []) h (k, tt))
 
@@ -62,56 +57,56 @@ pub widened-locals : (f g : Open) → Widened f g → Locals (f .registers) (f .
 widened-locals f g w h =
     subst (λ (n : ℕ). Locals n (g .blocks)) (sym (w .registers)) (subst (λ (bs : List (List Local)). Locals (f .registers) bs) (sym (w .blocks)) h)
 
+-- captures that are there stay
+pub widened-captures : (f g : Open) → Widened f g → length (f .captures) ≤ length (g .captures)
+widened-captures f g w =
+    let e = ap (λ (l : List Capture). length l) (w .captures .1) ∙ length-append (f .captures) (w .captures .0) in
+    omega (arith, e)
+
 -- ---- the search
 
--- what a search from f, within the functions fs, finds
-abbrev Found : Open → List Open → Search → Type 0
-Found f fs not-found = Unit {0}
-Found f fs full = Unit {0}
-Found f fs (found i g gs) = Widened f g × Outer fs gs × (i < length (g .captures)) × Chain (g .captures) gs
+-- what is found is a capture of the inner function, and the captures fit outward
+abbrev Fitting : Search → Type 0
+Fitting not-found = Unit {0}
+Fitting full = Unit {0}
+Fitting (found i g gs) = (i < length (g .captures)) × Chain (g .captures) gs
 
-adds : (f : Open) (c : Capture) (fs gs : List Open) → Outer fs gs → Chain (with-capture c (f .captures)) gs → Found f fs (add-upvalue f c gs)
-adds f c fs gs h k =
-    cond-either (Found f fs) (captures-full c (f .captures)) {x = full} tt (
-      record { name = refl; registers = refl; blocks = refl; loops = refl; captures = with-capture-adds c (f .captures) },
-      h,
-      index-below c (f .captures),
-      k,
-    )
+adds : (f : Open) (c : Capture) (gs : List Open) → Chain (with-capture c (f .captures)) gs → Fitting (add-upvalue f c gs)
+adds f c gs h = cond-either Fitting (captures-full c (f .captures)) {x = full} tt (index-below c (f .captures), h)
 
-outward-found : (b : Bool) (o : Option ℕ) (r : Search) (f g : Open) (gs : List Open) → Chain (f .captures) (g ∷ gs) → Maybe (g .registers) o → Found g gs r → Found f (g ∷ gs) (outward b o r f g gs)
-outward-found true o r f g gs h k l = tt
-outward-found false (some i) r f g gs h k l =
-    adds f (local-capture i) (g ∷ gs) (g ∷ gs) (outer-same (g ∷ gs)) (with-capture-fits _ _ (local-capture i) (f .captures) (h .0) k, h .1, h .2)
-outward-found false none not-found f g gs h k l = tt
-outward-found false none full f g gs h k l = tt
-outward-found false none (found i g' gs') f g gs h k l =
-    adds f (outer-capture i) (g ∷ gs) (g' ∷ gs') (l .0, l .1) (
-      with-capture-fits _ _ (outer-capture i) (f .captures) (fits-more _ _ _ _ (f .captures) (le-of-eq (sym (l .0 .registers))) (grown-length (l .0 .captures)) (h .0)) (l .2),
+outward-fitting : (b : Bool) (o : Option ℕ) (r : Search) (f g : Open) (gs : List Open) → Chain (f .captures) (g ∷ gs) → Maybe (g .registers) o → Found g gs r → Fitting r → Fitting (outward b o r f g gs)
+outward-fitting true o r f g gs h k l m = tt
+outward-fitting false (some i) r f g gs h k l m = adds f (local-capture i) (g ∷ gs) (with-capture-fits _ _ (local-capture i) (f .captures) (h .0) k, h .1, h .2)
+outward-fitting false none not-found f g gs h k l m = tt
+outward-fitting false none full f g gs h k l m = tt
+outward-fitting false none (found i g' gs') f g gs h k l m =
+    adds f (outer-capture i) (g' ∷ gs') (
+      with-capture-fits _ _ (outer-capture i) (f .captures) (fits-more _ _ _ _ (f .captures) (le-of-eq (sym (l .0 .registers))) (widened-captures g g' (l .0)) (h .0)) (m .0),
       widened-locals g g' (l .0) (h .1),
-      l .3,
+      m .1,
     )
 
-search-found : (name : ℕ) (f : Open) (fs : List Open) → Chain (f .captures) fs → Found f fs (search-outward name f fs)
+search-fitting : (name : ℕ) (f : Open) (fs : List Open) → Chain (f .captures) fs → Fitting (search-outward name f fs)
 unfolding search-outward
-search-found name f [] h = tt
-search-found name f (g ∷ gs) h =
-    outward-found (is-global g gs) (local-of name (g .blocks)) (search-outward name g gs) f g gs h (local-below (g .registers) name (g .blocks) (h .1)) (search-found name g gs (h .2))
+search-fitting name f [] h = tt
+search-fitting name f (g ∷ gs) h =
+    outward-fitting (is-global g gs) (local-of name (g .blocks)) (search-outward name g gs) f g gs h
+    (local-below (g .registers) name (g .blocks) (h .1)) (search-found name g gs) (search-fitting name g gs (h .2))
 
 -- a capture that was found is there
 abbrev pub Captured : State → Option ℕ → View → Type 0
 Captured s o v = (v .registers ≡ regs s) × Maybe (v .captures) o
 
-searched-post : (node : ℕ) (s : State) (r : Search) → Sound s → Found (s .current) (s .outer) r → Post (Captured s) s (searched node s r)
+searched-post : (node : ℕ) (s : State) (r : Search) → Sound s → Found (s .current) (s .outer) r → Fitting r → Post (Captured s) s (searched node s r)
 unfolding searched
-searched-post node s not-found σ h = (σ, more-same s, (refl, tt))
-searched-post node s full σ h = tt
-searched-post node s (found i g gs) σ h = (
-  record { locals = widened-locals (s .current) g (h .0) (σ .locals); chain = h .3; pools = σ .pools },
+searched-post node s not-found σ h k = (σ, more-same s, (refl, tt))
+searched-post node s full σ h k = tt
+searched-post node s (found i g gs) σ h k = (
+  record { locals = widened-locals (s .current) g (h .0) (σ .locals); chain = k .1; pools = σ .pools },
   record {
     wider = record {
       registers = le-of-eq (sym (h .0 .registers));
-      captures = grown-length (h .0 .captures);
+      captures = widened-captures (s .current) g (h .0);
       loops = le-of-eq (sym (h .0 .loops));
       constants = grown-same _;
       prototypes = grown-same _;
@@ -119,9 +114,9 @@ searched-post node s (found i g gs) σ h = (
     loops = h .0 .loops;
     outer = h .1;
   },
-  (h .0 .registers, omega (arith, h .2)),
+  (h .0 .registers, omega (arith, k .0)),
 )
 
 pub captures : (node name : ℕ) (s : State) → Sound s → Gives (get-upvalue node name) s (Captured s)
 unfolding get-upvalue
-captures node name s σ = record { at = searched-post node s _ σ (search-found name (s .current) (s .outer) (σ .chain)) }
+captures node name s σ = record { at = searched-post node s _ σ (search-found name (s .current) (s .outer)) (search-fitting name (s .current) (s .outer) (σ .chain)) }

@@ -15,6 +15,7 @@ use Rattle.meaning.specs.Opcode.{inst, wide, back, is-continue, is-break
 use Rattle.meaning.specs.State.{Chunk}
 use Rattle.meaning.specs.Chunk.{each-at, jump-by, patch-jump, patch-loop, open-loop, loop-code, branch-code, patch-end, patch-ends, patch-first, try-code}
 use Rattle.meaning.specs.declared.Instruction.{Instruction}
+use Rattle.meaning.proofs.Lists.{and-left}
 use Rattle.meaning.proofs.Safe.Fine.{Kind, jump, test, handler, constant-of, name-of, capture-of, closure-of, calls, plain, never, View, looped, Fine, FineAs, Sane, Lands, lands, continues, breaks, kind, fine-at, shift, in-a-loop, join-at, join, join-after}
 
 -- ---- offsets
@@ -37,10 +38,6 @@ lands-back b e zero h k = (λ l. omega arith, λ l. absurd (omega arith))
 lands-back b e (suc n) h k = rw (back-small (suc n) (omega arith) (omega arith), encoded-small (65536 - suc n) (omega arith)) (λ l. absurd (omega arith), λ l. omega arith)
 
 -- ---- one jump
-
-and-left : (p q : Bool) → (p && q) ≡ true → p ≡ true
-and-left true q e = refl
-and-left false q e = e
 
 -- a choice, with what the test says in each branch
 pub choice : {A : Type 0} (P : A → Type 0) (b : Bool) {x y : A} → (b ≡ true → P x) → (b ≡ false → P y) → P (cond b x y)

@@ -18,42 +18,9 @@ use Rattle.meaning.specs.Chunk.{joined}
 use Rattle.meaning.specs.Safety.{All, Holds, Fits}
 use Rattle.meaning.specs.declared.Cause.{Cause}
 use Rattle.meaning.specs.declared.Instruction.{Instruction}
-use Rattle.meaning.proofs.Safe.Fine.{View, view, Sane, Wider, Grown, all-more, grown-same, grown-chain, holds-last, one-more, wider-same, wider-chain, widen, join}
+use Rattle.meaning.proofs.Grows.{Outer, outer-same, outer-chain}
+use Rattle.meaning.proofs.Safe.Fine.{View, view, Sane, Wider, all-more, grown-same, holds-last, one-more, wider-same, wider-chain, widen, join}
 use Rattle.meaning.proofs.Safe.Patches.{encoded, encoded-small}
-
--- ---- the open functions around the current one
-
--- g is f with captures added
-pub record Widened (f g : Open) : Type 0 where
-  pub name : g .name ≡ f .name
-  pub registers : g .registers ≡ f .registers
-  pub blocks : g .blocks ≡ f .blocks
-  pub loops : g .loops ≡ f .loops
-  pub captures : Grown (f .captures) (g .captures)
-
-abbrev pub Outer : List Open → List Open → Type 0
-Outer [] [] = Unit {0}
-Outer [] (g ∷ gs) = ⊥
-Outer (f ∷ fs) [] = ⊥
-Outer (f ∷ fs) (g ∷ gs) = Widened f g × Outer fs gs
-
-widened-same : (f : Open) → Widened f f
-widened-same f = record { name = refl; registers = refl; blocks = refl; loops = refl; captures = grown-same _ }
-
-widened-chain : {f g h : Open} → Widened f g → Widened g h → Widened f h
-widened-chain p q = record { name = cc; registers = cc; blocks = cc; loops = cc; captures = grown-chain (p .captures) (q .captures) }
-
-pub outer-same : (fs : List Open) → Outer fs fs
-outer-same [] = tt
-outer-same (f ∷ fs) = (widened-same f, outer-same fs)
-
-outer-chain : (fs gs hs : List Open) → Outer fs gs → Outer gs hs → Outer fs hs
-outer-chain [] [] [] p q = tt
-outer-chain [] [] (h ∷ hs) p q = q
-outer-chain [] (g ∷ gs) hs p q = absurd p
-outer-chain (f ∷ fs) [] hs p q = absurd p
-outer-chain (f ∷ fs) (g ∷ gs) [] p q = absurd q
-outer-chain (f ∷ fs) (g ∷ gs) (h ∷ hs) p q = (widened-chain (p .0) (q .0), outer-chain fs gs hs (p .1) (q .1))
 
 -- ---- what holds between steps
 

@@ -115,6 +115,7 @@ finished-safe cs earlier p h =
     let n : length (p .code) ≡ length (h .body) + 1 = ap (λ (l : List Instruction). length l) (h .code) ∙ length-append (h .body) (last-return ∷ []) in
     let short = h .short in
     record {
+      short = omega (arith, n, short);
       last = (h .body, h .code);
       facts = λ i k.
           placed-facts cs earlier p i (omega (arith, n, short))
