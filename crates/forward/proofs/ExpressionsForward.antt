@@ -68,9 +68,9 @@ unfolding visit-dropped roll-back
 dropped-forward node x c = start _ _ _ _ (step _ _ _ _ _ _ λ a t. step _ _ _ _ _ _ λ r u. last _ _ _ _ (same _ _ _ _ (take-at (c .code) (a .code) (length (c .code)) refl)))
 
 -- a small number on the right of Plus
-pub plus-forward : (node op mark k : ℕ) (j : Option ℕ) (x y : M Chunk) (c : Config) → fwd (visit-addi node mark k x) c ≡ fwd (visit-binary node op mark (some k) j x y) c
+pub plus-forward : (node op mark k : ℕ) (j : Option ℕ) (x y : M Chunk) (c : Config) → does (addi-calls node mark k x) c ≡ fwd (visit-binary node op mark (some k) j x y) c
 unfolding visit-binary
-plus-forward node op mark k j x y c = refl
+plus-forward node op mark k j x y c = addi-forward node mark k x c
 
 -- on the left of Minus
 pub minus-forward : (node op mark k : ℕ) (x y : M Chunk) (c : Config) → does (minus-calls node op mark x y) c ≡ fwd (visit-binary node op mark none (some k) x y) c
@@ -80,9 +80,9 @@ minus-forward node op mark k x y c =
     (ap (λ l. fwd (visit-both node op mark x y) (config l 0 u)) (take-at (c .code) (a .code) (length (c .code)) refl) ∙ tail _ _ _)))))
 
 -- neither
-pub plain-forward : (node op mark : ℕ) (x y : M Chunk) (c : Config) → fwd (visit-both node op mark x y) c ≡ fwd (visit-binary node op mark none none x y) c
+pub plain-forward : (node op mark : ℕ) (x y : M Chunk) (c : Config) → does (both-calls node op mark x y) c ≡ fwd (visit-binary node op mark none none x y) c
 unfolding visit-binary
-plain-forward node op mark x y c = refl
+plain-forward node op mark x y c = both-forward node op mark x y c
 
 pub logical-forward : (node op mark : ℕ) (x y : M Chunk) (c : Config) → does (logical-calls op mark x y) c ≡ fwd (visit-logical node op mark x y) c
 unfolding visit-logical test-and-jump end-logical jump-here
@@ -99,8 +99,9 @@ pub register-forward : (node n : ℕ) (c : Config) → does (register-calls node
 unfolding next-registers
 register-forward node n c = start _ _ _ _ (step _ _ _ _ _ _ λ r t. tail _ _ _)
 
-pub argument-none : (c : Config) → going (give 0 c) ≡ fwd-code (pure []) c
-argument-none c = start _ _ _ _ (last _ _ _ _ (same _ _ _ _ (sym (append-nil (c .code)))))
+-- no argument, no elif, no method
+pub code-none : (c : Config) → going (give 0 c) ≡ fwd-code (pure []) c
+code-none c = start _ _ _ _ (last _ _ _ _ (same _ _ _ _ (sym (append-nil (c .code)))))
 
 pub argument-forward : (register : ℕ) (x : M Chunk) (others : M (List Instruction)) (c : Config) → does (argument-calls register x others) c ≡ fwd-code (visit-argument register x others) c
 unfolding visit-argument
