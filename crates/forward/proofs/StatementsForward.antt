@@ -14,7 +14,7 @@ use Rattle.meaning.specs.Expressions.{visit-variable}
 use Rattle.meaning.specs.Statements.{new-global, visit-let-as, visit-let-only, visit-block, visit-while, visit-classic-for, iterate-each, iterate, visit-for-in, visit-jump, visit-return, visit-return-none, visit-if, visit-elif, visit-catch, visit-try, visit-super, visit-method, visit-methods, visit-class}
 use Rattle.meaning.specs.Lower.{row}
 use Rattle.meaning.specs.declared.Instruction.{Instruction}
-use Rattle.forward.specs.Forward.{Config, config, going, at, sure, give, put, fwd, fwd-code, fwd-row, fwd-number, test-and-jump, jump-here, declare, name-result, open-for-in, head-for-in, end-for-in, end-return, end-branch, end-if, open-try-body, end-try-body, open-catch, open-class, make-class, add-method, end-class}
+use Rattle.forward.specs.Forward.{Config, config, going, at, sure, give, put, fwd, fwd-code, fwd-row, fwd-number, test-and-jump, jump-here, declare, name-result, open-for-in, head-for-in, end-for-in, end-return, end-branch, end-if, end-try-body, open-catch, open-class, make-class, add-method, end-class}
 use Rattle.forward.proofs.Steps.{now, inner, group, group-next, pass, same, start, step, step-known, step-as, next, next-known, asked, tail, last, halt, either, more, closing}
 use Rattle.forward.proofs.Calls.{does}
 use Rattle.forward.proofs.Jumps.{leap, mend-at, end-loop-is, end-try-is}
@@ -151,7 +151,7 @@ try-list : (c b h : List Instruction) (r d j g e : Instruction) → ((((((c ++ r
 try-list c b h r d j g e = simp append-assoc
 
 pub try-forward : (node : ℕ) (v : Token) (x y : M Chunk) (c : Config) → does (try-calls node v x y) c ≡ fwd (visit-try node v x y) c
-unfolding visit-try visit-catch in-block open-try-body end-try-body open-catch
+unfolding visit-try visit-catch in-block end-try-body open-catch
 try-forward node v x y c =
     start _ _ _ _ (now _ _ _ (step _ _ _ _ _ _ λ a t. now _ _ _ (group-next _ _ _ _ _ _ (next _ _ _ _ _ _ λ z1 t1. group _ _ _ _ _ _ (group _ _ _ _ _ _
     (inner _ _ _ _ (step _ _ _ _ _ _ λ r t2. group-next _ _ _ _ _ _ (inner _ _ _ _ (next _ _ _ _ _ _ λ z2 t3. now _ _ _ (group _ _ _ _ _ _ (step _ _ _ _ _ _ λ b t4. pass _ _ _ _ _

@@ -22,11 +22,6 @@ unfolding bind
 bind-ext (stopped k p) f g h = refl
 bind-ext (going c) f g h = h c
 
-pub bind-going : (r : Run) (h : Config → Config) (g : Config → Run) → bind (bind r (λ c. going (h c))) g ≡ bind r (λ c. g (h c))
-unfolding bind
-bind-going (stopped k p) h g = refl
-bind-going (going c) h g = refl
-
 pub bind-pick : (b : Bool) (k : Cause) (p : ℕ) (x : Run) (f : Config → Run) → bind (pick b (stopped k p) x) f ≡ pick b (stopped k p) (bind x f)
 unfolding bind pick
 bind-pick true k p x f = refl

@@ -300,7 +300,7 @@ unfoldable pub end-if : (first : ℕ) → Config → Config
 end-if first c = give 0 (mend patch-ends first c)
 
 -- visit_try_catch_stmt before the body
-unfoldable pub open-try-body : Config → Config
+abbrev pub open-try-body : Config → Config
 open-try-body c = emit (inst RegisterTryCatch 0 0 0 no-mark) c
 
 -- visit_try_catch_stmt after the body
