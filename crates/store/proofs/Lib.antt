@@ -1,1 +1,9 @@
 -- Laws of the store.
+pub mod Tables
+pub mod Halves
+pub mod Regions
+pub mod Runs
+pub mod Steady
+pub mod Steps
+pub mod Compose
+pub mod Registers

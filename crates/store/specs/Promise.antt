@@ -68,8 +68,9 @@ pub record Roomy (w : List ℕ) (p : Scope) (s : Step) (k a b : ℕ) : Type 0 wh
   pub locals : edge w (p .nodes) (p .block) + k + b ≤ p .nodes + taken w (p .depth)
   pub globals : s .globals + 1 ≤ s .constants + min 2 (p .block)
 
-abbrev pub Room : List ℕ → Scope → Step → (k a b : ℕ) → Type 0
-Room w p s k a b = while-going (s .outcome) (Roomy w p s k a b)
+-- due while nothing is refused
+pub record Room (w : List ℕ) (p : Scope) (s : Step) (k a b : ℕ) : Type 0 where
+  pub roomy : while-going (s .outcome) (Roomy w p s k a b)
 
 -- what a step used up
 pub record Used (w : List ℕ) (p : Scope) (s : Step) (w' : List ℕ) (q : Scope) (r : Step) (u : Cost) : Type 0 where

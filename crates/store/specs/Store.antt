@@ -9,6 +9,7 @@ use Rattle.store.specs.Table.{tab, stack, span}
 use Rattle.store.specs.Layout.{constant-at, name-of, registers, held, first, saved, capture-at, global-at, edge, local-at, block, latest, link, head, top, inst-at}
 use Rattle.meaning.specs.Image.{proto-bytes}
 use Rattle.meaning.specs.State.{Open, Proto, State}
+use Rattle.meaning.specs.declared.Cause.{Cause}
 use Rattle.meaning.specs.declared.Outcome.{Outcome}
 use Rattle.meaning.specs.declared.Outcome.the-variants.{Accepted, Refused}
 use Rattle.forward.specs.Forward.{Config, config, Run, stopped, going}
@@ -77,8 +78,18 @@ first-step = record { outcome = Accepted 0; code = 0; constants = 0; globals = 0
 abbrev pub with-result : Step → ℕ → Step
 with-result s r = record { outcome = s .outcome; code = s .code; constants = s .constants; globals = s .globals; functions = s .functions; result = r }
 
-abbrev pub with-outcome : Step → Outcome → Step
-with-outcome s o = record { outcome = o; code = s .code; constants = s .constants; globals = s .globals; functions = s .functions; result = 0 }
+-- refused now, or before
+abbrev pub refused-by : Outcome → Cause → ℕ → Outcome
+refused-by (Accepted written) cause node = Refused cause node
+refused-by (Refused cause node) cause' node' = Refused cause node
+
+abbrev pub result-by : Outcome → ℕ → ℕ
+result-by (Accepted written) r = 0
+result-by (Refused cause node) r = r
+
+abbrev pub refused-step : Step → Cause → ℕ → Step
+refused-step s k n =
+    record { outcome = refused-by (s .outcome) k n; code = s .code; constants = s .constants; globals = s .globals; functions = s .functions; result = result-by (s .outcome) (s .result) }
 
 -- not refused so far
 abbrev pub goes-on : Outcome → Type 0

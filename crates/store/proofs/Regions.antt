@@ -1,0 +1,170 @@
+-- What the words of a region stand for stays where its words stay. A leaf shows that all words but a few stay, and takes from here what it does not change.
+use mathlib.Core.Path.{_≡_, refl, sym, ap, ap₂, _∙_}
+use mathlib.Core.List.{List, [], _∷_, _++_}
+use Prim.Native.Nat.{ℕ, zero, suc, _+_, _*_, _-_, _/_, _%_, _<_, _≤_}
+use native.Mathlib.Omega.{arith}
+use native.Mathlib.Nat.{add-zero}
+use lib.ListN.{length, getD, set, length-set}
+use lib.Seq.{getD-set-other}
+use Rattle.store.specs.declared.Scope.{Scope}
+use Rattle.store.specs.Half.{half}
+use Rattle.store.specs.Table.{tab, stack, span}
+use Rattle.store.specs.Layout.{constant-at, registers, global-at, inst-at, edge, first, saved, held, capture-of, capture-at, local-at, local-of-word, block, latest, link, head, top}
+use Rattle.store.specs.Store.{open-at, around, Linked}
+use Rattle.store.proofs.Tables.{tab-ext, stack-ext, span-ext}
+use Rattle.store.proofs.Halves.{half-word}
+
+-- w' has the words of w from a up to b
+pub record Same (w w' : List ℕ) (a b : ℕ) : Type 0 where
+  pub same : (i : ℕ) → a ≤ i → i < b → getD w' i 0 ≡ getD w i 0
+
+-- w' has the words of w but for those from a up to b
+pub record Only (w w' : List ℕ) (a b : ℕ) : Type 0 where
+  pub length : length w' ≡ length w
+  pub other : (i : ℕ) → (a ≤ i → b ≤ i) → getD w' i 0 ≡ getD w i 0
+
+pub same-refl : (w : List ℕ) (a b : ℕ) → Same w w a b
+same-refl w a b = record { same = λ i k l. refl }
+
+pub same-trans : {w w1 w2 : List ℕ} {a b : ℕ} → Same w w1 a b → Same w1 w2 a b → Same w w2 a b
+same-trans g h = record { same = λ i k l. h .same i k l ∙ g .same i k l }
+
+pub same-part : {w w' : List ℕ} {a b : ℕ} (c d : ℕ) → a ≤ c → d ≤ b → Same w w' a b → Same w w' c d
+same-part c d h k g = record { same = λ i x y. g .same i (omega arith) (omega arith) }
+
+-- a region below or above what changed
+pub below : {w w' : List ℕ} {a b : ℕ} (c d : ℕ) → d ≤ a → Only w w' a b → Same w w' c d
+below c d h g = record { same = λ i x y. g .other i (λ z. absurd (omega arith)) }
+
+pub above : {w w' : List ℕ} {a b : ℕ} (c d : ℕ) → b ≤ c → Only w w' a b → Same w w' c d
+above c d h g = record { same = λ i x y. g .other i (λ z. omega arith) }
+
+pub only-set : (w : List ℕ) (a v : ℕ) → Only w (set w a v) a (a + 1)
+only-set w a v = record { length = length-set w a v; other = λ i h. getD-set-other w a i v 0 (λ e. let k : a + 1 ≤ i = h (omega arith) in omega arith) }
+
+pub only-refl : (w : List ℕ) (a b : ℕ) → Only w w a b
+only-refl w a b = record { length = refl; other = λ i h. refl }
+
+pub only-trans : {w w1 w2 : List ℕ} {a b : ℕ} → Only w w1 a b → Only w1 w2 a b → Only w w2 a b
+only-trans g h = record { length = h .length ∙ g .length; other = λ i k. h .other i k ∙ g .other i k }
+
+pub only-wider : {w w' : List ℕ} {a b : ℕ} (c d : ℕ) → c ≤ a → b ≤ d → Only w w' a b → Only w w' c d
+only-wider c d h k g = record { length = g .length; other = λ i x. g .other i (λ z. let y : d ≤ i = x (omega arith) in omega arith) }
+
+-- ---- each region
+
+module _ (w w' : List ℕ) where
+  -- halves from a to b, in words
+  pub half-kept : {a b : ℕ} (k : ℕ) → Same w w' a b → 2 * a ≤ k → k < 2 * b → half w' k ≡ half w k
+  half-kept k g h l = half-word w w' k (g .same (k / 2) (omega arith) (omega arith))
+
+  pub constants-same : (n : ℕ) → Same w w' 0 (3 * n) → tab (constant-at w') n ≡ tab (constant-at w) n
+  constants-same n h =
+      tab-ext _ _ n
+      (λ i k. rw (h .same (3 * i) (omega arith) (omega arith), h .same (3 * i + 1) (omega arith) (omega arith), h .same (3 * i + 2) (omega arith) (omega arith)))
+
+  pub globals-same : (n : ℕ) → n ≤ 1040 → Same w w' 4168 4688 → stack (global-at w') n ≡ stack (global-at w) n
+  globals-same n l h = stack-ext _ _ n (λ i k. half-kept (8336 + i) h (omega arith) (omega arith))
+
+  pub code-same : (nodes n : ℕ) → 2 * n ≤ top nodes → Same w w' (top nodes - 2 * n) (top nodes) → tab (inst-at w' nodes) n ≡ tab (inst-at w nodes) n
+  code-same nodes n le h =
+      tab-ext _ _ n (λ i k. rw (h .same (top nodes - (2 * i + 2)) (omega arith) (omega arith), h .same (top nodes - (2 * i + 1)) (omega arith) (omega arith)))
+
+  pub captures-same : (j n : ℕ) → n ≤ 256 → Same w w' (3144 + 128 * j) (3144 + 128 * suc j) → tab (capture-at w' j) n ≡ tab (capture-at w j) n
+  captures-same j n l h = tab-ext _ _ n (λ i k. ap (λ x. capture-of (x % 512)) (half-kept (6288 + 256 * j + i) h (omega arith) (omega arith)))
+
+  -- the locals below k
+  pub local-same : (n k : ℕ) → Same w w' (5724 + 2 * n) (5724 + 2 * n + k) → (i : ℕ) → i < k → local-at w' n i ≡ local-at w n i
+  local-same n k h i l = ap local-of-word (h .same (5724 + 2 * n + i) (omega arith) (omega arith))
+
+  -- the blocks from a up to e, whose locals are below k
+  pub blocks-same : (n a e k : ℕ) → Same w w' (5708 + n) (5709 + n + e) → Same w w' (5724 + 2 * n) (5724 + 2 * n + k) → ((i : ℕ) → i < e → edge w n (suc i) ≤ k)
+      → span (block w' n) a e ≡ span (block w n) a e
+  blocks-same n a e k h l b = span-ext _ _ a e one
+    where
+      one : (i : ℕ) → a ≤ i → i < e → block w' n i ≡ block w n i
+      one i x m =
+          let e0 : edge w' n i ≡ edge w n i = h .same (5708 + n + i) (omega arith) (omega arith) in
+          let e1 : edge w' n (suc i) ≡ edge w n (suc i) = h .same (5708 + n + suc i) (omega arith) (omega arith) in
+          let u : edge w n (suc i) ≤ k = b i m in
+          rw (e0, e1) (span-ext _ _ (edge w n i) (edge w n (suc i)) (λ x y z. local-same n k l x (omega arith)))
+
+  -- ---- links and heads
+
+  pub latest-same : (n b k : ℕ) → Same w w' (5724 + 2 * n) (5724 + 2 * n + k) → latest w' n b k ≡ latest w n b k
+  unfolding latest
+  latest-same n b zero h = refl
+  latest-same n b (suc k) h =
+      rw (h .same (5724 + 2 * n + k) (omega arith) (omega arith), latest-same n b k (same-part (5724 + 2 * n) (5724 + 2 * n + k) (omega arith) (omega arith) h))
+
+  pub linked-same : (n k : ℕ) → k ≤ 2040 + 2 * n → Same w w' 4688 (5708 + n) → Same w w' (12288 + 11 * n) (12288 + 15 * n) → Same w w' (5724 + 2 * n) (5724 + 2 * n + k) → Linked w n k → Linked w' n k
+  linked-same n k l hl hh lo h =
+      record {
+        links = λ i x.
+            half-kept (9376 + i) hl (omega arith) (omega arith)
+            ∙ h .links i x
+            ∙ sym
+            (ap (λ b. latest w' n (b .name % (8 * n)) i) (local-same n k lo i x)
+            ∙ latest-same n (local-at w n i .name % (8 * n)) i (same-part (5724 + 2 * n) (5724 + 2 * n + i) (omega arith) (omega arith) lo));
+        heads = λ b x. half-kept (24576 + 22 * n + b) hh (omega arith) (omega arith) ∙ h .heads b x ∙ sym (latest-same n b k lo);
+      }
+
+-- ---- edges
+
+edge-le : (w : List ℕ) (n b : ℕ) → ((i : ℕ) → i < b → edge w n i ≤ edge w n (suc i)) → (i k : ℕ) → i + k ≡ b → edge w n i ≤ edge w n b
+edge-le w n b h i zero e = let f : i ≡ b = omega arith in rw f (omega arith)
+edge-le w n b h i (suc k) e =
+    let a = edge-le w n b h (suc i) k (omega arith) in
+    let c = h i (omega arith) in
+    omega (arith, a, c)
+
+-- the edges below a block's
+pub edges-below : (w : List ℕ) (n b : ℕ) → ((i : ℕ) → i < b → edge w n i ≤ edge w n (suc i)) → (i : ℕ) → i ≤ b → edge w n i ≤ edge w n b
+edges-below w n b h i le = edge-le w n b h i (b - i) (omega arith)
+
+-- ---- functions
+
+-- what the functions around function d are made of is the same
+pub record Alike (w w' : List ℕ) (n d : ℕ) : Type 0 where
+  pub frames : (j k : ℕ) → j < d → k < 8 → getD w' (3072 + 8 * j + k) 0 ≡ getD w (3072 + 8 * j + k) 0
+  pub firsts : (j : ℕ) → j ≤ d → first w' j ≡ first w j
+  pub saves : (j : ℕ) → j ≤ d → saved w' j ≡ saved w j
+  pub captures : (j : ℕ) → j < d → Same w w' (3144 + 128 * j) (3144 + 128 * suc j)
+  pub blocks : (j : ℕ) → j < d → span (block w' n) (first w j) (first w (suc j)) ≡ span (block w n) (first w j) (first w (suc j))
+
+pub less : {w w' : List ℕ} {n d : ℕ} → Alike w w' n (suc d) → Alike w w' n d
+less a =
+    record {
+      frames = λ j k x y. a .frames j k (omega arith) y;
+      firsts = λ j x. a .firsts j (omega arith);
+      saves = λ j x. a .saves j (omega arith);
+      captures = λ j x. a .captures j (omega arith);
+      blocks = λ j x. a .blocks j (omega arith);
+    }
+
+pub below-256 : (x : ℕ) → x % 256 < 256
+below-256 x = omega arith
+
+-- the words of frame d
+pub frame : (w : List ℕ) (d k i : ℕ) → 3072 + 8 * d + k ≡ i → getD w (3072 + 8 * d + k) 0 ≡ getD w i 0
+frame w d k i e = ap (λ x. getD w x 0) e
+
+pub around-same : (w w' : List ℕ) (n d : ℕ) → Alike w w' n d → around w' n d ≡ around w n d
+unfolding around open-at
+around-same w w' n zero a = refl
+around-same w w' n (suc d) a =
+    let f1 : first w' (suc d) ≡ first w (suc d) = a .firsts (suc d) (omega arith) in
+    let s1 : saved w' (suc d) ≡ saved w (suc d) = a .saves (suc d) (omega arith) in
+    let f0 : first w' d ≡ first w d = a .firsts d (omega arith) in
+    let word : (k i : ℕ) → 3072 + 8 * d + k ≡ i → k < 8 → getD w' i 0 ≡ getD w i 0 = λ k i e l. sym (frame w' d k i e) ∙ a .frames d k (omega arith) l ∙ frame w d k i e in
+    let nm : getD w' (3072 + 8 * d) 0 ≡ getD w (3072 + 8 * d) 0 = word 0 (3072 + 8 * d) (omega arith) (omega arith) in
+    let rg : getD w' (3073 + 8 * d) 0 ≡ getD w (3073 + 8 * d) 0 = word 1 (3073 + 8 * d) (omega arith) (omega arith) in
+    let hd : getD w' (3074 + 8 * d) 0 ≡ getD w (3074 + 8 * d) 0 = word 2 (3074 + 8 * d) (omega arith) (omega arith) in
+    let bl = a .blocks d (omega arith) in
+    let cp = captures-same w w' d (held w d) (omega (arith, below-256 (getD w (3074 + 8 * d) 0))) (a .captures d (omega arith)) in
+    rw (f1, s1, f0, nm, rg, hd, bl, cp, around-same w w' n d (less a))
+
+pub around-length : (w : List ℕ) (n d : ℕ) → length (around w n d) ≡ d
+unfolding around
+around-length w n zero = refl
+around-length w n (suc d) = ap suc (around-length w n d)

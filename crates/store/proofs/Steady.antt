@@ -1,0 +1,117 @@
+-- The invariants after a change of some words: a step that changes few words shows which, and takes `Sound`, `Fine` and `Kept` from here.
+use Prim.Native.Nat.{ℕ, zero, suc, _+_, _*_, _%_, _≤_, _<_}
+use mathlib.Core.Path.{_≡_, refl, sym, ap, ap₂, _∙_}
+use mathlib.Core.List.{List}
+use native.Mathlib.Omega.{arith}
+use lib.ListN.{length, getD}
+use Rattle.store.specs.declared.Step.{Step}
+use Rattle.store.specs.declared.Scope.{Scope}
+use Rattle.store.specs.Table.{tab, stack, span}
+use Rattle.store.specs.Layout.{constant-at, global-at, registers, first, saved, held, edge, block, inst-at, top}
+use Rattle.store.specs.Store.{open-at, around, while-going, written-by, result-limit, Linked, Sound, Fine, Kept}
+use Rattle.store.specs.Promise.{taken}
+use Rattle.store.proofs.Regions.{Same, Only, below, above, same-part, constants-same, globals-same, code-same, captures-same, blocks-same, linked-same, edges-below, Alike, around-same, below-256}
+
+-- ---- the invariants
+
+-- other words: where functions begin, the edges, and the links of the locals
+pub sound-again : {w w' : List ℕ} {p : Scope} → Sound w p → length w' ≡ length w → ((j : ℕ) → j ≤ p .depth → first w' j ≡ first w j) → ((i : ℕ) → i ≤ p .block → edge w' (p .nodes) i ≡ edge w (p .nodes) i)
+    → Linked w' (p .nodes) (edge w (p .nodes) (p .block)) → Sound w' p
+sound-again {w} {w'} {p} h len fs es ln =
+    record {
+      some = h .some;
+      few = h .few;
+      long = omega (arith, h .long, len);
+      deep = h .deep;
+      blocks = h .blocks;
+      loops = h .loops;
+      sorted = λ i x. rw (es i (omega arith), es (suc i) x) (h .sorted i x);
+      main = fs 0 (omega arith) ∙ h .main;
+      starts = λ j x. rw (fs j x) (h .starts j x);
+      count = omega (arith, h .count, es (p .block) (omega arith));
+      linked = rw (es (p .block) (omega arith)) ln;
+    }
+
+-- another step over the same words
+pub fine-step : {w : List ℕ} {p : Scope} {s : Step} (r : Step) → Fine w p s → while-going (r .outcome) (p .depth ≤ 7) → r .code ≤ s .code → r .constants ≤ 1024 → r .globals ≤ r .constants + 1 → r .functions ≡ s .functions → written-by (r .outcome) ≤ written-by (s .outcome) → r .result < result-limit (r .outcome) → Fine w p r
+fine-step r h n c k g f wr v =
+    record { sound = h .sound; nested = n; room = omega (arith, h .room, c); constants = k; globals = g; functions = omega (arith, h .functions, f); written = omega (arith, h .written, wr, f); result = v }
+
+-- other words, the same step
+pub fine-words : {w w' : List ℕ} {p : Scope} {s : Step} → Fine w p s → Sound w' p → edge w' (p .nodes) (p .block) ≡ edge w (p .nodes) (p .block) → Fine w' p s
+fine-words h k e =
+    record { sound = k; nested = h .nested; room = omega (arith, h .room, e); constants = h .constants; globals = h .globals; functions = h .functions; written = h .written; result = h .result }
+
+-- ---- a change below the links, or between the locals and the heads
+
+-- where the words from a up to b lie: constants, frames, captures, globals; or pending code
+abbrev pub Clear : (w : List ℕ) (p : Scope) (a b : ℕ) → Type 0
+Clear w p a b = ((c : ℕ) → 4688 ≤ c → c < 5724 + 2 * p .nodes + edge w (p .nodes) (p .block) → a ≤ c → b ≤ c) × ((c : ℕ) → 12288 + 11 * p .nodes ≤ c → a ≤ c → b ≤ c)
+
+module _ {w w' : List ℕ} {p : Scope} {a b : ℕ} (h : Sound w p) (only : Only w w' a b) (clear : Clear w p a b) (firsts : (j : ℕ) → j ≤ p .depth → first w' j ≡ first w j) where
+  clear-locals : Same w w' (5724 + 2 * p .nodes) (5724 + 2 * p .nodes + edge w (p .nodes) (p .block))
+  clear-locals = record { same = λ i x y. only .other i (clear .0 i (omega arith) y) }
+
+  pub clear-edges : (i : ℕ) → i ≤ p .block → edge w' (p .nodes) i ≡ edge w (p .nodes) i
+  clear-edges i x = only .other (5708 + p .nodes + i) (clear .0 (5708 + p .nodes + i) (omega arith) (omega (arith, h .blocks)))
+
+  pub sound-clear : Sound w' p
+  sound-clear =
+      sound-again h (only .length) firsts clear-edges
+      (linked-same w w' (p .nodes) (edge w (p .nodes) (p .block)) (omega (arith, h .count))
+      (record { same = λ i x y. only .other i (clear .0 i x (omega arith)) })
+      (record { same = λ i x y. only .other i (clear .1 i x) })
+      clear-locals
+      (h .linked))
+
+  pub kept-clear : ((j : ℕ) → j ≤ p .depth → saved w' j ≡ saved w j) → ((j : ℕ) → j < p .depth → registers w' j ≡ registers w j) → Kept w p w'
+  kept-clear ss rs =
+      record { same = only .length; firsts = firsts; saves = ss; outer = rs; edges = λ i x. clear-edges i (omega arith); offsets = λ i x. only .other i (clear .1 i (omega arith)) }
+
+  -- the blocks of the open functions
+  pub clear-blocks : (x e : ℕ) → e ≤ p .block → span (block w' (p .nodes)) x e ≡ span (block w (p .nodes)) x e
+  clear-blocks x e le =
+      blocks-same w w' (p .nodes) x e (edge w (p .nodes) (p .block))
+      (record { same = λ i y z. only .other i (clear .0 i (omega arith) (omega (arith, h .blocks))) })
+      clear-locals
+      (λ i y. edges-below w (p .nodes) (p .block) (h .sorted) (suc i) (omega arith))
+
+-- ---- a change that is apart from frames and captures too: the functions are as they were
+
+module _ {w w' : List ℕ} {p : Scope} {a b : ℕ} (h : Sound w p) (shallow : p .depth ≤ 7) (only : Only w w' a b) (clear : Clear w p a b) (frames : Same w w' 3072 4168) where
+  apart-firsts : (j : ℕ) → j ≤ p .depth → first w' j ≡ first w j
+  apart-firsts j x = frames .same (3075 + 8 * j) (omega arith) (omega arith)
+
+  pub sound-apart : Sound w' p
+  sound-apart = sound-clear h only clear apart-firsts
+
+  pub kept-apart : Kept w p w'
+  kept-apart =
+      kept-clear h only clear apart-firsts
+      (λ j x. frames .same (3076 + 8 * j) (omega arith) (omega arith))
+      (λ j x. ap (λ y. y % 256) (frames .same (3073 + 8 * j) (omega arith) (omega arith)))
+
+  pub edge-apart : edge w' (p .nodes) (p .block) ≡ edge w (p .nodes) (p .block)
+  edge-apart = clear-edges h only clear apart-firsts (p .block) (omega arith)
+
+  pub open-apart : open-at w' (p .nodes) (p .depth) (p .block) (p .loops) ≡ open-at w (p .nodes) (p .depth) (p .block) (p .loops)
+  unfolding open-at
+  open-apart =
+      rw
+      (frames .same (3072 + 8 * p .depth) (omega arith) (omega arith), frames .same (3073 + 8 * p .depth) (omega arith) (omega arith), frames .same (3074 + 8 * p .depth) (omega arith) (omega arith), frames .same (3075 + 8 * p .depth) (omega arith) (omega arith), clear-blocks h only clear apart-firsts (first w (p .depth)) (p .block) (omega arith), captures-same w w' (p .depth) (held w (p .depth)) (omega (arith, below-256 (getD w (3074 + 8 * p .depth) 0))) (same-part (3144 + 128 * p .depth) (3144 + 128 * suc (p .depth)) (omega arith) (omega arith) frames))
+
+  pub around-apart : around w' (p .nodes) (p .depth) ≡ around w (p .nodes) (p .depth)
+  around-apart =
+      around-same w w' (p .nodes) (p .depth)
+      (record {
+        frames = λ j k x y. frames .same (3072 + 8 * j + k) (omega arith) (omega arith);
+        firsts = apart-firsts;
+        saves = λ j x. frames .same (3076 + 8 * j) (omega arith) (omega arith);
+        captures = λ j x. same-part (3144 + 128 * j) (3144 + 128 * suc j) (omega arith) (omega arith) frames;
+        blocks = λ j x. clear-blocks h only clear apart-firsts (first w j) (first w (suc j)) (omega (arith, h .starts (suc j) x));
+      })
+
+  pub taken-apart : (d : ℕ) → d ≤ p .depth → taken w' d ≡ taken w d
+  unfolding taken
+  taken-apart zero x = ap (λ y. y % 256) (frames .same 3073 (omega arith) (omega arith))
+  taken-apart (suc d) x = ap₂ (λ y z. y % 256 + z) (frames .same (3073 + 8 * suc d) (omega arith) (omega arith)) (taken-apart d (omega arith))
