@@ -14,6 +14,7 @@ pub mod Grows
 pub mod Imaged
 pub mod Safe
 pub mod Computing
+pub mod Quick
 pub mod Starred
 pub mod Large
 pub mod Limits
