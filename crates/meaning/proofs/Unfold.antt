@@ -16,8 +16,8 @@ use lib.Seq.{getD-drop}
 use lib.Dec.{eqb, leb, ltb}
 use borrow.Author.Tests.{eq-eqb, eqb-true, ltb-true, leb-true, eqb-false, not-true}
 use Rattle.meaning.specs.Fields.{Field, field-at, no-field}
-use Rattle.meaning.specs.Grammar.{Item, never, name, op, op12, expr, stmt, elif, method, init, bounds, bound, inside, absent, names, lawful, grammar, items-of, items-for, fits, tags-of, shape-at}
 use Rattle.meaning.specs.Grammar.{super as superkind}
+use Rattle.meaning.specs.Grammar.{Item, never, name, op, op12, expr, stmt, elif, method, init, bounds, bound, inside, absent, names, lawful, grammar, items-of, items-for, fits, tags-of, shape-at}
 use Rattle.meaning.specs.Syntax.{Expr, unary, binary, logical, call, function, and-expr, Stmt, expression, block, while, for-in, try, define, no-stmt, and-stmt, Elifs, and-elif, Fun, fun, and-fun, no-super, super}
 use Rattle.meaning.specs.Read.{Readers, Reader, at, token, tokens, readers, read-program, words-at, exprs, stmts, funs, elifs, initializer, superclass, no-expression, no-statement, expr-readers, stmt-readers, read-expr, read-stmt, read-fun, read-if}
 use Rattle.meaning.specs.At.{tag-of, word-of, expr-at, stmt-at, fun-at, variable-at, elif-at, readers-at, ExprBelow, StmtBelow, TagBelow}
@@ -158,16 +158,15 @@ module _ (ts : List ℕ) (i : ℕ) (r r′ : Readers) (s : Same ts i r r′) whe
   expr-locals : Each (Local Expr) 0x00 grammar expr-readers
   unfolding grammar
   expr-locals =
-      let E = s .expr in
       (λ ws d. refl)
       & (λ ws d. refl)
       & (λ ws d. refl)
       & (λ ws d. refl)
       & (λ ws d. refl)
-      & (λ ws d. ap (unary i (at ws 0) (at ws 1)) (E _ (d .1 .1 .0)))
-      & (λ ws d. ap₂ (binary i (at ws 0) (at ws 1)) (E _ (d .1 .1 .0)) (E _ (d .1 .1 .1 .0)))
-      & (λ ws d. ap₂ (logical i (at ws 0) (at ws 1)) (E _ (d .1 .1 .0)) (E _ (d .1 .1 .1 .0)))
-      & (λ ws d. ap₂ (λ f xs. call i f (at ws 1) xs) (E _ (d .0)) (exprs-same (drop 2 ws) (d .1 .1 .1)))
+      & (λ ws d. ap (unary i (at ws 0) (at ws 1)) (s .expr _ (d .1 .1 .0)))
+      & (λ ws d. ap₂ (binary i (at ws 0) (at ws 1)) (s .expr _ (d .1 .1 .0)) (s .expr _ (d .1 .1 .1 .0)))
+      & (λ ws d. ap₂ (logical i (at ws 0) (at ws 1)) (s .expr _ (d .1 .1 .0)) (s .expr _ (d .1 .1 .1 .0)))
+      & (λ ws d. ap₂ (λ f xs. call i f (at ws 1) xs) (s .expr _ (d .0)) (exprs-same (drop 2 ws) (d .1 .1 .1)))
       & (λ ws d. ap (function i (tokens (take (2 * at ws 0) (drop 1 ws)))) (stmts-same (drop (1 + 2 * at ws 0) ws) (d .2 .1)))
       & tt
 
@@ -186,20 +185,18 @@ module _ (ts : List ℕ) (i : ℕ) (r r′ : Readers) (s : Same ts i r r′) whe
   stmt-locals : Each (Local Stmt) 0x10 (drop 0x10 grammar) stmt-readers
   unfolding grammar items-of
   stmt-locals =
-      let E = s .expr in
-      let S = s .stmt in
-      (λ ws d. ap (expression i) (E _ (d .0)))
-      & (λ ws d. ⊎-elim (λ q. rw (eq-eqb (length ws) 2 q)) (λ q. rw (E _ (q .0))) (d .1 .1))
+      (λ ws d. ap (expression i) (s .expr _ (d .0)))
+      & (λ ws d. ⊎-elim (λ q. rw (eq-eqb (length ws) 2 q)) (λ q. rw (s .expr _ (q .0))) (d .1 .1))
       & (λ ws d. ap (block i) (stmts-same ws (d .1)))
-      & (λ ws d. ap₂ (while i (at ws 0)) (E _ (d .1 .0)) (S _ (d .1 .1 .0)))
-      & (λ ws d. rw (init-same _ (d .1 .0), E _ (d .1 .1 .0), E _ (d .1 .1 .1 .0), S _ (d .1 .1 .1 .1 .0)))
-      & (λ ws d. ap₂ (λ e b. for-in i (at ws 0) e b (tokens (drop 3 ws))) (E _ (d .1 .0)) (S _ (d .1 .1 .0)))
+      & (λ ws d. ap₂ (while i (at ws 0)) (s .expr _ (d .1 .0)) (s .stmt _ (d .1 .1 .0)))
+      & (λ ws d. rw (init-same _ (d .1 .0), s .expr _ (d .1 .1 .0), s .expr _ (d .1 .1 .1 .0), s .stmt _ (d .1 .1 .1 .1 .0)))
+      & (λ ws d. ap₂ (λ e b. for-in i (at ws 0) e b (tokens (drop 3 ws))) (s .expr _ (d .1 .0)) (s .stmt _ (d .1 .1 .0)))
       & (λ ws d. refl)
       & (λ ws d. refl)
-      & (λ ws d. ⊎-elim (λ q. rw (eq-eqb (length ws) 1 q)) (λ q. rw (E _ (q .0))) (d .1))
+      & (λ ws d. ⊎-elim (λ q. rw (eq-eqb (length ws) 1 q)) (λ q. rw (s .expr _ (q .0))) (d .1))
       & if-local
       & (λ ws d. refl)
-      & (λ ws d. ap₂ (λ a b. try i a (token (at ws 1) (at ws 2)) b) (S _ (d .0)) (S _ (d .1 .1 .1 .0)))
+      & (λ ws d. ap₂ (λ a b. try i a (token (at ws 1) (at ws 2)) b) (s .stmt _ (d .0)) (s .stmt _ (d .1 .1 .1 .0)))
       & (λ ws d. ap define (fun-local ws d))
       & (λ ws d. rw (super-same _ (d .1 .1 .0), funs-same (take (at ws 3) (drop 4 ws)) (d .1 .1 .1 .1), funs-same (drop (4 + at ws 3) ws) (d .1 .1 .1 .2 .1)))
       & tt

@@ -18,8 +18,8 @@ use lib.Dec.{eqb, ltb}
 use borrow.Author.Tests.{eq-eqb, ne-eqb, lt-ltb, le-ltb}
 use Rattle.meaning.specs.Base.{count}
 use Rattle.meaning.specs.Fields.{Field, fields}
-use Rattle.meaning.specs.Grammar.{Item, never, name, mark, expr, stmt, elif, method, init, absent, names, lawful, grammar, items-of, tags-of, shape-at}
 use Rattle.meaning.specs.Grammar.{super as superkind}
+use Rattle.meaning.specs.Grammar.{Item, never, name, mark, expr, stmt, elif, method, init, absent, names, lawful, grammar, items-of, tags-of, shape-at}
 use Rattle.meaning.specs.Tree.{all-kids}
 use Rattle.meaning.specs.Check.{checked}
 use Rattle.meaning.specs.declared.Outcome.the-variants.{Accepted}
@@ -107,16 +107,15 @@ module _ (own : ℕ → ℕ) where
     expr-adds : Each (Adds (weight-expr own)) 0x00 grammar expr-readers
     unfolding grammar weight-expr names sum-of
     expr-adds =
-        let E = s .expr in
         (λ ws d n. absurd (none-lawful ts i _ (d .0)))
         & (λ ws d n. omega arith)
         & (λ ws d n. omega arith)
         & (λ ws d n. omega arith)
         & (λ ws d n. omega arith)
-        & (λ ws d n. omega (arith, E _ (d .1 .1 .0)))
-        & (λ ws d n. omega (arith, E _ (d .1 .1 .0), E _ (d .1 .1 .1 .0)))
-        & (λ ws d n. omega (arith, E _ (d .1 .1 .0), E _ (d .1 .1 .1 .0)))
-        & (λ ws d n. omega (arith, E _ (d .0), exprs-weight (drop 2 ws) (d .1 .1 .1)))
+        & (λ ws d n. omega (arith, s .expr _ (d .1 .1 .0)))
+        & (λ ws d n. omega (arith, s .expr _ (d .1 .1 .0), s .expr _ (d .1 .1 .1 .0)))
+        & (λ ws d n. omega (arith, s .expr _ (d .1 .1 .0), s .expr _ (d .1 .1 .1 .0)))
+        & (λ ws d n. omega (arith, s .expr _ (d .0), exprs-weight (drop 2 ws) (d .1 .1 .1)))
         & (λ ws d n. omega (arith, pairs-weight (take (2 * at ws 0) (drop 1 ws)), stmts-weight (drop (1 + 2 * at ws 0) ws) (d .2 .1)))
         & tt
 
@@ -135,20 +134,18 @@ module _ (own : ℕ → ℕ) where
     stmt-adds : Each (Adds (weight-stmt own)) 0x10 (drop 0x10 grammar) stmt-readers
     unfolding grammar items-of weight-expr names sum-of
     stmt-adds =
-        let E = s .expr in
-        let S = s .stmt in
-        (λ ws d n. omega (arith, E _ (d .0)))
+        (λ ws d n. omega (arith, s .expr _ (d .0)))
         & (λ ws d n. omega (arith, perhaps-weight ws 2 0x11 (let-only i (token (at ws 0) (at ws 1))) (let-as i (token (at ws 0) (at ws 1)) (r .expr (at ws 2))) refl refl (d .1 .1)))
         & (λ ws d n. omega (arith, stmts-weight ws (d .1)))
-        & (λ ws d n. omega (arith, E _ (d .1 .0), S _ (d .1 .1 .0)))
-        & (λ ws d n. omega (arith, init-weight (at ws 1) (d .1 .0), E _ (d .1 .1 .0), E _ (d .1 .1 .1 .0), S _ (d .1 .1 .1 .1 .0)))
-        & (λ ws d n. omega (arith, E _ (d .1 .0), S _ (d .1 .1 .0), pairs-weight (drop 5 ws)))
+        & (λ ws d n. omega (arith, s .expr _ (d .1 .0), s .stmt _ (d .1 .1 .0)))
+        & (λ ws d n. omega (arith, init-weight (at ws 1) (d .1 .0), s .expr _ (d .1 .1 .0), s .expr _ (d .1 .1 .1 .0), s .stmt _ (d .1 .1 .1 .1 .0)))
+        & (λ ws d n. omega (arith, s .expr _ (d .1 .0), s .stmt _ (d .1 .1 .0), pairs-weight (drop 5 ws)))
         & (λ ws d n. omega arith)
         & (λ ws d n. omega arith)
         & (λ ws d n. omega (arith, perhaps-weight ws 1 0x18 (return-none i (at ws 0)) (return i (at ws 0) (r .expr (at ws 1))) refl refl (d .1)))
         & if-adds
         & (λ ws d n. absurd (n refl))
-        & (λ ws d n. omega (arith, S _ (d .0), S _ (d .1 .1 .1 .0)))
+        & (λ ws d n. omega (arith, s .stmt _ (d .0), s .stmt _ (d .1 .1 .1 .0)))
         & fun-adds
         & (λ ws d n. omega (arith, super-weight (at ws 2) (d .1 .1 .0), funs-weight (take (at ws 3) (drop 4 ws)) (d .1 .1 .1 .1), funs-weight (drop (4 + at ws 3) ws) (d .1 .1 .1 .2 .1)))
         & tt

@@ -1,0 +1,46 @@
+-- What the functions here require holds where they are called: of every tree that the check has accepted, the table fits into the work area, and
+-- once it is filled every node may be read, also after steps that change no word of it. What is promised of the work area leaves nothing open.
+use mathlib.Core.Path.{_≡_, sym, _∙_}
+use mathlib.Core.Logic.{⊎-elim}
+use mathlib.Core.List.{List}
+use Prim.Native.Nat.{ℕ, _+_, _-_, _*_, _<_, _≤_}
+use native.Mathlib.Omega.{arith}
+use lib.ListN.{length, getD}
+use lib.Seq.{ext-getD}
+use Rattle.meaning.specs.Fields.{fields}
+use Rattle.meaning.specs.Check.{checked}
+use Rattle.meaning.specs.declared.Outcome.the-variants.{Accepted}
+use Rattle.meaning.proofs.Lists.{lt-or-le}
+use Rattle.meaning.proofs.Accepted.{accepted}
+use Rattle.nodes.specs.Offsets.{Offsets, Readable, Filled}
+use Rattle.nodes.proofs.Headers.{offsets-kept}
+
+-- the table in the work area's last n of 12,288 + 16 n words
+pub fill-allowed : (tree work : List ℕ) (n : ℕ) → checked tree (length work) ≡ Accepted n → (n ≡ length (fields tree)) × (n ≤ 32768) × (12288 + 15 * n + n ≤ length work)
+fill-allowed tree work n e = let a = accepted tree (length work) n e in (a .nodes, omega (arith, a .nodes, a .few), omega (arith, a .nodes, a .room))
+
+module _ {tree work : List ℕ} {base : ℕ} where
+  pub node-readable : Offsets tree work base → (node : ℕ) → node < length (fields tree) → Readable tree work base node
+  node-readable o node h = record { offsets = o; known = h }
+
+  pub child-readable : {node : ℕ} → Readable tree work base node → (c : ℕ) → c < node → Readable tree work base c
+  child-readable r c h = record { offsets = r .offsets; known = omega (arith, r .known) }
+
+  pub readable-kept : {work' : List ℕ} {node : ℕ} → Readable tree work base node → length work' ≡ length work
+      → ((i : ℕ) → base ≤ i → i < base + length (fields tree) → getD work' i 0 ≡ getD work i 0) → Readable tree work' base node
+  readable-kept r l same = record { offsets = offsets-kept (r .offsets) l same; known = r .known }
+
+-- any two work areas that `fill_offsets` may leave are equal
+pub filled-determined : (tree work w v : List ℕ) (base : ℕ) → Filled tree work w base → Filled tree work v base → length w ≡ length work → length v ≡ length work → w ≡ v
+filled-determined tree work w v base f g a b = ext-getD 0 w v (a ∙ sym b) (λ i h. at-word i)
+  where
+    at-word : (i : ℕ) → getD w i 0 ≡ getD v i 0
+    at-word i =
+        ⊎-elim (λ (p : i < base). f .under i p ∙ sym (g .under i p))
+        (λ (p : base ≤ i). ⊎-elim
+        (λ (q : i < base + length (fields tree)).
+        let z : base + (i - base) ≡ i = omega arith in
+        rw z at (f .offsets .each (i - base) (omega arith) ∙ sym (g .offsets .each (i - base) (omega arith))))
+        (λ (q : base + length (fields tree) ≤ i). f .over i q ∙ sym (g .over i q))
+        (lt-or-le i (base + length (fields tree))))
+        (lt-or-le i base)

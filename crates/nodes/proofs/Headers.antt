@@ -1,0 +1,135 @@
+-- Field i of a tree stands at byte `header tree i`: what a reader of a node and the walk that fills the table go by.
+use mathlib.Core.Path.{_≡_, refl, sym, ap, _∙_}
+use mathlib.Core.Bool.{Bool, true, false}
+use mathlib.Core.List.{List}
+use Prim.Native.Nat.{ℕ, zero, suc, _+_, _-_, _*_, _<_, _≤_}
+use native.Mathlib.Nat.{add-zero}
+use native.Mathlib.Numerals.{add-one}
+use native.Mathlib.Omega.{arith}
+use lib.ListN.{length, getD, take, drop, set, length-drop, length-set}
+use lib.Seq.{drop-drop, getD-drop, getD-set-same, getD-set-other}
+use borrow.Author.Count.{below-more}
+use Rattle.meaning.specs.Fields.{word-at, span, whole, Field, front, rest, fields, field-at}
+use Rattle.meaning.specs.At.{tag-of}
+use Rattle.meaning.proofs.Lists.{tail-part}
+use Rattle.meaning.proofs.FieldLaws.{whole-true, fields-whole, fields-cut}
+use Rattle.nodes.specs.Offsets.{header, Offsets, Readable, Filled}
+
+-- where there is a field, a whole one stands at the front
+some-whole : (s : List ℕ) → 1 ≤ length (fields s) → whole s ≡ true
+some-whole s h = go (whole s) refl
+  where
+    go : (b : Bool) → whole s ≡ b → whole s ≡ true
+    go true w = w
+    go false w = absurd (omega (arith, ap length (fields-cut s w)))
+
+-- what stands at field i's header
+pub record Stands (s : List ℕ) (i : ℕ) : Type 0 where
+  pub entire : whole (drop (header s i) s) ≡ true
+  pub same : field-at (fields s) i ≡ front (drop (header s i) s)
+
+pub stands : (s : List ℕ) (i : ℕ) → i < length (fields s) → Stands s i
+unfolding header
+stands s zero h =
+    let w = some-whole s (omega arith) in
+    record { entire = w; same = ap (λ (fs : List Field). field-at fs 0) (fields-whole s w) }
+stands s (suc i) h =
+    let w = some-whole s (omega arith) in
+    let r = stands (rest s) i (omega (arith, ap length (fields-whole s w))) in
+    let d = drop-drop (header (rest s) i) (span s) s in
+    record { entire = rw d at (r .entire); same = ap (λ (fs : List Field). field-at fs (suc i)) (fields-whole s w) ∙ (rw d at (r .same)) }
+
+-- the next header stands a field's span further
+header-next : (s : List ℕ) (i : ℕ) → header s (suc i) ≡ header s i + span (drop (header s i) s)
+unfolding header
+header-next s zero = omega arith
+header-next s (suc i) =
+    let r = rw (drop-drop (header (rest s) i) (span s) s) at (header-next (rest s) i) in
+    omega arith
+
+-- the length that the header at n says
+pub size-drop : (s : List ℕ) (n : ℕ) → word-at (drop n s) 1 ≡ word-at s (n + 1)
+size-drop s n =
+    let z : n + 1 + 1 ≡ n + 2 = omega arith in
+    rw (getD-drop n s 1 0, getD-drop n s 2 0, z)
+
+-- ---- a reader's view: the bytes at the offset that the table has
+
+module _ {tree work : List ℕ} {base node : ℕ} (h : Readable tree work base node) where
+  -- the offset's word is in the table
+  pub entry-inside : base + node < length work
+  entry-inside = omega (arith, h .offsets .inside, h .known)
+
+  module _ (start : ℕ) (e : start ≡ getD work (base + node) 0) where
+    here : (whole (drop start tree) ≡ true) × (field-at (fields tree) node ≡ front (drop start tree))
+    here = let r = stands tree node (h .known) in rw (e ∙ h .offsets .each node (h .known)) (r .entire, r .same)
+
+    pub field-inside : start + 3 + word-at tree (start + 1) ≤ length tree
+    field-inside = omega (arith, whole-true (drop start tree) (here .0), length-drop start tree, size-drop tree start)
+
+    pub tag-is : getD tree start 0 ≡ tag-of (fields tree) node
+    tag-is = sym (ap (λ (f : Field). f .tag) (here .1) ∙ getD-drop start tree 0 0 ∙ ap (λ (n : ℕ). getD tree n 0) (add-zero start))
+
+    pub payload-is : take (word-at tree (start + 1)) (drop (start + 3) tree) ≡ field-at (fields tree) node .payload
+    payload-is = rw (here .1, size-drop tree start, drop-drop 3 start tree)
+
+-- ---- the table
+
+-- what changes no word of the table keeps it
+pub offsets-kept : {tree work work' : List ℕ} {base : ℕ} → Offsets tree work base → length work' ≡ length work
+    → ((i : ℕ) → base ≤ i → i < base + length (fields tree) → getD work' i 0 ≡ getD work i 0) → Offsets tree work' base
+offsets-kept {base = base} o l same = record {
+  inside = omega (arith, o .inside);
+  each = λ i h. same (base + i) (omega arith) (omega arith) ∙ o .each i h;
+}
+
+-- the work area while the table is filled: i offsets are there, and t is the tree from the next header on
+pub record Filling (tree work work' : List ℕ) (base n i at : ℕ) (t : List ℕ) : Type 0 where
+  pub few : i ≤ n
+  pub start : at ≡ header tree i
+  pub left : t ≡ drop at tree
+  pub low : at ≤ 65538 * i
+  pub length-same : length work' ≡ length work
+  pub each : (j : ℕ) → j < i → getD work' (base + j) 0 ≡ header tree j
+  pub under : (j : ℕ) → j < base → getD work' j 0 ≡ getD work j 0
+  pub over : (j : ℕ) → base + i ≤ j → getD work' j 0 ≡ getD work j 0
+
+pub filling-start : (tree work : List ℕ) (base n : ℕ) → Filling tree work work base n 0 0 tree
+unfolding header
+filling-start tree work base n = record {
+  few = omega arith;
+  start = refl;
+  left = refl;
+  low = omega arith;
+  length-same = refl;
+  each = λ j h. absurd (omega arith);
+  under = λ j h. refl;
+  over = λ j h. refl;
+}
+
+-- a whole field stands at the next header
+pub filling-whole : {tree work work' : List ℕ} {base n i at : ℕ} {t : List ℕ} → Filling tree work work' base n i at t → n ≡ length (fields tree) → i < n → span t ≤ length t
+filling-whole {tree} {i = i} {t = t} f e h = whole-true t (rw (f .left, f .start) (stands tree i (omega arith) .entire))
+
+pub filling-more : {tree work work' : List ℕ} {base n i at : ℕ} {t : List ℕ} → Filling tree work work' base n i at t → base + n ≤ length work → i < n
+    → (k : ℕ) → k ≡ span t → k ≤ 65538 → Filling tree work (set work' (base + i) at) base n (i + 1) (at + k) (take (length t - k) (drop k t))
+filling-more {tree} {work} {work'} {base} {n} {i} {at} {t} f room h k e s = record {
+  few = omega arith;
+  start = rw add-one (omega (arith, header-next tree i, rw (f .left, f .start) at e, f .start));
+  left = tail-part k t ∙ (rw (f .left) (drop-drop k at tree));
+  low = omega (arith, f .low);
+  length-same = length-set work' (base + i) at ∙ f .length-same;
+  each = below-more (λ j. getD (set work' (base + i) at) (base + j) 0 ≡ header tree j) i (λ j b. getD-set-other work' (base + i) (base + j) at 0 (λ q. omega arith) ∙ f .each j b)
+      (getD-set-same work' (base + i) at 0 (omega (arith, f .length-same)) ∙ f .start);
+  under = λ j b. getD-set-other work' (base + i) j at 0 (λ q. omega arith) ∙ f .under j b;
+  over = λ j b. getD-set-other work' (base + i) j at 0 (λ q. omega arith) ∙ f .over j (omega arith);
+}
+
+-- the table is full
+pub filling-end : {tree work work' : List ℕ} {base n i at : ℕ} {t : List ℕ} → Filling tree work work' base n i at t → n ≡ length (fields tree) → base + n ≤ length work → n ≤ i
+    → Filled tree work work' base
+filling-end f e room h = record {
+  offsets = record { inside = omega (arith, f .length-same); each = λ i b. f .each i (omega (arith, f .few)) };
+  under = f .under;
+  over = λ j b. f .over j (omega (arith, f .few));
+}

@@ -1,0 +1,2 @@
+-- Where the nodes of a tree file stand.
+pub mod Offsets
