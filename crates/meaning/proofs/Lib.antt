@@ -16,5 +16,3 @@ pub mod Safe
 pub mod Computing
 pub mod Quick
 pub mod Starred
-pub mod Large
-pub mod Limits
