@@ -1,9 +1,10 @@
 -- 01, "A constant is a binary64 number, a text or another literal; numbers keep their bits"; and the numbers that Addi takes.
 use Prim.Native.Nat.{ℕ, zero}
-use mathlib.Core.Bool.{Bool, true, false, cond}
+use mathlib.Core.Bool.{Bool, true, false, not, cond}
 use mathlib.Core.Option.{Option, none, some}
+use lib.Dec.{T}
 use lib.IntN.{pos}
-use lib.Ieee.{Float, fin, binary64, ofBits, toBits, toUnsigned, eq}
+use lib.Ieee.{Float, fin, binary64, ofBits, toBits, toUnsigned, eq, isNan}
 use Rattle.meaning.specs.declared.Literal.{Literal}
 use Rattle.meaning.specs.declared.Literal.the-variants.{Number, NotANumber, Text, Other}
 
@@ -17,6 +18,13 @@ constant-of (Number x) = number (toBits binary64 x)
 constant-of (NotANumber bits) = number bits
 constant-of (Text name) = text name
 constant-of (Other word) = other word
+
+-- a number is no NaN: a NaN has a case of its own, since `f64::to_bits` is undefined there
+abbrev pub Proper : Literal → Type 0
+Proper (Number x) = T (not (isNan x))
+Proper (NotANumber bits) = Unit {0}
+Proper (Text name) = Unit {0}
+Proper (Other word) = Unit {0}
 
 -- `n as u8` where the number equals it by IEEE 754's comparison (n.fract() == 0.0 && n >= 0.0 && n < 256.0)
 unfoldable pub small-value : Float → Option ℕ
