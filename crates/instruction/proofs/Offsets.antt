@@ -1,18 +1,20 @@
 -- The signed reading. Below 32,768 a number reads as itself; from there on, being 65,536 less some k + 1, it reads as -(k + 1).
--- So what is stored for an offset is read back as that offset: `inverse`, one law over every offset of 16 bits,
--- -32,768 to 32,767. A function of at most 32,767 instructions holds no other.
-use Prim.Native.Nat.{ℕ, zero, suc, _-_, _/_, _%_, _<_, _≤_}
+-- So what is stored for an offset is read back as that offset: `inverse`, one law over every offset of 16 bits, -32,768 to 32,767.
+-- A function of at most 32,767 instructions holds no other. `target-read`: where demand 3's steps send a Jmp is where this reading does.
+use Prim.Native.Nat.{ℕ, zero, suc, _+_, _-_, _/_, _%_, _<_, _≤_}
 use mathlib.Core.Path.{_≡_, refl, sym, _∙_}
 use mathlib.Core.Bool.{Bool, true, false}
+use mathlib.Core.Option.{Option, none, some}
 use native.Mathlib.Omega.{arith}
 use lib.Dec.{ltb}
-use lib.IntN.{ℤ, pos, negsuc, negℤ, _-ℤ_}
+use lib.IntN.{ℤ, pos, negsuc, negℤ, _+ℤ_, _-ℤ_}
 use lib.Signed.{mag}
-use borrow.Author.Tests.{lt-ltb, le-ltb, ltb-true, ltb-false}
+use borrow.Author.Tests.{lt-ltb, le-ltb, ltb-true, ltb-false, le-leb, lt-leb}
 use mir.Syntax.{w16, w32}
 use mir.Val.{SFits, toZ, ofZ}
 use mir.Facts.{toZ-pos, toZ-ofZ}
 use Rattle.meaning.specs.Opcode.{wide, bx, back}
+use Rattle.meaning.specs.Steps.{target}
 use Rattle.instruction.specs.Offset.{signed, sbx, stored, halves-of}
 
 -- ---- what `reading` and `sbx` ask
@@ -85,3 +87,33 @@ read-forward op a mark n h = inverse op a mark (pos n) (omega arith)
 pub read-backward : (op a mark n : ℕ) → n ≤ 32768 → sbx (wide op a (back n) mark) ≡ negℤ (pos n)
 read-backward op a mark zero h = inverse op a mark (pos 0) (omega arith)
 read-backward op a mark (suc k) h = inverse op a mark (negsuc k) (omega arith)
+
+-- ---- demand 3's steps
+
+-- an instruction's index; before the first there is none
+abbrev pub index : ℤ → Option ℕ
+index (pos n) = some n
+index (negsuc n) = none
+
+low-target : (i w : ℕ) → w < 32768 → target i w ≡ index (pos i +ℤ signed w)
+low-target i w h = rw (lt-ltb w 32768 h)
+
+high-target : (i w k : ℕ) → 32768 ≤ w → 65536 - w ≡ suc k → (before : Bool) → ltb i (suc k) ≡ before → target i w ≡ index (pos i +ℤ negsuc k)
+high-target i w k h e true b =
+    let l = ltb-true i (suc k) b in
+    rw (le-ltb w 32768 h, b, lt-leb 65536 (i + w) (omega (arith, l, e)))
+high-target i w k h e false b =
+    let l = ltb-false i (suc k) b in
+    let d : i + w - 65536 ≡ i - suc k = omega (arith, l, e) in
+    rw (le-ltb w 32768 h, b, le-leb 65536 (i + w) (omega (arith, l, e)), d)
+
+target-by : (i w : ℕ) → w < 65536 → (low : Bool) → ltb w 32768 ≡ low → target i w ≡ index (pos i +ℤ signed w)
+target-by i w f true e = low-target i w (ltb-true w 32768 e)
+target-by i w f false e =
+    let h = ltb-false w 32768 e in
+    let k = below w h f in
+    rw (reads-high w (k .0) h (k .1)) (high-target i w (k .0) h (k .1) (ltb i (suc (k .0))) refl)
+
+-- a Jmp leads to its index plus what `sbx` reads
+pub target-read : (i w : ℕ) → w < 65536 → target i w ≡ index (pos i +ℤ signed w)
+target-read i w f = target-by i w f (ltb w 32768) refl
