@@ -7,3 +7,4 @@ pub mod Steady
 pub mod Steps
 pub mod Compose
 pub mod Registers
+pub mod Pools

@@ -39,6 +39,13 @@ a-register = gives 3 1 0
 abbrev pub a-local : Cost
 a-local = uses 1 1 0
 
+-- a constant pays for the name of a global
+abbrev pub a-constant : Cost
+a-constant = gives 0 0 1
+
+abbrev pub a-global : Cost
+a-global = uses 0 0 1
+
 -- the cost of one step and another
 abbrev pub both : Cost → Cost → Cost
 both u v =

@@ -1,8 +1,10 @@
 -- What the words, a step and a scope stand for: the definition's State and the pending code. This is the abstraction that every contract cites.
 use Prim.Native.Nat.{ℕ, zero, suc, _+_, _*_, _%_, _<_, _≤_}
 use mathlib.Core.Path.{_≡_}
+use mathlib.Core.Bool.{Bool, _&&_}
 use mathlib.Core.List.{List, [], _∷_}
 use lib.ListN.{length, getD, take}
+use lib.Dec.{eqb}
 use Rattle.store.specs.declared.Step.{Step}
 use Rattle.store.specs.declared.Scope.{Scope}
 use Rattle.store.specs.Table.{tab, stack, span}
@@ -69,6 +71,10 @@ inner p = record { nodes = p .nodes; depth = p .depth + 1; block = p .block + 1;
 -- the main function's
 abbrev pub main-scope : (nodes : ℕ) → Scope
 main-scope n = record { nodes = n; depth = 0; block = 1; loops = 0 }
+
+-- one open function with one open block
+abbrev pub global-scope : Scope → Bool
+global-scope p = eqb (p .depth) 0 && eqb (p .block) 1
 
 -- ---- steps
 

@@ -2,12 +2,16 @@ ghost use mathlib.Core.Path.{_≡_};
 ghost use mathlib.Core.List.{List};
 ghost use Prim.Native.Nat.{ℕ, _+_, _*_, _/_, _%_, _<_, _≤_};
 ghost use lib.ListN.{length};
-ghost use Rattle.meaning.specs.State.{next-register};
+ghost use Rattle.meaning.specs.State.{next-register, add-constant, add-global, among, is-global-context, is-global-var};
+ghost use Rattle.meaning.specs.Constant.{number, text, constant-of, Proper};
 ghost use Rattle.meaning.specs.Expressions.{next-registers};
-ghost use Rattle.forward.specs.Forward.{fwd-number, fwd-zero};
+ghost use Rattle.forward.specs.Forward.{fwd-number, fwd-unit, fwd-zero};
 ghost use Rattle.store.specs.Half.{half, with-half};
-ghost use Rattle.store.specs.Store.{refused-step, with-result, Fine};
-ghost use Rattle.store.specs.Promise.{a-register, some-registers, Leaf};
+ghost use Rattle.store.specs.Table.{stack};
+ghost use Rattle.store.specs.Layout.{constant-by, global-at};
+ghost use Rattle.store.specs.declared.Step.{Step};
+ghost use Rattle.store.specs.Store.{refused-step, with-result, while-going, global-scope, Sound, Fine};
+ghost use Rattle.store.specs.Promise.{a-register, some-registers, a-constant, a-global, Leaf, Tells};
 
 // Module 3 of document 01: registers, blocks, locals, captures, globals and constants in the lent work area. specs/Layout.antt has its table.
 
@@ -134,4 +138,116 @@ pub fn next_registers(work: &mut [u32], step: Step, scope: Scope, node: usize, n
     }
     work[at] = register + more;
     settle(step, 0)
+}
+
+// ---- constants
+
+// self.constants.push(..), by kind, high word and low word; the constant's index is the result.
+fn push_constant(
+    work: &mut [u32],
+    step: Step,
+    scope: Scope,
+    kind: u32,
+    high: u32,
+    low: u32,
+    node: usize,
+) -> Step
+    requires { ⌜ Fine (now work) scope step ⌝ }
+    ensures { λ r. ⌜ Leaf (now (work .entry)) scope step (now (work .exit)) scope r a-constant (fwd-number (add-constant node (constant-by kind high low))) ⌝ }
+{
+    let o = step.outcome;
+    let meaning::Outcome::Accepted(_) = o else {
+        return step;
+    };
+    let k = step.constants;
+    if k == 1024 {
+        return refuse(step, meaning::Cause::Constants, node);
+    }
+    let at = 3 * k;
+    work[at] = kind;
+    work[at + 1] = high;
+    work[at + 2] = low;
+    let mut next = step;
+    next.constants = k + 1;
+    next.result = k as u32;
+    next
+}
+
+fn push_number(work: &mut [u32], step: Step, scope: Scope, bits: u64, node: usize) -> Step
+    requires { ⌜ Fine (now work) scope step ⌝ }
+    ensures { λ r. ⌜ Leaf (now (work .entry)) scope step (now (work .exit)) scope r a-constant (fwd-number (add-constant node (number bits))) ⌝ }
+{
+    let high = (bits / 4294967296) as u32;
+    let low = (bits % 4294967296) as u32;
+    push_constant(work, step, scope, 1, high, low, node)
+}
+
+// The constant of a literal.
+pub fn add_constant(
+    work: &mut [u32],
+    step: Step,
+    scope: Scope,
+    literal: meaning::Literal,
+    node: usize,
+) -> Step
+    requires { ⌜ Fine (now work) scope step × Proper literal ⌝ }
+    ensures { λ r. ⌜ Leaf (now (work .entry)) scope step (now (work .exit)) scope r a-constant (fwd-number (add-constant node (constant-of literal))) ⌝ }
+{
+    match literal {
+        meaning::Literal::Number(x) => push_number(work, step, scope, f64::to_bits(x), node),
+        meaning::Literal::NotANumber(bits) => push_number(work, step, scope, bits, node),
+        meaning::Literal::Text(name) => push_constant(work, step, scope, 2, 0, name as u32, node),
+        meaning::Literal::Other(word) => push_constant(work, step, scope, 3, 0, word as u32, node),
+    }
+}
+
+// The constant of a name.
+pub fn add_name(work: &mut [u32], step: Step, scope: Scope, name: usize, node: usize) -> Step
+    requires { ⌜ Fine (now work) scope step × (name < 65536) ⌝ }
+    ensures { λ r. ⌜ Leaf (now (work .entry)) scope step (now (work .exit)) scope r a-constant (fwd-number (add-constant node (text name))) ⌝ }
+{
+    push_constant(work, step, scope, 2, 0, name as u32, node)
+}
+
+// ---- globals
+
+// fn is_global_context
+pub fn is_global_context(scope: Scope) -> bool
+    ensures { λ r. ⌜ (r ≡ global-scope scope) × ((w : List ℕ) (s : Step) → Sound w scope → Tells w scope s r is-global-context) ⌝ }
+{
+    if scope.depth == 0 {
+        scope.block == 1
+    } else {
+        false
+    }
+}
+
+// fn is_global_var
+pub fn is_global_var(work: &[u32], step: Step, scope: Scope, name: usize) -> bool
+    requires { ⌜ Fine (now work) scope step ⌝ }
+    ensures { λ r. ⌜ (r ≡ among name (stack (global-at (now (work .entry))) (step .globals))) × Tells (now (work .entry)) scope step r (is-global-var name) ⌝ }
+{
+    let mut i = step.globals;
+    while 0 < i {
+        i -= 1;
+        if name == half_at(work, 8336 + i) as usize {
+            return true;
+        }
+    }
+    false
+}
+
+// self.globals.insert(..)
+pub fn add_global(work: &mut [u32], step: Step, scope: Scope, name: usize) -> Step
+    requires { ⌜ Fine (now work) scope step × while-going (step .outcome) (step .globals ≤ step .constants) × (name < 65536) ⌝ }
+    ensures { λ r. ⌜ Leaf (now (work .entry)) scope step (now (work .exit)) scope r a-global (fwd-unit (add-global name)) ⌝ }
+{
+    let o = step.outcome;
+    let meaning::Outcome::Accepted(_) = o else {
+        return step;
+    };
+    set_half(work, 8336 + step.globals, name as u32);
+    let mut next = step;
+    next.globals = step.globals + 1;
+    next
 }
