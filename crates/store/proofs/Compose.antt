@@ -175,11 +175,16 @@ refused-leaf {w} {p} s k n u h = record { moves = moves (s .outcome) refl; runs 
     image (Accepted x) e = image-none s (refused-step s k n) (refused-outcome s k n e)
     image (Refused x y) e = image-same s (refused-step s k n) (sym (ap (λ (z : Step). z .outcome) (refused-again s k n e))) refl
 
+-- a question to the state, whose answer the words give
+pub told-of : {A : Type 0} (w : List ℕ) (p : Scope) (s : Step) (f : State → A) (a : A) → ((ps : List Proto) → f (state-of w p s ps) ≡ a) → Tells w p s a (get f)
+unfolding run config-of
+told-of {A} w p s f a h ps = answers-get (run w p s ps) f a (λ c e. told (s .outcome) c e)
+  where
+    told : (o : Outcome) (c : Config) → run-by o (config-of w p s ps) ≡ going c → f (c .state) ≡ a
+    told (Accepted x) c e = let g : config-of w p s ps ≡ c = cc in sym (ap (λ (y : Config). f (y .state)) g) ∙ h ps
+    told (Refused x y) c e = absurd (let z : _≡_ {A = ℕ} 0 1 = cc in omega arith)
+
 -- the number of open loops of the current function, which refusal 11 asks for
 pub loops-told : (w : List ℕ) (p : Scope) (s : Step) → Tells w p s (p .loops) (get (λ t. t .current .loops))
-unfolding run config-of state-of open-at
-loops-told w p s ps = answers-get (run w p s ps) (λ t. t .current .loops) (p .loops) (λ c e. told (s .outcome) c e)
-  where
-    told : (o : Outcome) (c : Config) → run-by o (config-of w p s ps) ≡ going c → c .state .current .loops ≡ p .loops
-    told (Accepted x) c e = let f : config-of w p s ps ≡ c = cc in sym (ap (λ (y : Config). y .state .current .loops) f)
-    told (Refused x y) c e = let z : _≡_ {A = ℕ} 0 1 = cc in absurd (omega arith)
+unfolding state-of open-at
+loops-told w p s = told-of w p s (λ t. t .current .loops) (p .loops) (λ ps. refl)

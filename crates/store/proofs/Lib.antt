@@ -6,5 +6,11 @@ pub mod Runs
 pub mod Steady
 pub mod Steps
 pub mod Compose
+pub mod Links
+pub mod Finding
+pub mod Locals
+pub mod Blocks
+pub mod Leaving
+pub mod Around
 pub mod Registers
 pub mod Pools

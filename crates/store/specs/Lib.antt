@@ -4,3 +4,4 @@ pub mod Table
 pub mod Layout
 pub mod Store
 pub mod Promise
+pub mod Search

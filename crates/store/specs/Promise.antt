@@ -2,11 +2,11 @@
 use Prim.Native.Nat.{ℕ, zero, suc, _+_, _*_, _≤_, min}
 use mathlib.Core.Path.{_≡_}
 use mathlib.Core.List.{List}
-use lib.ListN.{length}
+use lib.ListN.{length, getD}
 use Rattle.store.specs.declared.Step.{Step}
 use Rattle.store.specs.declared.Scope.{Scope}
 use Rattle.store.specs.Layout.{registers, edge, top}
-use Rattle.store.specs.Store.{run, goes-on, while-going, Image, Fine, Kept}
+use Rattle.store.specs.Store.{run, goes-on, while-going, Image, Linked, Fine, Kept}
 use Rattle.meaning.specs.State.{Proto, M}
 use Rattle.forward.specs.Forward.{Config, Run, bind, Answers}
 
@@ -124,3 +124,13 @@ pub record Does (w o : List ℕ) (p : Scope) (s : Step) (w' o' : List ℕ) (q : 
   pub moves : Moves w p s w' q r u
   pub same : length o' ≡ length o
   pub does : (ps : List Proto) → Image o s ps → After w' o' q r (bind (run w p s ps) op)
+
+-- the locals of the innermost block around p are popped: nothing but heads changed
+pub record Popped (w : List ℕ) (p : Scope) (w' : List ℕ) : Type 0 where
+  pub same : length w' ≡ length w
+  pub other : (i : ℕ) → (12288 + 11 * p .nodes ≤ i → 12288 + 15 * p .nodes ≤ i) → getD w' i 0 ≡ getD w i 0
+  pub linked : Linked w' (p .nodes) (edge w (p .nodes) (p .block))
+
+-- the cost of a step inside a block or a function: its locals are given back
+abbrev pub boxed : Cost → Cost
+boxed u = record { words = u .words; locals = 0; names = u .names; words-back = u .words-back; locals-back = 0; names-back = u .names-back }

@@ -2,16 +2,18 @@ ghost use mathlib.Core.Path.{_≡_};
 ghost use mathlib.Core.List.{List};
 ghost use Prim.Native.Nat.{ℕ, _+_, _*_, _/_, _%_, _<_, _≤_};
 ghost use lib.ListN.{length};
-ghost use Rattle.meaning.specs.State.{next-register, add-constant, add-global, among, is-global-context, is-global-var};
+ghost use mathlib.Core.Option.{none};
 ghost use Rattle.meaning.specs.Constant.{number, text, constant-of, Proper};
+ghost use Rattle.meaning.specs.State.{next-register, allocate-register, enter-block, add-constant, add-global, among, is-global-context, is-global-var, get-var-register};
 ghost use Rattle.meaning.specs.Expressions.{next-registers};
 ghost use Rattle.forward.specs.Forward.{fwd-number, fwd-unit, fwd-zero};
+ghost use Rattle.store.specs.declared.Step.{Step};
 ghost use Rattle.store.specs.Half.{half, with-half};
 ghost use Rattle.store.specs.Table.{stack};
-ghost use Rattle.store.specs.Layout.{constant-by, global-at};
-ghost use Rattle.store.specs.declared.Step.{Step};
-ghost use Rattle.store.specs.Store.{refused-step, with-result, while-going, global-scope, Sound, Fine};
-ghost use Rattle.store.specs.Promise.{a-register, some-registers, a-constant, a-global, Leaf, Tells};
+ghost use Rattle.store.specs.Layout.{constant-by, global-at, local-at};
+ghost use Rattle.store.specs.Store.{refused-step, with-result, while-going, global-scope, deeper, Sound, Fine, Kept};
+ghost use Rattle.store.specs.Promise.{nothing, a-register, some-registers, a-local, a-constant, a-global, Room, Leaf, Tells, Popped};
+ghost use Rattle.store.specs.Search.{option-of, found-of, in-byte, seek, Walkable};
 
 // Module 3 of document 01: registers, blocks, locals, captures, globals and constants in the lent work area. specs/Layout.antt has its table.
 
@@ -138,6 +140,109 @@ pub fn next_registers(work: &mut [u32], step: Step, scope: Scope, node: usize, n
     }
     work[at] = register + more;
     settle(step, 0)
+}
+
+// ---- locals
+
+// The bucket of a name.
+fn bucket(name: usize, nodes: usize) -> usize
+    requires { ⌜ (1 ≤ nodes) × (nodes ≤ 32768) ⌝ }
+    ensures { λ r. ⌜ (r ≡ name % (8 * nodes)) × (r < 8 * nodes) ⌝ }
+{
+    let buckets = 8 * nodes;
+    if name < buckets { name } else { name % buckets }
+}
+
+// The register of the latest of the locals from `start` up to `end` with that name.
+fn look(work: &[u32], nodes: usize, start: usize, end: usize, name: usize) -> Found
+    requires { ⌜ Walkable (now work) nodes end ⌝ }
+    ensures { λ r. ⌜ r ≡ found-of (seek name (local-at (now (work .entry)) nodes) start end none) ⌝ }
+{
+    let b = bucket(name, nodes);
+    let base = 5724 + 2 * nodes;
+    let mut i = half_at(work, 24576 + 22 * nodes + b) as usize;
+    while end < i {
+        i = half_at(work, 9376 + (i - 1)) as usize;
+    }
+    while start < i {
+        let x = work[base + (i - 1)];
+        let its = (x / 256) as usize;
+        if its == name {
+            return Found::At(x % 256);
+        }
+        i = half_at(work, 9376 + (i - 1)) as usize;
+    }
+    Found::Nothing
+}
+
+// fn get_var_register: a local of the current function.
+pub fn get_var_register(work: &[u32], scope: Scope, name: usize) -> Found
+    requires { ⌜ Sound (now work) scope ⌝ }
+    ensures { λ r. ⌜ ((s : Step) → Tells (now (work .entry)) scope s (option-of r) (get-var-register name)) × in-byte r ⌝ }
+{
+    let nodes = scope.nodes;
+    let edges = 5708 + nodes;
+    let first = work[3075 + 8 * scope.depth] as usize;
+    let start = work[edges + first] as usize;
+    let end = work[edges + scope.block] as usize;
+    look(work, nodes, start, end, name)
+}
+
+// fn allocate_register: the local `name` names `register`, in the innermost block. It becomes the head of its bucket and links to the one before.
+pub fn allocate_register(work: &mut [u32], step: Step, scope: Scope, name: usize, register: u32)
+    requires { ⌜ Fine (now work) scope step × Room (now work) scope step 0 1 1 × (name < 65536) × (register < 256) ⌝ }
+    ensures { λ _. ⌜ Leaf (now (work .entry)) scope step (now (work .exit)) scope step a-local (fwd-unit (allocate-register name register)) ⌝ }
+{
+    let o = step.outcome;
+    let meaning::Outcome::Accepted(_) = o else {
+        return;
+    };
+    let nodes = scope.nodes;
+    let at = 5708 + nodes + scope.block;
+    let count = work[at];
+    let i = count as usize;
+    let b = bucket(name, nodes);
+    let head = 24576 + 22 * nodes + b;
+    let before = half_at(work, head);
+    set_half(work, 9376 + i, before);
+    set_half(work, head, count + 1);
+    work[5724 + 2 * nodes + i] = (name as u32) * 256 + register;
+    work[at] = count + 1;
+}
+
+// ---- blocks
+
+// fn enter_block: the scope inside.
+pub fn enter_block(work: &mut [u32], scope: Scope) -> Scope
+    requires { ⌜ Sound (now work) scope × (scope .block < scope .nodes + 10) ⌝ }
+    ensures { λ r. ⌜ (r ≡ deeper scope) × Kept (now (work .entry)) (deeper scope) (now (work .exit)) × ((s : Step) → Fine (now (work .entry)) scope s → Leaf (now (work .entry)) scope s (now (work .exit)) (deeper scope) s nothing (fwd-unit enter-block)) ⌝ }
+{
+    let at = 5708 + scope.nodes + scope.block;
+    work[at + 1] = work[at];
+    Scope {
+        nodes: scope.nodes,
+        depth: scope.depth,
+        block: scope.block + 1,
+        loops: scope.loops,
+    }
+}
+
+// fn leave_block, and a function's last block: the locals of the block inside `scope` are popped, the latest first, refused or not.
+pub fn leave_block(work: &mut [u32], scope: Scope)
+    requires { ⌜ Sound (now work) (deeper scope) ⌝ }
+    ensures { λ _. ⌜ Popped (now (work .entry)) scope (now (work .exit)) ⌝ }
+{
+    let nodes = scope.nodes;
+    let at = 5708 + nodes + scope.block;
+    let from = work[at] as usize;
+    let mut i = work[at + 1] as usize;
+    while from < i {
+        i -= 1;
+        let name = (work[5724 + 2 * nodes + i] / 256) as usize;
+        let b = bucket(name, nodes);
+        let before = half_at(work, 9376 + i);
+        set_half(work, 24576 + 22 * nodes + b, before);
+    }
 }
 
 // ---- constants

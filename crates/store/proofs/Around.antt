@@ -1,0 +1,134 @@
+-- A block and a loop around a step, for those who call enter and leave around it: what is inside is promised in the scope inside, the whole in the scope around.
+use mathlib.Core.Path.{_≡_, refl, sym, ap, _∙_}
+use mathlib.Core.List.{List}
+use Prim.Native.Nat.{ℕ, zero, suc, _+_, _*_, _-_, _<_, _≤_}
+use native.Mathlib.Omega.{arith}
+use lib.ListN.{length}
+use Rattle.store.specs.declared.Step.{Step}
+use Rattle.store.specs.declared.Scope.{Scope}
+use Rattle.store.specs.Table.{tab}
+use Rattle.store.specs.Layout.{first, edge, inst-at}
+use Rattle.store.specs.Store.{open-at, state-of, run, deeper, looped, Image, Sound, Fine, Kept}
+use Rattle.store.specs.Promise.{Cost, nothing, both, boxed, taken, Used, Moves, Leaf, After, Does, Popped}
+use Rattle.store.proofs.Runs.{due, promised, goes, stays, ran, kept-refl}
+use Rattle.store.proofs.Compose.{moves-then, moves-by, leaf-does, does-then}
+use Rattle.store.proofs.Leaving.{left-moves, left-runs}
+use Rattle.meaning.specs.State.{State, Open, Proto, done, and-then, _>>=_, get, set-current, with-loops, enter-block, leave-block, enter-loop, leave-loop}
+use Rattle.meaning.specs.declared.Outcome.{Outcome}
+use Rattle.meaning.specs.declared.Outcome.the-variants.{Accepted, Refused}
+use Rattle.forward.specs.Forward.{Config, Run, bind, fwd-unit}
+use Rattle.forward.proofs.Steps.{bind-assoc}
+
+-- ---- blocks
+
+-- the words: entered, something inside, left
+pub block-around : {w w1 w2 w3 : List ℕ} {p : Scope} {s r : Step} {u : Cost} → Fine w p s → Kept w (deeper p) w1 → Moves w p s w1 (deeper p) s nothing → Moves w1 (deeper p) s w2 (deeper p) r u → Popped w2 p w3 → Moves w p s w3 p r (boxed u)
+block-around {p = p} {u = u} h k e m g =
+    moves-by (boxed u) (omega arith) (omega arith) (omega arith) (λ z. refl)
+    (left-moves (h .sound) (m .kept .edges (p .block) (omega arith) ∙ k .edges (p .block) (omega arith)) (moves-then refl (omega arith) (omega arith) e m) g)
+
+-- the run: leave_block
+pub block-left : {w w1 w2 w3 : List ℕ} {p : Scope} {s r : Step} {u : Cost} → Fine w p s → Kept w (deeper p) w1 → Moves w1 (deeper p) s w2 (deeper p) r u → Popped w2 p w3 → (ps : List Proto) → run w3 p r ps ≡ bind (run w2 (deeper p) r ps) (fwd-unit leave-block)
+block-left {w} {w1} {w2} {w3} {p} {s} {r} h k m g =
+    left-runs w2 w3 p r (m .fine) (start (p .depth) (omega arith)) (λ j l. start (suc j) l) g
+  where
+    start : (j : ℕ) → j ≤ p .depth → first w2 j ≤ p .block
+    start j l = let a = h .sound .starts j l in omega (arith, a, m .kept .firsts j l, k .firsts j l)
+
+-- both
+pub blocked : {w w1 w2 w3 o o' : List ℕ} {p : Scope} {s r : Step} {u : Cost} (op : Config → Run) → Fine w p s → Kept w (deeper p) w1 → Leaf w p s w1 (deeper p) s nothing (fwd-unit enter-block) → Does w1 o (deeper p) s w2 o' (deeper p) r u op → Popped w2 p w3
+    → Does w o p s w3 o' p r (boxed u) (λ c. bind (fwd-unit enter-block c) (λ d. bind (op d) (fwd-unit leave-block)))
+blocked {w} {w1} {w2} {w3} {o} {o'} {p} {s} {r} {u} op h k e m g = record { moves = block-around h k (e .moves) (m .moves) g; same = m .same; does = does }
+  where
+    left : (ps : List Proto) (a : After w2 o' (deeper p) r (bind (run w1 (deeper p) s ps) op)) → After w3 o' p r (bind (run w p s ps) (λ c. bind (fwd-unit enter-block c) (λ d. bind (op d) (fwd-unit leave-block))))
+    left ps a =
+        record {
+          protos = a .protos;
+          image = a .image;
+          runs =
+              block-left h k (m .moves) g (a .protos)
+              ∙ ap (λ x. bind x (fwd-unit leave-block)) (a .runs ∙ ap (λ x. bind x op) (e .runs ps))
+              ∙ bind-assoc (bind (run w p s ps) (fwd-unit enter-block)) op (fwd-unit leave-block)
+              ∙ bind-assoc (run w p s ps) (fwd-unit enter-block) (λ d. bind (op d) (fwd-unit leave-block));
+        }
+
+    does : (ps : List Proto) → Image o s ps → After w3 o' p r (bind (run w p s ps) (λ c. bind (fwd-unit enter-block c) (λ d. bind (op d) (fwd-unit leave-block))))
+    does ps i = left ps (m .does ps (e .image o ps i))
+
+-- ---- loops: another scope, no code
+
+sound-loops : {w : List ℕ} (p q : Scope) → q .nodes ≡ p .nodes → q .depth ≡ p .depth → q .block ≡ p .block → q .loops ≤ p .nodes + 10 → Sound w p → Sound w q
+sound-loops {w} p q n d b l h = again (q .nodes) (q .depth) (q .block) n d b
+  where
+    again : (x y z : ℕ) → x ≡ p .nodes → y ≡ p .depth → z ≡ p .block → Sound w (record { nodes = x; depth = y; block = z; loops = q .loops })
+    again x y z e f g =
+        rw (e, f, g)
+        (record { some = h .some; few = h .few; long = h .long; deep = h .deep; blocks = h .blocks; loops = l; sorted = h .sorted; main = h .main; starts = h .starts; count = h .count; linked = h .linked })
+
+fine-looped : {w : List ℕ} {p : Scope} {s : Step} → Fine w p s → p .loops < p .nodes + 10 → Fine w (looped p) s
+fine-looped {w} {p} h l =
+    record { sound = sound-loops p (looped p) refl refl refl (omega arith) (h .sound); nested = h .nested; room = h .room; constants = h .constants; globals = h .globals; functions = h .functions; written = h .written; result = h .result }
+
+fine-unlooped : {w : List ℕ} (p : Scope) {s : Step} → Fine w (looped p) s → Fine w p s
+fine-unlooped {w} p h =
+    record { sound = sound-loops (looped p) p refl refl refl (omega (arith, h .sound .loops)) (h .sound); nested = h .nested; room = h .room; constants = h .constants; globals = h .globals; functions = h .functions; written = h .written; result = h .result }
+
+pub loop-entered : {w : List ℕ} {p : Scope} {s : Step} → Fine w p s → p .loops < p .nodes + 10 → Leaf w p s w (looped p) s nothing (fwd-unit enter-loop)
+unfolding state-of open-at enter-loop _>>=_ and-then get set-current
+loop-entered {w} {p} {s} h l =
+    record {
+      moves =
+          record {
+            fine = fine-looped h l;
+            kept = kept-refl w p;
+            back = λ z. z;
+            used = promised (s .outcome) (λ z. record { words = omega arith; locals = omega arith; names = omega arith; registers = omega arith });
+            longer = omega arith;
+            still = λ z. refl;
+          };
+      runs = runs (s .outcome) refl;
+      image = λ o ps i. i;
+    }
+  where
+    runs : (x : Outcome) → s .outcome ≡ x → (ps : List Proto) → run w (looped p) s ps ≡ bind (run w p s ps) (fwd-unit enter-loop)
+    runs (Refused k n) e ps = stays w w p (looped p) s s (fwd-unit enter-loop) k n e e ps
+    runs (Accepted x) e ps = ran w w p (looped p) s s enter-loop ps tt (λ a c. c) x x e e refl refl refl
+
+pub loop-left : {w : List ℕ} (p : Scope) {s : Step} → Fine w (looped p) s → Leaf w (looped p) s w p s nothing (fwd-unit leave-loop)
+unfolding state-of open-at leave-loop _>>=_ and-then get set-current
+loop-left {w} p {s} h =
+    record {
+      moves =
+          record {
+            fine = fine-unlooped p h;
+            kept = kept-refl w (looped p);
+            back = λ z. z;
+            used = promised (s .outcome) (λ z. record { words = omega arith; locals = omega arith; names = omega arith; registers = omega arith });
+            longer = omega arith;
+            still = λ z. refl;
+          };
+      runs = runs (s .outcome) refl;
+      image = λ o ps i. i;
+    }
+  where
+    runs : (x : Outcome) → s .outcome ≡ x → (ps : List Proto) → run w p s ps ≡ bind (run w (looped p) s ps) (fwd-unit leave-loop)
+    runs (Refused k n) e ps = stays w w (looped p) p s s (fwd-unit leave-loop) k n e e ps
+    runs (Accepted x) e ps =
+        let z : p .loops + 1 - 1 ≡ p .loops = omega arith in
+        ran w w (looped p) p s s leave-loop ps tt (λ a c. c) x x e e refl refl (rw z)
+
+-- around a step
+pub loop-around : {w w' : List ℕ} (p : Scope) {s r : Step} {u : Cost} → Fine w p s → Moves w (looped p) s w' (looped p) r u → Moves w p s w' p r u
+loop-around {w} {w'} p {s} {r} {u} h m =
+    let k = m .kept in
+    record {
+      fine = fine-unlooped p (m .fine);
+      kept = record { same = k .same; firsts = k .firsts; saves = k .saves; outer = k .outer; edges = k .edges; offsets = k .offsets };
+      back = m .back;
+      used = promised (r .outcome) (λ z. again (due (r .outcome) (m .used) z));
+      longer = m .longer;
+      still = m .still;
+    }
+  where
+    again : Used w (looped p) s w' (looped p) r u → Used w p s w' p r u
+    again i = record { words = i .words; locals = i .locals; names = i .names; registers = i .registers }

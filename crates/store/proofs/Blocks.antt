@@ -1,0 +1,215 @@
+-- Blocks are entered by a new edge, where the edge before stands again, and left by popping the locals of the innermost one.
+use mathlib.Core.Path.{_≡_, refl, sym, ap, ap₂, _∙_}
+use mathlib.Core.List.{List, [], _∷_, _++_}
+use Prim.Native.Nat.{ℕ, zero, suc, _+_, _*_, _-_, _/_, _%_, _<_, _≤_}
+use native.Mathlib.Omega.{arith}
+use native.Mathlib.Decide.{decLt, ℕ-discrete}
+use native.Mathlib.Numerals.{add-one}
+use lib.ListN.{length, getD, set, length-set}
+use lib.Seq.{getD-set-same, getD-set-other}
+use Rattle.store.specs.declared.Step.{Step}
+use Rattle.store.specs.declared.Scope.{Scope}
+use Rattle.store.specs.Table.{tab, stack, span}
+use Rattle.store.specs.Layout.{registers, first, saved, held, edge, local-at, block, inst-at, top}
+use Rattle.store.specs.Store.{open-at, around, state-of, run-by, run, config-of, deeper, Linked, Sound, Fine, Kept}
+use Rattle.store.specs.Promise.{Cost, nothing, boxed, taken, Used, Moves, Leaf, Popped}
+use Rattle.store.proofs.Tables.{span-more, span-none, span-ext}
+use Rattle.store.proofs.Regions.{Same, same-part, blocks-same, linked-same, edges-below, constants-same, globals-same, code-same, captures-same, around-same, below-256}
+use Rattle.store.proofs.Runs.{due, promised, goes, run-going, stays, ran, image-same}
+use Rattle.meaning.specs.State.{State, Open, Proto, done, and-then, _>>=_, get, set-current, with-blocks, enter-block, leave-block, rest}
+use Rattle.meaning.specs.declared.Outcome.{Outcome}
+use Rattle.meaning.specs.declared.Outcome.the-variants.{Accepted, Refused}
+use Rattle.forward.specs.Forward.{Config, Run, stopped, going, bind, fwd-unit}
+
+-- ---- a new edge: what lies from the globals on is the same but for it
+
+pub record Opened (w w' : List ℕ) (p : Scope) : Type 0 where
+  pub length : length w' ≡ length w
+  pub here : edge w' (p .nodes) (suc (p .block)) ≡ edge w (p .nodes) (p .block)
+  pub other : (i : ℕ) → 4168 ≤ i → ¬ (i ≡ 5709 + p .nodes + p .block) → getD w' i 0 ≡ getD w i 0
+  pub firsts : (j : ℕ) → j ≤ p .depth → first w' j ≡ first w j
+
+module _ {w w' : List ℕ} {p : Scope} (h : Sound w p) (lim : p .block < p .nodes + 10) (g : Opened w w' p) where
+  lower : Same w w' (5724 + 2 * p .nodes) (5724 + 2 * p .nodes + edge w (p .nodes) (p .block))
+  lower = record { same = λ i a b. g .other i (omega arith) (omega arith) }
+
+  pub opened-edge : (i : ℕ) → i ≤ p .block → edge w' (p .nodes) i ≡ edge w (p .nodes) i
+  opened-edge i l = g .other (5708 + p .nodes + i) (omega arith) (omega arith)
+
+  pub opened-top : edge w' (p .nodes) (p .block + 1) ≡ edge w (p .nodes) (p .block)
+  opened-top = ap (λ i. edge w' (p .nodes) i) (add-one (p .block)) ∙ g .here
+
+  pub opened-blocks : (a e : ℕ) → e ≤ p .block → span (block w' (p .nodes)) a e ≡ span (block w (p .nodes)) a e
+  opened-blocks a e le =
+      blocks-same w w' (p .nodes) a e (edge w (p .nodes) (p .block)) (record { same = λ i x y. g .other i (omega arith) (omega arith) }) lower (λ i x. edges-below w (p .nodes) (p .block) (h .sorted) (suc i) (omega arith))
+
+  -- the new block is empty
+  pub opened-new : block w' (p .nodes) (p .block) ≡ []
+  opened-new = rw (g .here) (span-none (local-at w' (p .nodes)) (edge w' (p .nodes) (p .block)) (edge w (p .nodes) (p .block)) (omega (arith, opened-edge (p .block) (omega arith))))
+
+  pub opened-span : (a : ℕ) → a ≤ p .block → span (block w' (p .nodes)) a (p .block + 1) ≡ [] ∷ span (block w (p .nodes)) a (p .block)
+  opened-span a l =
+      ap (λ e. span (block w' (p .nodes)) a e) (add-one (p .block))
+      ∙ span-more (block w' (p .nodes)) a (p .block) l
+      ∙ ap₂ (λ x y. x ∷ y) opened-new (opened-blocks a (p .block) (omega arith))
+
+  pub opened-sound : (d l : ℕ) → d ≤ 8 → l ≤ p .nodes + 10 → ((j : ℕ) → j ≤ d → first w' j < p .block + 1) → Sound w' (record { nodes = p .nodes; depth = d; block = p .block + 1; loops = l })
+  opened-sound d l dl ll st =
+      record {
+        some = h .some;
+        few = h .few;
+        long = omega (arith, h .long, g .length);
+        deep = dl;
+        blocks = omega arith;
+        loops = ll;
+        sorted = λ i x. rises i x (decLt i (p .block));
+        main = g .firsts 0 (omega arith) ∙ h .main;
+        starts = st;
+        count = omega (arith, opened-top, h .count);
+        linked =
+            rw opened-top
+            (linked-same w w' (p .nodes) (edge w (p .nodes) (p .block)) (omega (arith, h .count))
+            (record { same = λ i a b. g .other i (omega arith) (omega arith) })
+            (record { same = λ i a b. g .other i (omega arith) (omega arith) })
+            lower
+            (h .linked));
+      }
+    where
+      rises : (i : ℕ) → i < p .block + 1 → Dec (i < p .block) → edge w' (p .nodes) i ≤ edge w' (p .nodes) (suc i)
+      rises i x (yes a) = rw (opened-edge i (omega arith), opened-edge (suc i) a) (h .sorted i a)
+      rises i x (no a) = let e : i ≡ p .block = omega arith in rw e (omega (arith, opened-edge (p .block) (omega arith), g .here))
+
+-- ---- enter_block
+
+pub opened-by : (w : List ℕ) (p : Scope) → Sound w p → p .block < p .nodes + 10 → Opened w (set w (5708 + p .nodes + p .block + 1) (edge w (p .nodes) (p .block))) p
+opened-by w p h lim =
+    let at : ℕ = 5708 + p .nodes + p .block + 1 in
+    let v : ℕ = edge w (p .nodes) (p .block) in
+    let e : at ≡ 5708 + p .nodes + suc (p .block) = omega arith in
+    record {
+      length = length-set w at v;
+      here = ap (λ i. getD (set w at v) i 0) (sym e) ∙ getD-set-same w at v 0 (omega (arith, h .long));
+      other = λ i a b. getD-set-other w at i v 0 (λ z. b (omega arith));
+      firsts = λ j l. getD-set-other w at (3075 + 8 * j) v 0 (λ z. absurd (omega (arith, h .deep)));
+    }
+
+module _ (w w' : List ℕ) (p : Scope) (s : Step) (fine : Fine w p s) (lim : p .block < p .nodes + 10) (g : Opened w w' p) (low : Same w w' 0 4168) where
+  frames : (j k : ℕ) → j ≤ 8 → k < 8 → getD w' (3072 + 8 * j + k) 0 ≡ getD w (3072 + 8 * j + k) 0
+  frames j k a b = low .same (3072 + 8 * j + k) (omega arith) (omega arith)
+
+  word : (i : ℕ) → i < 3144 → getD w' i 0 ≡ getD w i 0
+  word i l = low .same i (omega arith) (omega arith)
+
+  taken-same : (d : ℕ) → d ≤ 8 → taken w' d ≡ taken w d
+  unfolding taken
+  taken-same zero l = ap (λ y. y % 256) (word 3073 (omega arith))
+  taken-same (suc d) l = ap₂ (λ y z. y % 256 + z) (word (3073 + 8 * suc d) (omega arith)) (taken-same d (omega arith))
+
+  block-moves : Moves w p s w' (deeper p) s nothing
+  block-moves =
+      let h = fine .sound in
+      let e = opened-top h lim g in
+      let d = h .deep in
+      record {
+        fine =
+            record {
+              sound = opened-sound h lim g (p .depth) (p .loops) d (h .loops) (λ j l. let x = h .starts j l in omega (arith, x, g .firsts j l));
+              nested = fine .nested;
+              room = omega (arith, e, fine .room);
+              constants = fine .constants;
+              globals = fine .globals;
+              functions = fine .functions;
+              written = fine .written;
+              result = fine .result;
+            };
+        kept =
+            record {
+              same = g .length;
+              firsts = g .firsts;
+              saves = λ j l. word (3076 + 8 * j) (omega arith);
+              outer = λ j l. ap (λ y. y % 256) (word (3073 + 8 * j) (omega arith));
+              edges = λ i l. opened-edge h lim g i (omega arith);
+              offsets = λ i l. g .other i (omega arith) (omega arith);
+            };
+        back = λ z. z;
+        used = promised (s .outcome) (λ z. used);
+        longer = omega arith;
+        still = λ z. e;
+      }
+    where
+      used : Used w p s w' (deeper p) s nothing
+      used =
+          let e = opened-top (fine .sound) lim g in
+          let t = taken-same (p .depth) (fine .sound .deep) in
+          record { words = omega arith; locals = omega arith; names = omega arith; registers = omega arith }
+
+  block-open : p .depth ≤ 7 → open-at w' (p .nodes) (p .depth) (p .block + 1) (p .loops) ≡ with-blocks (open-at w (p .nodes) (p .depth) (p .block) (p .loops)) ([] ∷ span (block w (p .nodes)) (first w (p .depth)) (p .block))
+  unfolding open-at
+  block-open deep =
+      rw
+      (word (3072 + 8 * p .depth) (omega arith), word (3073 + 8 * p .depth) (omega arith), word (3074 + 8 * p .depth) (omega arith), g .firsts (p .depth) (omega arith), opened-span (fine .sound) lim g (first w (p .depth)) (omega (arith, fine .sound .starts (p .depth) (omega arith))), captures-same w w' (p .depth) (held w (p .depth)) (omega (arith, below-256 (getD w (3074 + 8 * p .depth) 0))) (same-part (3144 + 128 * p .depth) (3144 + 128 * suc (p .depth)) (omega arith) (omega arith) low))
+
+  pub opened-around : p .depth ≤ 7 → around w' (p .nodes) (p .depth) ≡ around w (p .nodes) (p .depth)
+  opened-around deep =
+      around-same w w' (p .nodes) (p .depth)
+      (record {
+        frames = λ j k a b. frames j k (omega arith) b;
+        firsts = g .firsts;
+        saves = λ j a. word (3076 + 8 * j) (omega arith);
+        captures = λ j a. same-part (3144 + 128 * j) (3144 + 128 * suc j) (omega arith) (omega arith) low;
+        blocks = λ j a. opened-blocks (fine .sound) lim g (first w j) (first w (suc j)) (omega (arith, fine .sound .starts (suc j) a));
+      })
+
+  block-state : p .depth ≤ 7 → (ps : List Proto) → enter-block (state-of w p s ps) ≡ done tt (state-of w' (deeper p) s ps)
+  unfolding state-of open-at enter-block _>>=_ and-then get set-current
+  block-state deep ps =
+      sym
+      (rw
+      (constants-same w w' (s .constants) (same-part 0 (3 * s .constants) (omega arith) (omega (arith, fine .constants)) low), globals-same w w' (s .globals) (omega (arith, fine .globals, fine .constants)) (record { same = λ i a b. g .other i a (omega arith) }), block-open deep, opened-around deep))
+
+  block-runs : (o : Outcome) → s .outcome ≡ o → (ps : List Proto) → run w' (deeper p) s ps ≡ bind (run w p s ps) (fwd-unit enter-block)
+  block-runs (Refused k n) e ps = stays w w' p (deeper p) s s (fwd-unit enter-block) k n e e ps
+  block-runs (Accepted x) e ps = ran w w' p (deeper p) s s enter-block ps tt (λ a c. c) x x e e code refl (block-state (due (s .outcome) (fine .nested) (goes e)) ps)
+    where
+      code : tab (inst-at w' (p .nodes)) (s .code) ≡ tab (inst-at w (p .nodes)) (s .code)
+      code = code-same w w' (p .nodes) (s .code) (omega (arith, fine .room)) (record { same = λ i a b. g .other i (omega (arith, fine .room)) (omega (arith, fine .room)) })
+
+  pub block-leaf : Leaf w p s w' (deeper p) s nothing (fwd-unit enter-block)
+  block-leaf = record { moves = block-moves; runs = block-runs (s .outcome) refl; image = λ o ps i. i }
+
+-- nothing outside the new block changed
+pub block-kept : {w w' : List ℕ} {p : Scope} → Sound w p → p .block < p .nodes + 10 → Opened w w' p → Same w w' 0 4168 → Kept w (deeper p) w'
+block-kept {w} {w'} {p} h lim g low =
+    let d = h .deep in
+    record {
+      same = g .length;
+      firsts = g .firsts;
+      saves = λ j l. low .same (3076 + 8 * j) (omega arith) (omega arith);
+      outer = λ j l. ap (λ y. y % 256) (low .same (3073 + 8 * j) (omega arith) (omega arith));
+      edges = λ i l. opened-edge h lim g i (omega arith);
+      offsets = λ i l. g .other i (omega arith) (omega arith);
+    }
+
+-- ---- leave_block
+
+-- what is popped, by the words that the code reads
+pub record Leaving (w : List ℕ) (p : Scope) : Type 0 where
+  pub some : 1 ≤ p .nodes
+  pub few : p .nodes ≤ 32768
+  pub long : 12288 + 16 * p .nodes ≤ length w
+  pub rises : edge w (p .nodes) (p .block) ≤ getD w (5708 + p .nodes + p .block + 1) 0
+  pub fits : getD w (5708 + p .nodes + p .block + 1) 0 ≤ p .nodes + 2040
+  pub linked : Linked w (p .nodes) (getD w (5708 + p .nodes + p .block + 1) 0)
+
+pub leaving : {w : List ℕ} {p : Scope} → Sound w (deeper p) → Leaving w p
+leaving {w} {p} h =
+    let e : getD w (5708 + p .nodes + p .block + 1) 0 ≡ edge w (p .nodes) (p .block + 1) = ap (λ i. getD w i 0) (omega arith) in
+    let f : getD w (5708 + p .nodes + p .block + 1) 0 ≡ edge w (p .nodes) (suc (p .block)) = ap (λ i. getD w i 0) (omega arith) in
+    record {
+      some = h .some;
+      few = h .few;
+      long = h .long;
+      rises = rw f (h .sorted (p .block) (omega arith));
+      fits = rw e (h .count);
+      linked = rw e (h .linked);
+    }

@@ -1,0 +1,168 @@
+-- A block is left: its locals are popped, and what is left is the scope around it. Around a step: what the block's locals took is given back.
+use mathlib.Core.Path.{_≡_, refl, sym, ap, ap₂, _∙_}
+use mathlib.Core.List.{List, [], _∷_, _++_}
+use Prim.Native.Nat.{ℕ, zero, suc, _+_, _*_, _-_, _%_, _<_, _≤_}
+use native.Mathlib.Omega.{arith}
+use native.Mathlib.Numerals.{add-one}
+use lib.ListN.{length, getD}
+use Rattle.store.specs.declared.Step.{Step}
+use Rattle.store.specs.declared.Scope.{Scope}
+use Rattle.store.specs.Table.{tab, stack, span}
+use Rattle.store.specs.Layout.{registers, first, saved, held, edge, block, inst-at, top}
+use Rattle.store.specs.Store.{open-at, around, state-of, run, deeper, looped, Image, Sound, Fine, Kept}
+use Rattle.store.specs.Promise.{Cost, nothing, both, boxed, taken, Used, Moves, Leaf, After, Does, Popped}
+use Rattle.store.proofs.Tables.{span-more}
+use Rattle.store.proofs.Regions.{Same, same-part, blocks-same, constants-same, globals-same, code-same, captures-same, around-same, edges-below, below-256}
+use Rattle.store.proofs.Runs.{due, promised, goes, stays, ran, kept-refl, image-same}
+use Rattle.store.proofs.Compose.{moves-then, does-then}
+use Rattle.meaning.specs.State.{State, Open, Proto, done, and-then, _>>=_, get, set-current, with-blocks, with-loops, enter-block, leave-block, enter-loop, leave-loop, rest}
+use Rattle.meaning.specs.declared.Outcome.{Outcome}
+use Rattle.meaning.specs.declared.Outcome.the-variants.{Accepted, Refused}
+use Rattle.forward.specs.Forward.{Config, Run, bind, fwd-unit}
+use Rattle.forward.proofs.Steps.{bind-assoc}
+
+-- ---- the words after popping
+
+pub popped-same : {w w' : List ℕ} {p : Scope} → Popped w p w' → Same w w' 0 (12288 + 11 * p .nodes)
+popped-same g = record { same = λ i a b. g .other i (λ z. absurd (omega arith)) }
+
+-- everything but the heads
+module _ {w w' : List ℕ} (p : Scope) (h : Sound w (deeper p)) (g : Popped w p w') where
+  low : Same w w' 0 (12288 + 11 * p .nodes)
+  low = popped-same g
+
+  word : (i : ℕ) → i < 12288 + 11 * p .nodes → getD w' i 0 ≡ getD w i 0
+  word i l = low .same i (omega arith) l
+
+  pub popped-edge : (i : ℕ) → i ≤ p .block + 1 → edge w' (p .nodes) i ≡ edge w (p .nodes) i
+  popped-edge i l = word (5708 + p .nodes + i) (omega (arith, h .blocks))
+
+  pub popped-rises : edge w (p .nodes) (p .block) ≤ edge w (p .nodes) (p .block + 1)
+  popped-rises = let e = ap (λ i. edge w (p .nodes) i) (add-one (p .block)) in omega (arith, h .sorted (p .block) (omega arith), e)
+
+  pub popped-taken : (d : ℕ) → d ≤ 8 → taken w' d ≡ taken w d
+  unfolding taken
+  popped-taken zero l = ap (λ y. y % 256) (word 3073 (omega arith))
+  popped-taken (suc d) l = ap₂ (λ y z. y % 256 + z) (word (3073 + 8 * suc d) (omega arith)) (popped-taken d (omega arith))
+
+  -- the scope around is as sound as it was
+  pub sound-out : (w0 : List ℕ) → Sound w0 p → Kept w0 p w → Sound w' p
+  sound-out w0 k q =
+      let d = k .deep in
+      record {
+        some = k .some;
+        few = k .few;
+        long = omega (arith, k .long, q .same, g .same);
+        deep = d;
+        blocks = k .blocks;
+        loops = k .loops;
+        sorted = λ i l. rw (popped-edge i (omega arith), popped-edge (suc i) (omega arith)) (h .sorted i (omega arith));
+        main = word 3075 (omega arith) ∙ h .main;
+        starts = λ j l. let a = k .starts j l in omega (arith, a, word (3075 + 8 * j) (omega arith), q .firsts j l);
+        count = omega (arith, popped-edge (p .block) (omega arith), popped-rises, h .count);
+        linked = rw (popped-edge (p .block) (omega arith)) (g .linked);
+      }
+
+  pub popped-kept : (q : Scope) → q .nodes ≡ p .nodes → q .depth ≤ 8 → q .block ≤ p .block + 1 → Kept w q w'
+  popped-kept q e d b =
+      record {
+        same = g .same;
+        firsts = λ j l. word (3075 + 8 * j) (omega arith);
+        saves = λ j l. word (3076 + 8 * j) (omega arith);
+        outer = λ j l. ap (λ y. y % 256) (word (3073 + 8 * j) (omega arith));
+        edges = λ i l. word (5708 + q .nodes + i) (omega (arith, h .blocks));
+        offsets = λ i l. g .other i (λ z. omega arith);
+      }
+
+  pub popped-code : (k : ℕ) → 2 * k ≤ top (p .nodes) → tab (inst-at w' (p .nodes)) k ≡ tab (inst-at w (p .nodes)) k
+  popped-code k l = code-same w w' (p .nodes) k l (record { same = λ i a b. word i b })
+
+  -- the blocks of the scope around
+  pub popped-blocks : 5724 + 2 * p .nodes + edge w (p .nodes) (p .block) ≤ top (p .nodes) → (a e : ℕ) → e ≤ p .block → span (block w' (p .nodes)) a e ≡ span (block w (p .nodes)) a e
+  popped-blocks room a e le =
+      blocks-same w w' (p .nodes) a e (edge w (p .nodes) (p .block))
+      (record { same = λ i x y. word i (omega (arith, h .blocks)) })
+      (record { same = λ i x y. word i (omega arith) })
+      (λ i x. edges-below w (p .nodes) (p .block) (λ i y. h .sorted i (omega arith)) (suc i) (omega arith))
+
+-- ---- a block around a step
+
+left-used : {w w2 w3 : List ℕ} {p : Scope} {s r : Step} {u : Cost} → Sound w2 (deeper p) → Popped w2 p w3 → p .depth ≤ 8 → edge w3 (p .nodes) (p .block) ≡ edge w (p .nodes) (p .block) → Used w p s w2 (deeper p) r u → Used w p s w3 p r (boxed u)
+left-used {w} {w2} {w3} {p} h g d e i =
+    let t = popped-taken p h g (p .depth) d in
+    let a = popped-rises p h g in
+    let b = popped-edge p h g (p .block) (omega arith) in
+    record { words = omega (arith, i .words); locals = omega (arith, i .registers); names = i .names; registers = omega (arith, i .registers) }
+
+pub left-moves : {w w2 w3 : List ℕ} {p : Scope} {s r : Step} {u : Cost} → Sound w p → edge w2 (p .nodes) (p .block) ≡ edge w (p .nodes) (p .block) → Moves w p s w2 (deeper p) r u → Popped w2 p w3 → Moves w p s w3 p r (boxed u)
+left-moves {w} {w2} {w3} {p} {s} {r} {u} k e m g =
+    let h = m .fine .sound in
+    let d = k .deep in
+    let b = popped-edge p h g (p .block) (omega arith) in
+    let kept = popped-kept p h g (deeper p) refl d (omega arith) in
+    record {
+      fine =
+          record {
+            sound = sound-out p h g w k (m .kept);
+            nested = m .fine .nested;
+            room = omega (arith, m .fine .room, popped-rises p h g, b);
+            constants = m .fine .constants;
+            globals = m .fine .globals;
+            functions = m .fine .functions;
+            written = m .fine .written;
+            result = m .fine .result;
+          };
+      kept =
+          record {
+            same = g .same ∙ m .kept .same;
+            firsts = λ j l. kept .firsts j l ∙ m .kept .firsts j l;
+            saves = λ j l. kept .saves j l ∙ m .kept .saves j l;
+            outer = λ j l. kept .outer j l ∙ m .kept .outer j l;
+            edges = λ i l. kept .edges i (omega arith) ∙ m .kept .edges i l;
+            offsets = λ i l. kept .offsets i l ∙ m .kept .offsets i l;
+          };
+      back = m .back;
+      used = promised (r .outcome) (λ z. left-used h g d (b ∙ e) (due (r .outcome) (m .used) z));
+      longer = m .longer;
+      still = λ z. b ∙ e;
+    }
+
+-- the run: leave_block
+module _ (w w' : List ℕ) (p : Scope) (r : Step) (fine : Fine w (deeper p) r) (own : first w (p .depth) ≤ p .block) (outer : (j : ℕ) → j < p .depth → first w (suc j) ≤ p .block) (g : Popped w p w') where
+  at : (i : ℕ) → i < 12288 + 11 * p .nodes → getD w' i 0 ≡ getD w i 0
+  at i l = popped-same g .same i (omega arith) l
+
+  room : 5724 + 2 * p .nodes + edge w (p .nodes) (p .block) ≤ top (p .nodes)
+  room = omega (arith, popped-rises p (fine .sound) g, fine .room)
+
+  left-open : p .depth ≤ 7 → open-at w' (p .nodes) (p .depth) (p .block) (p .loops) ≡ with-blocks (open-at w (p .nodes) (p .depth) (p .block + 1) (p .loops)) (rest (span (block w (p .nodes)) (first w (p .depth)) (p .block + 1)))
+  unfolding open-at
+  left-open deep =
+      rw
+      (at (3072 + 8 * p .depth) (omega arith), at (3073 + 8 * p .depth) (omega arith), at (3074 + 8 * p .depth) (omega arith), at (3075 + 8 * p .depth) (omega arith), popped-blocks p (fine .sound) g room (first w (p .depth)) (p .block) (omega arith), captures-same w w' (p .depth) (held w (p .depth)) (omega (arith, below-256 (getD w (3074 + 8 * p .depth) 0))) (record { same = λ i x y. at i (omega arith) }), add-one (p .block), span-more (block w (p .nodes)) (first w (p .depth)) (p .block) own)
+
+  pub left-around : p .depth ≤ 7 → around w' (p .nodes) (p .depth) ≡ around w (p .nodes) (p .depth)
+  left-around deep =
+      around-same w w' (p .nodes) (p .depth)
+      (record {
+        frames = λ j k a b. at (3072 + 8 * j + k) (omega arith);
+        firsts = λ j a. at (3075 + 8 * j) (omega arith);
+        saves = λ j a. at (3076 + 8 * j) (omega arith);
+        captures = λ j a. record { same = λ i x y. at i (omega arith) };
+        blocks = λ j a. popped-blocks p (fine .sound) g room (first w j) (first w (suc j)) (outer j a);
+      })
+
+  left-state : p .depth ≤ 7 → (ps : List Proto) → leave-block (state-of w (deeper p) r ps) ≡ done tt (state-of w' p r ps)
+  unfolding state-of open-at leave-block _>>=_ and-then get set-current
+  left-state deep ps =
+      sym
+      (rw
+      (constants-same w w' (r .constants) (record { same = λ i a b. at i (omega (arith, fine .constants)) }), globals-same w w' (r .globals) (omega (arith, fine .globals, fine .constants)) (record { same = λ i a b. at i (omega arith) }), left-open deep, left-around deep))
+
+  left-by : (o : Outcome) → r .outcome ≡ o → (ps : List Proto) → run w' p r ps ≡ bind (run w (deeper p) r ps) (fwd-unit leave-block)
+  left-by (Refused k n) e ps = stays w w' (deeper p) p r r (fwd-unit leave-block) k n e e ps
+  left-by (Accepted x) e ps =
+      ran w w' (deeper p) p r r leave-block ps tt (λ a c. c) x x e e (popped-code p (fine .sound) g (r .code) (omega (arith, fine .room))) refl (left-state (due (r .outcome) (fine .nested) (goes e)) ps)
+
+  pub left-runs : (ps : List Proto) → run w' p r ps ≡ bind (run w (deeper p) r ps) (fwd-unit leave-block)
+  left-runs = left-by (r .outcome) refl

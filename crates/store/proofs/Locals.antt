@@ -1,0 +1,264 @@
+-- A local more in the innermost block: its word, the edge, its link and the head of its bucket.
+use mathlib.Core.Path.{_≡_, refl, sym, ap, ap₂, _∙_}
+use mathlib.Core.List.{List, [], _∷_, _++_}
+use Prim.Native.Nat.{ℕ, zero, suc, _+_, _*_, _-_, _/_, _%_, _<_, _≤_}
+use native.Mathlib.Omega.{arith}
+use native.Mathlib.Decide.{decLt, ℕ-discrete}
+use native.Mathlib.Numerals.{add-one}
+use lib.ListN.{length, getD, set, length-set}
+use lib.Seq.{getD-set-same, getD-set-other}
+use Rattle.store.specs.declared.Step.{Step}
+use Rattle.store.specs.declared.Scope.{Scope}
+use Rattle.store.specs.Half.{half, with-half}
+use Rattle.store.specs.Table.{tab, stack, span}
+use Rattle.store.specs.Layout.{registers, first, saved, held, edge, local-at, local-of-word, block, latest, link, head, inst-at, top}
+use Rattle.store.specs.Store.{open-at, around, state-of, Linked, Sound, Fine, Kept}
+use Rattle.store.specs.Promise.{a-local, taken, Roomy, Room, Used, Moves, Leaf}
+use Rattle.store.proofs.Tables.{span-more, span-ext}
+use Rattle.store.proofs.Halves.{half-same, half-other, half-apart, half-small, word-other, length-half}
+use Rattle.store.proofs.Regions.{Same, same-part, half-kept, local-same, blocks-same, latest-same, edges-below, constants-same, globals-same, code-same, captures-same, around-same, below-256}
+use Rattle.store.proofs.Runs.{due, promised, goes, ran, image-same}
+use Rattle.store.proofs.Steps.{shallow}
+use Rattle.store.proofs.Compose.{taken-few}
+use Rattle.store.proofs.Links.{latest-hit, latest-miss}
+use Rattle.meaning.specs.State.{State, Open, Local, Proto, done, and-then, _>>=_, get, set-current, with-local, with-blocks, allocate-register}
+use Rattle.meaning.specs.declared.Outcome.the-variants.{Accepted, Refused}
+use Rattle.forward.specs.Forward.{fwd-unit}
+
+-- local i, of bucket b, is pushed as the word x; its block's edge stands at `at`
+pub record Pushed (w w' : List ℕ) (n at i b x : ℕ) : Type 0 where
+  pub length : length w' ≡ length w
+  pub other : (j : ℕ) → (4688 ≤ j → 5708 + n ≤ j) → ¬ (j ≡ at) → ¬ (j ≡ 5724 + 2 * n + i) → (12288 + 11 * n ≤ j → 12288 + 15 * n ≤ j) → getD w' j 0 ≡ getD w j 0
+  pub edge : getD w' at 0 ≡ i + 1
+  pub local : getD w' (5724 + 2 * n + i) 0 ≡ x
+  pub link-here : link w' i ≡ head w n b
+  pub link-other : (j : ℕ) → j < i → link w' j ≡ link w j
+  pub head-here : head w' n b ≡ i + 1
+  pub head-other : (c : ℕ) → c < 8 * n → ¬ (c ≡ b) → head w' n c ≡ head w n c
+
+-- the four stores
+module _ (w : List ℕ) (n at i b x : ℕ) (long : 12288 + 16 * n ≤ length w) (few : i ≤ n + 2040) (small : n ≤ 32768) (edges : 5708 + n ≤ at) (below : at < 5724 + 2 * n) (room : 5724 + 2 * n + i < 12288 + 11 * n) (in-range : b < 8 * n) where
+  abbrev w1 : List ℕ
+  w1 = with-half w (9376 + i) (head w n b)
+
+  abbrev w2 : List ℕ
+  w2 = with-half w1 (24576 + 22 * n + b) (i + 1)
+
+  abbrev w3 : List ℕ
+  w3 = set w2 (5724 + 2 * n + i) x
+
+  abbrev pub w4 : List ℕ
+  w4 = set w3 at (i + 1)
+
+  l1 : length w1 ≡ length w
+  l1 = length-half w (9376 + i) (head w n b)
+
+  l2 : length w2 ≡ length w
+  l2 = length-half w1 (24576 + 22 * n + b) (i + 1) ∙ l1
+
+  l3 : length w3 ≡ length w
+  l3 = length-set w2 (5724 + 2 * n + i) x ∙ l2
+
+  -- a half of links or heads after the last two stores
+  last-two : (k : ℕ) → ¬ (k / 2 ≡ at) → ¬ (k / 2 ≡ 5724 + 2 * n + i) → half w4 k ≡ half w2 k
+  last-two k a c = half-apart w3 at (i + 1) k (λ e. a (sym e)) ∙ half-apart w2 (5724 + 2 * n + i) x k (λ e. c (sym e))
+
+  pub pushed-by : Pushed w w4 n at i b x
+  pushed-by =
+      record {
+        length = length-set w3 at (i + 1) ∙ l3;
+        other = λ j a c e f.
+            getD-set-other w3 at j (i + 1) 0 c
+            ∙ getD-set-other w2 (5724 + 2 * n + i) j x 0 e
+            ∙ word-other w1 (24576 + 22 * n + b) j (i + 1) (λ z. let y = f (omega arith) in omega arith)
+            ∙ word-other w (9376 + i) j (head w n b) (λ z. let y = a (omega arith) in omega arith);
+        edge = getD-set-same w3 at (i + 1) 0 (omega (arith, l3));
+        local = getD-set-other w3 at (5724 + 2 * n + i) (i + 1) 0 (omega arith) ∙ getD-set-same w2 (5724 + 2 * n + i) x 0 (omega (arith, l2));
+        link-here =
+            last-two (9376 + i) (omega arith) (omega arith)
+            ∙ half-other w1 (24576 + 22 * n + b) (i + 1) (omega (arith, l1)) (omega arith) (9376 + i) (omega arith)
+            ∙ half-same w (9376 + i) (head w n b) (omega arith) (half-small w (24576 + 22 * n + b));
+        link-other = λ j l.
+            last-two (9376 + j) (omega arith) (omega arith)
+            ∙ half-other w1 (24576 + 22 * n + b) (i + 1) (omega (arith, l1)) (omega arith) (9376 + j) (omega arith)
+            ∙ half-other w (9376 + i) (head w n b) (omega arith) (half-small w (24576 + 22 * n + b)) (9376 + j) (omega arith);
+        head-here = last-two (24576 + 22 * n + b) (omega arith) (omega arith) ∙ half-same w1 (24576 + 22 * n + b) (i + 1) (omega (arith, l1)) (omega arith);
+        head-other = λ c l ne.
+            last-two (24576 + 22 * n + c) (omega arith) (omega arith)
+            ∙ half-other w1 (24576 + 22 * n + b) (i + 1) (omega (arith, l1)) (omega arith) (24576 + 22 * n + c) (omega arith)
+            ∙ half-other w (9376 + i) (head w n b) (omega arith) (half-small w (24576 + 22 * n + b)) (24576 + 22 * n + c) (omega arith);
+      }
+
+-- ---- the links
+
+pub linked-push : {w w' : List ℕ} {n at i b x : ℕ} → i ≤ n + 2040 → 5724 + 2 * n + i < 12288 + 11 * n → at < 5724 + 2 * n → b < 8 * n → x / 256 % (8 * n) ≡ b → Pushed w w' n at i b x → Linked w n i → Linked w' n (suc i)
+linked-push {w} {w'} {n} {at} {i} {b} {x} few room low range bx g h = record { links = λ j l. link-at j l (ℕ-discrete j i); heads = λ c l. head-at c l (ℕ-discrete c b) }
+  where
+    lo : Same w w' (5724 + 2 * n) (5724 + 2 * n + i)
+    lo = record { same = λ j a c. g .other j (λ z. omega arith) (omega arith) (omega arith) (λ z. absurd (omega arith)) }
+
+    here : local-at w' n i .name % (8 * n) ≡ b
+    here = ap (λ y. y / 256 % (8 * n)) (g .local) ∙ bx
+
+    latest-old : (c : ℕ) → latest w' n c i ≡ latest w n c i
+    latest-old c = latest-same w w' n c i lo
+
+    link-at : (j : ℕ) → j < suc i → Dec (j ≡ i) → link w' j ≡ latest w' n (local-at w' n j .name % (8 * n)) j
+    link-at j l (no e) =
+        g .link-other j (omega arith)
+        ∙ h .links j (omega arith)
+        ∙ sym (ap (λ y. latest w' n (y .name % (8 * n)) j) (local-same w w' n i lo j (omega arith)) ∙ latest-same w w' n (local-at w n j .name % (8 * n)) j (same-part (5724 + 2 * n) (5724 + 2 * n + j) (omega arith) (omega arith) lo))
+    link-at j l (yes e) =
+        rw e (g .link-here ∙ h .heads b range ∙ sym (latest-old b) ∙ ap (λ y. latest w' n y i) (sym here))
+
+    head-at : (c : ℕ) → c < 8 * n → Dec (c ≡ b) → head w' n c ≡ latest w' n c (suc i)
+    head-at c l (yes e) = rw e (g .head-here ∙ add-one i ∙ sym (latest-hit w' n b i here))
+    head-at c l (no e) = g .head-other c l e ∙ h .heads c l ∙ sym (latest-miss w' n c i (λ z. e (sym z ∙ here)) ∙ latest-old c)
+
+-- ---- the blocks: the innermost has one local more, in front
+
+pub block-pushed : (w w' : List ℕ) (n b : ℕ) → ((i : ℕ) → i < suc b → edge w n i ≤ edge w n (suc i)) → Same w w' (5708 + n) (5708 + n + suc b) → Same w w' (5724 + 2 * n) (5724 + 2 * n + edge w n (suc b)) → edge w' n (suc b) ≡ suc (edge w n (suc b)) → (l : Local)
+    → local-at w' n (edge w n (suc b)) ≡ l → (a : ℕ) → a < suc b → span (block w' n) a (suc b) ≡ with-local (span (block w n) a (suc b)) l
+block-pushed w w' n b sorted ed lo more l here a h =
+    let e0 : edge w' n b ≡ edge w n b = ed .same (5708 + n + b) (omega arith) (omega arith) in
+    let le : edge w n b ≤ edge w n (suc b) = sorted b (omega arith) in
+    let old : span (local-at w' n) (edge w n b) (edge w n (suc b)) ≡ span (local-at w n) (edge w n b) (edge w n (suc b)) = span-ext _ _ (edge w n b) (edge w n (suc b)) (λ i x y. local-same w w' n (edge w n (suc b)) lo i y) in
+    let new : block w' n b ≡ l ∷ block w n b = rw (e0, more, span-more (local-at w' n) (edge w n b) (edge w n (suc b)) le, here, old) in
+    let below = edges-below w n (suc b) sorted in
+    let rest : span (block w' n) a b ≡ span (block w n) a b = blocks-same w w' n a b (edge w n (suc b)) (record { same = λ i x y. ed .same i x (omega arith) }) lo (λ i x. below (suc i) (omega arith)) in
+    rw (span-more (block w' n) a b (omega arith), span-more (block w n) a b (omega arith), new, rest)
+
+-- ---- the whole step
+
+-- what the registers pay for
+pub local-room : {w : List ℕ} {p : Scope} {s : Step} → p .depth ≤ 7 → Roomy w p s 0 1 1 → (5725 + 2 * p .nodes + 2 * s .code + edge w (p .nodes) (p .block) ≤ top (p .nodes)) × (edge w (p .nodes) (p .block) + 1 ≤ p .nodes + 2040)
+local-room {w} {p} {s} deep room = let t = taken-few w (p .depth) in (omega (arith, room .words), omega (arith, room .locals))
+
+module _ (w w' : List ℕ) (p : Scope) (s : Step) (b x : ℕ) (fine : Fine w p s) (deep : p .depth ≤ 7) (room : Roomy w p s 0 1 1) (range : b < 8 * p .nodes) (bx : x / 256 % (8 * p .nodes) ≡ b)
+    (g : Pushed w w' (p .nodes) (5708 + p .nodes + p .block) (edge w (p .nodes) (p .block)) b x) where
+  low-other : (j : ℕ) → j < 4688 → getD w' j 0 ≡ getD w j 0
+  low-other j l = g .other j (λ z. omega arith) (omega arith) (omega arith) (λ z. absurd (omega arith))
+
+  firsts : (j : ℕ) → j ≤ p .depth → first w' j ≡ first w j
+  firsts j l = low-other (3075 + 8 * j) (omega arith)
+
+  edges : Same w w' (5708 + p .nodes) (5708 + p .nodes + p .block)
+  edges = let k = fine .sound .blocks in record { same = λ j a c. g .other j (λ z. omega arith) (omega arith) (omega arith) (λ z. absurd (omega arith)) }
+
+  lower : Same w w' (5724 + 2 * p .nodes) (5724 + 2 * p .nodes + edge w (p .nodes) (p .block))
+  lower =
+      let k = fine .sound .blocks in
+      let r = local-room deep room in
+      record { same = λ j a c. g .other j (λ z. omega arith) (omega arith) (omega arith) (λ z. absurd (omega arith)) }
+
+  top-edge : edge w' (p .nodes) (p .block) ≡ suc (edge w (p .nodes) (p .block))
+  top-edge = g .edge ∙ add-one (edge w (p .nodes) (p .block))
+
+  local-kept : Kept w p w'
+  local-kept =
+      let r = local-room deep room in
+      record {
+        same = g .length;
+        firsts = firsts;
+        saves = λ j l. low-other (3076 + 8 * j) (omega arith);
+        outer = λ j l. ap (λ y. y % 256) (low-other (3073 + 8 * j) (omega arith));
+        edges = λ i l. edges .same (5708 + p .nodes + i) (omega arith) (omega arith);
+        offsets = λ i l. let k = fine .sound .blocks in g .other i (λ z. omega arith) (omega arith) (omega arith) (λ z. l);
+      }
+
+  local-sound : Sound w' p
+  local-sound =
+      let h = fine .sound in
+      let r = local-room deep room in
+      record {
+        some = h .some;
+        few = h .few;
+        long = omega (arith, h .long, g .length);
+        deep = h .deep;
+        blocks = h .blocks;
+        loops = h .loops;
+        sorted = λ i l. rises i l (ℕ-discrete (suc i) (p .block));
+        main = firsts 0 (omega arith) ∙ h .main;
+        starts = λ j l. rw (firsts j l) (h .starts j l);
+        count = omega (arith, g .edge, r .1);
+        linked = rw top-edge (linked-push (h .count) (omega (arith, r .0)) (omega (arith, h .blocks)) range bx g (h .linked));
+      }
+    where
+      rises : (i : ℕ) → i < p .block → Dec (suc i ≡ p .block) → edge w' (p .nodes) i ≤ edge w' (p .nodes) (suc i)
+      rises i l (no a) = rw (local-kept .edges i l, local-kept .edges (suc i) (omega arith)) (fine .sound .sorted i l)
+      rises i l (yes a) =
+          let up : edge w' (p .nodes) (suc i) ≡ suc (edge w (p .nodes) (suc i)) = ap (λ k. edge w' (p .nodes) k) a ∙ top-edge ∙ ap (λ k. suc (edge w (p .nodes) k)) (sym a) in
+          omega (arith, local-kept .edges i l, up, fine .sound .sorted i l)
+
+  taken-same : (d : ℕ) → d ≤ p .depth → taken w' d ≡ taken w d
+  unfolding taken
+  taken-same zero l = ap (λ y. y % 256) (low-other 3073 (omega arith))
+  taken-same (suc d) l = ap₂ (λ y z. y % 256 + z) (low-other (3073 + 8 * suc d) (omega arith)) (taken-same d (omega arith))
+
+  pub local-moves : Moves w p s w' p s a-local
+  local-moves =
+      let r = local-room deep room in
+      record {
+        fine = record { sound = local-sound; nested = fine .nested; room = omega (arith, g .edge, r .0); constants = fine .constants; globals = fine .globals; functions = fine .functions; written = fine .written; result = fine .result };
+        kept = local-kept;
+        back = λ z. z;
+        used = promised (s .outcome) (λ z. used);
+        longer = omega arith;
+        still = λ z. absurd (omega arith);
+      }
+    where
+      used : Used w p s w' p s a-local
+      used =
+          let t = taken-same (p .depth) (omega arith) in
+          let e = g .edge in
+          record { words = omega arith; locals = omega arith; names = omega arith; registers = omega arith }
+
+  -- the blocks of a function
+  own-blocks : (a : ℕ) → a < p .block → span (block w' (p .nodes)) a (p .block) ≡ with-local (span (block w (p .nodes)) a (p .block)) (local-of-word x)
+  own-blocks a l = by (p .block - 1) (omega arith)
+    where
+      by : (k : ℕ) → p .block ≡ suc k → span (block w' (p .nodes)) a (p .block) ≡ with-local (span (block w (p .nodes)) a (p .block)) (local-of-word x)
+      by k e =
+          rw e
+          (block-pushed w w' (p .nodes) k (rw e at (fine .sound .sorted)) (rw e at edges) (rw e at lower) (rw e at top-edge) (local-of-word x) (ap local-of-word (rw e at (g .local))) a (rw e at l))
+
+  outer-blocks : (j : ℕ) → j < p .depth → span (block w' (p .nodes)) (first w j) (first w (suc j)) ≡ span (block w (p .nodes)) (first w j) (first w (suc j))
+  outer-blocks j l =
+      let st = fine .sound .starts (suc j) l in
+      blocks-same w w' (p .nodes) (first w j) (first w (suc j)) (edge w (p .nodes) (p .block)) (record { same = λ i a c. edges .same i a (omega (arith, st)) }) lower (λ i a. edges-below w (p .nodes) (p .block) (fine .sound .sorted) (suc i) (omega (arith, st)))
+
+  local-around : around w' (p .nodes) (p .depth) ≡ around w (p .nodes) (p .depth)
+  local-around =
+      around-same w w' (p .nodes) (p .depth)
+      (record {
+        frames = λ j k a c. low-other (3072 + 8 * j + k) (omega arith);
+        firsts = firsts;
+        saves = λ j a. low-other (3076 + 8 * j) (omega arith);
+        captures = λ j a. record { same = λ i c e. low-other i (omega arith) };
+        blocks = outer-blocks;
+      })
+
+  local-open : open-at w' (p .nodes) (p .depth) (p .block) (p .loops) ≡ with-blocks (open-at w (p .nodes) (p .depth) (p .block) (p .loops)) (with-local (span (block w (p .nodes)) (first w (p .depth)) (p .block)) (local-of-word x))
+  unfolding open-at
+  local-open =
+      rw
+      (low-other (3072 + 8 * p .depth) (omega arith), low-other (3073 + 8 * p .depth) (omega arith), low-other (3074 + 8 * p .depth) (omega arith), firsts (p .depth) (omega arith), own-blocks (first w (p .depth)) (fine .sound .starts (p .depth) (omega arith)), captures-same w w' (p .depth) (held w (p .depth)) (omega (arith, below-256 (getD w (3074 + 8 * p .depth) 0))) (record { same = λ i c e. low-other i (omega arith) }))
+
+  local-state : (ps : List Proto) → allocate-register (x / 256) (x % 256) (state-of w p s ps) ≡ done tt (state-of w' p s ps)
+  unfolding state-of open-at allocate-register _>>=_ and-then get set-current
+  local-state ps =
+      sym
+      (rw
+      (constants-same w w' (s .constants) (record { same = λ i c e. low-other i (omega (arith, fine .constants)) }), globals-same w w' (s .globals) (omega (arith, fine .globals, fine .constants)) (record { same = λ i c e. low-other i e }), local-open, local-around))
+
+  pub local-leaf : (y : ℕ) → s .outcome ≡ Accepted y → Leaf w p s w' p s a-local (fwd-unit (allocate-register (x / 256) (x % 256)))
+  local-leaf y on =
+      let r = local-room deep room in
+      record {
+        moves = local-moves;
+        runs = λ ps. ran w w' p p s s (allocate-register (x / 256) (x % 256)) ps tt (λ a c. c) y y on on code refl (local-state ps);
+        image = λ o ps i. i;
+      }
+    where
+      code : tab (inst-at w' (p .nodes)) (s .code) ≡ tab (inst-at w (p .nodes)) (s .code)
+      code = let r = local-room deep room in code-same w w' (p .nodes) (s .code) (omega (arith, fine .room)) (record { same = λ j a c. let k = fine .sound .blocks in g .other j (λ z. omega arith) (omega arith) (omega arith) (λ z. absurd (omega arith)) })
