@@ -135,7 +135,7 @@ unfolding run config-of state-of
 by-result w p s r ps = result-by-cases (s .outcome) (tab (inst-at w (p .nodes)) (s .code)) (s .result) r (state-of w p s ps)
 
 -- settle: the result register
-pub settled : {w : List ℕ} {p : Scope} (s : Step) (r : ℕ) → r < 256 → Fine w p s → Leaf w p s w p (with-result s r) nothing (sure (give r))
+pub settled : {w : List ℕ} {p : Scope} (s : Step) (r : ℕ) → r < 255 → Fine w p s → Leaf w p s w p (with-result s r) nothing (sure (give r))
 settled {w} {p} s r small h =
     record {
       moves =

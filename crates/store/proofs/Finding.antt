@@ -25,7 +25,7 @@ pub option-found : (x : Option ℕ) → option-of (found-of x) ≡ x
 option-found none = refl
 option-found (some i) = refl
 
-byte-of : (x : Option ℕ) → ((i : ℕ) → x ≡ some i → i < 256) → in-byte (found-of x)
+byte-of : (x : Option ℕ) → ((i : ℕ) → x ≡ some i → i < 255) → in-byte (found-of x)
 byte-of none h = tt
 byte-of (some i) h = h i refl
 

@@ -9,17 +9,15 @@ use Rattle.store.specs.declared.Step.{Step}
 use Rattle.store.specs.declared.Scope.{Scope}
 use Rattle.store.specs.Table.{tab, stack, span}
 use Rattle.store.specs.Layout.{registers, first, saved, held, edge, block, inst-at, top}
-use Rattle.store.specs.Store.{open-at, around, state-of, run, deeper, looped, Image, Sound, Fine, Kept}
-use Rattle.store.specs.Promise.{Cost, nothing, both, boxed, taken, Used, Moves, Leaf, After, Does, Popped}
+use Rattle.store.specs.Store.{open-at, around, state-of, run, deeper, Sound, Fine, Kept}
+use Rattle.store.specs.Promise.{Cost, uses, boxed, taken, Used, Moves, Leaf, Popped}
 use Rattle.store.proofs.Tables.{span-more}
 use Rattle.store.proofs.Regions.{Same, same-part, blocks-same, constants-same, globals-same, code-same, captures-same, around-same, edges-below, below-256}
-use Rattle.store.proofs.Runs.{due, promised, goes, stays, ran, kept-refl, image-same}
-use Rattle.store.proofs.Compose.{moves-then, does-then}
-use Rattle.meaning.specs.State.{State, Open, Proto, done, and-then, _>>=_, get, set-current, with-blocks, with-loops, enter-block, leave-block, enter-loop, leave-loop, rest}
+use Rattle.store.proofs.Runs.{due, promised, goes, stays, ran}
+use Rattle.meaning.specs.State.{State, Open, Proto, done, and-then, _>>=_, get, set-current, with-blocks, leave-block, rest}
 use Rattle.meaning.specs.declared.Outcome.{Outcome}
 use Rattle.meaning.specs.declared.Outcome.the-variants.{Accepted, Refused}
 use Rattle.forward.specs.Forward.{Config, Run, bind, fwd-unit}
-use Rattle.forward.proofs.Steps.{bind-assoc}
 
 -- ---- the words after popping
 
@@ -45,20 +43,20 @@ module _ {w w' : List ℕ} (p : Scope) (h : Sound w (deeper p)) (g : Popped w p 
   popped-taken zero l = ap (λ y. y % 256) (word 3073 (omega arith))
   popped-taken (suc d) l = ap₂ (λ y z. y % 256 + z) (word (3073 + 8 * suc d) (omega arith)) (popped-taken d (omega arith))
 
-  -- the scope around is as sound as it was
-  pub sound-out : (w0 : List ℕ) → Sound w0 p → Kept w0 p w → Sound w' p
-  sound-out w0 k q =
-      let d = k .deep in
+  -- the scope around is sound
+  pub sound-left : ((j : ℕ) → j ≤ p .depth → first w j < p .block) → Sound w' p
+  sound-left starts =
+      let d = h .deep in
       record {
-        some = k .some;
-        few = k .few;
-        long = omega (arith, k .long, q .same, g .same);
+        some = h .some;
+        few = h .few;
+        long = omega (arith, h .long, g .same);
         deep = d;
-        blocks = k .blocks;
-        loops = k .loops;
+        blocks = omega (arith, h .blocks);
+        loops = h .loops;
         sorted = λ i l. rw (popped-edge i (omega arith), popped-edge (suc i) (omega arith)) (h .sorted i (omega arith));
         main = word 3075 (omega arith) ∙ h .main;
-        starts = λ j l. let a = k .starts j l in omega (arith, a, word (3075 + 8 * j) (omega arith), q .firsts j l);
+        starts = λ j l. let a = starts j l in omega (arith, a, word (3075 + 8 * j) (omega arith));
         count = omega (arith, popped-edge (p .block) (omega arith), popped-rises, h .count);
         linked = rw (popped-edge (p .block) (omega arith)) (g .linked);
       }
@@ -103,7 +101,7 @@ left-moves {w} {w2} {w3} {p} {s} {r} {u} k e m g =
     record {
       fine =
           record {
-            sound = sound-out p h g w k (m .kept);
+            sound = sound-left p h g (λ j l. let a = k .starts j l in omega (arith, a, m .kept .firsts j l));
             nested = m .fine .nested;
             room = omega (arith, m .fine .room, popped-rises p h g, b);
             constants = m .fine .constants;
@@ -166,3 +164,37 @@ module _ (w w' : List ℕ) (p : Scope) (r : Step) (fine : Fine w (deeper p) r) (
 
   pub left-runs : (ps : List Proto) → run w' p r ps ≡ bind (run w (deeper p) r ps) (fwd-unit leave-block)
   left-runs = left-by (r .outcome) refl
+
+-- leaving alone, as a step of its own: a local is charged, since the edge is another's
+pub left-leaf : {w w' : List ℕ} {p : Scope} {r : Step} → Fine w (deeper p) r → ((j : ℕ) → j ≤ p .depth → first w j < p .block) → Popped w p w' → Leaf w (deeper p) r w' p r (uses 0 1 0) (fwd-unit leave-block)
+left-leaf {w} {w'} {p} {r} h starts g =
+    record {
+      moves =
+          record {
+            fine =
+                record {
+                  sound = sound-left p (h .sound) g starts;
+                  nested = h .nested;
+                  room = omega (arith, h .room, popped-rises p (h .sound) g, popped-edge p (h .sound) g (p .block) (omega arith));
+                  constants = h .constants;
+                  globals = h .globals;
+                  functions = h .functions;
+                  written = h .written;
+                  result = h .result;
+                };
+            kept = popped-kept p (h .sound) g (deeper p) refl (h .sound .deep) (omega arith);
+            back = λ z. z;
+            used = promised (r .outcome) (λ z. used);
+            longer = omega arith;
+            still = λ z. absurd (omega arith);
+          };
+      runs = left-runs w w' p r h (let a = starts (p .depth) (omega arith) in omega arith) (λ j l. let a = starts (suc j) l in omega arith) g;
+      image = λ o ps i. i;
+    }
+  where
+    used : Used w (deeper p) r w' p r (uses 0 1 0)
+    used =
+        let t = popped-taken p (h .sound) g (p .depth) (h .sound .deep) in
+        let a = popped-rises p (h .sound) g in
+        let b = popped-edge p (h .sound) g (p .block) (omega arith) in
+        record { words = omega arith; locals = omega arith; names = omega arith; registers = omega arith }

@@ -175,12 +175,12 @@ walk-miss w n name start i j l e m =
     (seek-latest w n name start (i - 1)
     ∙ sym (ap (λ k. seek name (local-at w n) start k none) (unsuc i start l) ∙ seek-miss name (local-at w n) start (i - 1) none (λ g. e (sym g))))
 
-pub seek-small : (w : List ℕ) (n name a k : ℕ) (i : ℕ) → seek name (local-at w n) a k none ≡ some i → i < 256
+pub seek-small : (w : List ℕ) (n name a k : ℕ) (i : ℕ) → seek name (local-at w n) a k none ≡ some i → i < 255
 unfolding seek
 seek-small w n name a zero i e = absurd (let z : _≡_ {A = ℕ} 0 1 = cc in omega arith)
 seek-small w n name a (suc k) i e = go (ltb k a) (eqb name (local-at w n k .name)) (λ g. seek-small w n name a k i g) e
   where
-    go : (b c : Bool) → (seek name (local-at w n) a k none ≡ some i → i < 256) → cond b none (cond c (some (local-at w n k .register)) (seek name (local-at w n) a k none)) ≡ some i → i < 256
+    go : (b c : Bool) → (seek name (local-at w n) a k none ≡ some i → i < 255) → cond b none (cond c (some (local-at w n k .register)) (seek name (local-at w n) a k none)) ≡ some i → i < 255
     go true c ih g = absurd (let z : _≡_ {A = ℕ} 0 1 = cc in omega arith)
     go false true ih g = let h : local-at w n k .register ≡ i = cc in omega arith
     go false false ih g = ih g

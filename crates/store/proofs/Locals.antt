@@ -91,14 +91,14 @@ module _ (w : List ℕ) (n at i b x : ℕ) (long : 12288 + 16 * n ≤ length w) 
 
 -- ---- the links
 
-pub linked-push : {w w' : List ℕ} {n at i b x : ℕ} → i ≤ n + 2040 → 5724 + 2 * n + i < 12288 + 11 * n → at < 5724 + 2 * n → b < 8 * n → x / 256 % (8 * n) ≡ b → Pushed w w' n at i b x → Linked w n i → Linked w' n (suc i)
+pub linked-push : {w w' : List ℕ} {n at i b x : ℕ} → i ≤ n + 2040 → 5724 + 2 * n + i < 12288 + 11 * n → at < 5724 + 2 * n → b < 8 * n → x / 255 % (8 * n) ≡ b → Pushed w w' n at i b x → Linked w n i → Linked w' n (suc i)
 linked-push {w} {w'} {n} {at} {i} {b} {x} few room low range bx g h = record { links = λ j l. link-at j l (ℕ-discrete j i); heads = λ c l. head-at c l (ℕ-discrete c b) }
   where
     lo : Same w w' (5724 + 2 * n) (5724 + 2 * n + i)
     lo = record { same = λ j a c. g .other j (λ z. omega arith) (omega arith) (omega arith) (λ z. absurd (omega arith)) }
 
     here : local-at w' n i .name % (8 * n) ≡ b
-    here = ap (λ y. y / 256 % (8 * n)) (g .local) ∙ bx
+    here = ap (λ y. y / 255 % (8 * n)) (g .local) ∙ bx
 
     latest-old : (c : ℕ) → latest w' n c i ≡ latest w n c i
     latest-old c = latest-same w w' n c i lo
@@ -134,7 +134,7 @@ block-pushed w w' n b sorted ed lo more l here a h =
 pub local-room : {w : List ℕ} {p : Scope} {s : Step} → p .depth ≤ 7 → Roomy w p s 0 1 1 → (5725 + 2 * p .nodes + 2 * s .code + edge w (p .nodes) (p .block) ≤ top (p .nodes)) × (edge w (p .nodes) (p .block) + 1 ≤ p .nodes + 2040)
 local-room {w} {p} {s} deep room = let t = taken-few w (p .depth) in (omega (arith, room .words), omega (arith, room .locals))
 
-module _ (w w' : List ℕ) (p : Scope) (s : Step) (b x : ℕ) (fine : Fine w p s) (deep : p .depth ≤ 7) (room : Roomy w p s 0 1 1) (range : b < 8 * p .nodes) (bx : x / 256 % (8 * p .nodes) ≡ b)
+module _ (w w' : List ℕ) (p : Scope) (s : Step) (b x : ℕ) (fine : Fine w p s) (deep : p .depth ≤ 7) (room : Roomy w p s 0 1 1) (range : b < 8 * p .nodes) (bx : x / 255 % (8 * p .nodes) ≡ b)
     (g : Pushed w w' (p .nodes) (5708 + p .nodes + p .block) (edge w (p .nodes) (p .block)) b x) where
   low-other : (j : ℕ) → j < 4688 → getD w' j 0 ≡ getD w j 0
   low-other j l = g .other j (λ z. omega arith) (omega arith) (omega arith) (λ z. absurd (omega arith))
@@ -244,19 +244,19 @@ module _ (w w' : List ℕ) (p : Scope) (s : Step) (b x : ℕ) (fine : Fine w p s
       rw
       (low-other (3072 + 8 * p .depth) (omega arith), low-other (3073 + 8 * p .depth) (omega arith), low-other (3074 + 8 * p .depth) (omega arith), firsts (p .depth) (omega arith), own-blocks (first w (p .depth)) (fine .sound .starts (p .depth) (omega arith)), captures-same w w' (p .depth) (held w (p .depth)) (omega (arith, below-256 (getD w (3074 + 8 * p .depth) 0))) (record { same = λ i c e. low-other i (omega arith) }))
 
-  local-state : (ps : List Proto) → allocate-register (x / 256) (x % 256) (state-of w p s ps) ≡ done tt (state-of w' p s ps)
+  local-state : (ps : List Proto) → allocate-register (x / 255) (x % 255) (state-of w p s ps) ≡ done tt (state-of w' p s ps)
   unfolding state-of open-at allocate-register _>>=_ and-then get set-current
   local-state ps =
       sym
       (rw
       (constants-same w w' (s .constants) (record { same = λ i c e. low-other i (omega (arith, fine .constants)) }), globals-same w w' (s .globals) (omega (arith, fine .globals, fine .constants)) (record { same = λ i c e. low-other i e }), local-open, local-around))
 
-  pub local-leaf : (y : ℕ) → s .outcome ≡ Accepted y → Leaf w p s w' p s a-local (fwd-unit (allocate-register (x / 256) (x % 256)))
+  pub local-leaf : (y : ℕ) → s .outcome ≡ Accepted y → Leaf w p s w' p s a-local (fwd-unit (allocate-register (x / 255) (x % 255)))
   local-leaf y on =
       let r = local-room deep room in
       record {
         moves = local-moves;
-        runs = λ ps. ran w w' p p s s (allocate-register (x / 256) (x % 256)) ps tt (λ a c. c) y y on on code refl (local-state ps);
+        runs = λ ps. ran w w' p p s s (allocate-register (x / 255) (x % 255)) ps tt (λ a c. c) y y on on code refl (local-state ps);
         image = λ o ps i. i;
       }
     where

@@ -47,14 +47,14 @@ refused-moves {w} {p} s cause node u h e =
     }
 
 -- the result of a refused step is a register
-small-by : (o : Outcome) (r : ℕ) → r < result-limit o → result-by o r < 256
+small-by : (o : Outcome) (r : ℕ) → r < result-limit o → result-by o r < 255
 small-by (Accepted x) r h = omega arith
 small-by (Refused k n) r h = h
 
-pub refused-small : {w : List ℕ} {p : Scope} (s : Step) (cause : Cause) (node : ℕ) → Fine w p s → refused-step s cause node .result < 256
+pub refused-small : {w : List ℕ} {p : Scope} (s : Step) (cause : Cause) (node : ℕ) → Fine w p s → refused-step s cause node .result < 255
 refused-small s cause node h = small-by (s .outcome) (s .result) (h .result)
 
-pub stopped-small : {w : List ℕ} {p : Scope} (s : Step) {k : Cause} {n : ℕ} → Fine w p s → s .outcome ≡ Refused k n → s .result < 256
+pub stopped-small : {w : List ℕ} {p : Scope} (s : Step) {k : Cause} {n : ℕ} → Fine w p s → s .outcome ≡ Refused k n → s .result < 255
 stopped-small s h e = rw e at (h .result)
 
 -- the current function is no ninth while nothing is refused

@@ -69,8 +69,9 @@ global-at w i = half w (8336 + i)
 abbrev pub edge : List ℕ → (n i : ℕ) → ℕ
 edge w n i = getD w (5708 + n + i) 0
 
+-- a local's register is one that was taken, so below 255
 abbrev pub local-of-word : ℕ → Local
-local-of-word x = record { name = x / 256; register = x % 256 }
+local-of-word x = record { name = x / 255; register = x % 255 }
 
 abbrev pub local-at : List ℕ → (n i : ℕ) → Local
 local-at w n i = local-of-word (getD w (5724 + 2 * n + i) 0)

@@ -20,9 +20,9 @@ abbrev pub found-of : Option ℕ → Found
 found-of none = Nothing
 found-of (some i) = At i
 
--- a register or an index is a byte
+-- a register or an index is below 255
 abbrev pub in-byte : Found → Type 0
-in-byte (At i) = i < 256
+in-byte (At i) = i < 255
 in-byte Nothing = Unit {0}
 in-byte Full = Unit {0}
 

@@ -146,10 +146,10 @@ pub record Sound (w : List ℕ) (p : Scope) : Type 0 where
   pub count : edge w (p .nodes) (p .block) ≤ p .nodes + 2040
   pub linked : Linked w (p .nodes) (edge w (p .nodes) (p .block))
 
--- a result is a register or the index of a constant or a prototype; 0 once a step is refused
+-- a result is a register, which is below 255, or the index of a constant or a prototype; 0 once a step is refused
 abbrev pub result-limit : Outcome → ℕ
 result-limit (Accepted written) = 1024
-result-limit (Refused cause node) = 256
+result-limit (Refused cause node) = 255
 
 pub record Fine (w : List ℕ) (p : Scope) (s : Step) : Type 0 where
   pub sound : Sound w p

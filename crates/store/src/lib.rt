@@ -108,7 +108,7 @@ fn set_half(work: &mut [u32], k: usize, v: u32)
 // fn next_register
 pub fn next_register(work: &mut [u32], step: Step, scope: Scope, node: usize) -> Step
     requires { ⌜ Fine (now work) scope step ⌝ }
-    ensures { λ r. ⌜ Leaf (now (work .entry)) scope step (now (work .exit)) scope r a-register (fwd-number (next-register node)) × (r .result < 256) ⌝ }
+    ensures { λ r. ⌜ Leaf (now (work .entry)) scope step (now (work .exit)) scope r a-register (fwd-number (next-register node)) × (r .result < 255) ⌝ }
 {
     let o = step.outcome;
     let meaning::Outcome::Accepted(_) = o else {
@@ -126,7 +126,7 @@ pub fn next_register(work: &mut [u32], step: Step, scope: Scope, node: usize) ->
 // `for _ in 1..n { self.next_register(); }`, at once: the count goes up by n, or there is no register left on the way.
 pub fn next_registers(work: &mut [u32], step: Step, scope: Scope, node: usize, n: usize) -> Step
     requires { ⌜ Fine (now work) scope step × (n < 65536) ⌝ }
-    ensures { λ r. ⌜ Leaf (now (work .entry)) scope step (now (work .exit)) scope r (some-registers n) (fwd-zero (next-registers node n)) × (r .result < 256) ⌝ }
+    ensures { λ r. ⌜ Leaf (now (work .entry)) scope step (now (work .exit)) scope r (some-registers n) (fwd-zero (next-registers node n)) × (r .result < 255) ⌝ }
 {
     let o = step.outcome;
     let meaning::Outcome::Accepted(_) = o else {
@@ -166,9 +166,9 @@ fn look(work: &[u32], nodes: usize, start: usize, end: usize, name: usize) -> Fo
     }
     while start < i {
         let x = work[base + (i - 1)];
-        let its = (x / 256) as usize;
+        let its = (x / 255) as usize;
         if its == name {
-            return Found::At(x % 256);
+            return Found::At(x % 255);
         }
         i = half_at(work, 9376 + (i - 1)) as usize;
     }
@@ -190,7 +190,7 @@ pub fn get_var_register(work: &[u32], scope: Scope, name: usize) -> Found
 
 // fn allocate_register: the local `name` names `register`, in the innermost block. It becomes the head of its bucket and links to the one before.
 pub fn allocate_register(work: &mut [u32], step: Step, scope: Scope, name: usize, register: u32)
-    requires { ⌜ Fine (now work) scope step × Room (now work) scope step 0 1 1 × (name < 65536) × (register < 256) ⌝ }
+    requires { ⌜ Fine (now work) scope step × Room (now work) scope step 0 1 1 × (name < 65536) × while-going (step .outcome) (register < 255) ⌝ }
     ensures { λ _. ⌜ Leaf (now (work .entry)) scope step (now (work .exit)) scope step a-local (fwd-unit (allocate-register name register)) ⌝ }
 {
     let o = step.outcome;
@@ -206,7 +206,7 @@ pub fn allocate_register(work: &mut [u32], step: Step, scope: Scope, name: usize
     let before = half_at(work, head);
     set_half(work, 9376 + i, before);
     set_half(work, head, count + 1);
-    work[5724 + 2 * nodes + i] = (name as u32) * 256 + register;
+    work[5724 + 2 * nodes + i] = (name as u32) * 255 + register;
     work[at] = count + 1;
 }
 
@@ -238,7 +238,7 @@ pub fn leave_block(work: &mut [u32], scope: Scope)
     let mut i = work[at + 1] as usize;
     while from < i {
         i -= 1;
-        let name = (work[5724 + 2 * nodes + i] / 256) as usize;
+        let name = (work[5724 + 2 * nodes + i] / 255) as usize;
         let b = bucket(name, nodes);
         let before = half_at(work, 9376 + i);
         set_half(work, 24576 + 22 * nodes + b, before);

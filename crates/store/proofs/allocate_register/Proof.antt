@@ -30,6 +30,13 @@ set-half-requires c κs =
     let n = a .scope .nodes in
     (omega (arith, start .pre .0 .sound .long, start .pre .0 .sound .count), omega (arith, half-at .ensures, half-small (now (a .work)) (24576 + 22 * n + bucket .result)))
 
+add-work : tie.Need-add-work
+add-work c =
+    let start = c .before .before .before .before .before .before .before .before .before .before .before .before .before .before .before .before in
+    let enum-told = c .before .before .before .before .before .before .before .before .before .before .before .before .before .enum-told in
+    let small = due (start .args .step .outcome) (start .pre .3) (goes (enum-told .given .1)) in
+    omega (arith, small, start .pre .2)
+
 slice-write-work-2 : tie.Need-slice-write-work-2
 slice-write-work-2 c =
     let set-half2 = c .before .before .set-half2 in
@@ -57,14 +64,15 @@ returns-2 c =
     let n = p .nodes in
     let i : ℕ = edge w n (p .block) in
     let b = bucket .result in
-    let x : ℕ = a .name * 256 + a .register in
+    let x : ℕ = a .name * 255 + a .register in
     let fine = start .pre .0 in
     let s = fine .sound in
     let deep = shallow (a .step) fine (enum-told .given .1) in
     let room = due (a .step .outcome) (start .pre .1 .roomy) (goes (enum-told .given .1)) in
-    let e1 : x / 256 ≡ a .name = omega (arith, start .pre .3) in
-    let e2 : x % 256 ≡ a .register = omega (arith, start .pre .3) in
-    let bx : x / 256 % (8 * n) ≡ b = ap (λ y. y % (8 * n)) e1 ∙ sym (bucket .ensures .0) in
+    let small = due (a .step .outcome) (start .pre .3) (goes (enum-told .given .1)) in
+    let e1 : x / 255 ≡ a .name = omega arith in
+    let e2 : x % 255 ≡ a .register = omega arith in
+    let bx : x / 255 % (8 * n) ≡ b = ap (λ y. y % (8 * n)) e1 ∙ sym (bucket .ensures .0) in
     let pushed = pushed-by w n (5708 + n + p .block) i b x (s .long) (s .count) (s .few) (omega arith) (omega (arith, s .blocks)) (omega (arith, local-room deep room .0)) (bucket .ensures .1) in
     rw (set-half2 .ensures, set-half .ensures, half-at .ensures)
     (rw (e1, e2) at (local-leaf w _ p (a .step) b x fine deep room (bucket .ensures .1) bx pushed _ (enum-told .given .1)))
@@ -92,7 +100,7 @@ allocate-register-spec =
     (λ c κs. search needs)
     (λ c. search needs)
     (λ c. search needs)
-    (λ c. search needs)
+    add-work
     (λ c. search needs)
     (λ c. search needs)
     (λ c. search needs)

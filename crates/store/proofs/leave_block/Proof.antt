@@ -91,7 +91,7 @@ loop-again c =
     let l = leaving (start .pre) in
     let inv = loop .inv in
     let u : loop .i ≡ suc i = omega arith in
-    let own : local-at w n i .name % (8 * n) ≡ bucket .result = ap (λ x. x / 256 % (8 * n)) (sym (inv .2 .other (5724 + 2 * n + i) (λ z. absurd (omega (arith, l .fits, inv .0))))) ∙ sym (bucket .ensures .0) in
+    let own : local-at w n i .name % (8 * n) ≡ bucket .result = ap (λ x. x / 255 % (8 * n)) (sym (inv .2 .other (5724 + 2 * n + i) (λ z. absurd (omega (arith, l .fits, inv .0))))) ∙ sym (bucket .ensures .0) in
     (omega arith, omega arith, rw (set-half .ensures) (popping-next w (loop .work) n i (bucket .result) (half-at .result) (getD w (5708 + n + a .scope .block + 1) 0) (l .linked) (omega (arith, inv .0)) (l .fits) (l .long) (bucket .ensures .1) own (half-at .ensures) (rw u at (inv .2))))
 
 same-length : tie.Need-same-length Inv-loop μ-loop
