@@ -7,12 +7,12 @@ use mathlib.Core.List.{List, [], _∷_, _++_}
 use Prim.Native.Nat.{ℕ, zero, suc, _+_, _-_, _*_, _<_, _≤_}
 use native.Mathlib.Nat.{add-zero}
 use native.Mathlib.Omega.{arith}
-use lib.ListN.{length, getD}
+use lib.ListN.{length, getD, List·getD-eq-default}
 use lib.Dec.{eqb, leb, ltb}
 use borrow.Author.Tests.{ltb-true, leb-true, eqb-false, eq-eqb, ne-eqb}
 use Rattle.meaning.specs.Base.{count}
 use Rattle.meaning.specs.Fields.{Field, field-at}
-use Rattle.meaning.specs.Grammar.{Item, never, bounds, bound, inside, names, lawful, items-of, items-for, kind-of, due-after, ends, fits, kids, tags-of, shape-at}
+use Rattle.meaning.specs.Grammar.{Item, never, bounds, bound, inside, names, lawful, grammar, items-of, items-for, kind-of, due-after, ends, fits, kids, tags-of, shape-at}
 use Rattle.meaning.specs.Tree.{kids-of, all-kids, parent-by, parent-of, depth-by, depth-of}
 use Rattle.meaning.proofs.Lists.{lt-or-le, and-left, and-right, false-true, zeros, count-append}
 
@@ -67,6 +67,15 @@ fits-tag ts i tag false p e = go (eqb tag 0x1E) e
 pub shape-fits : (fs : List Field) (j : ℕ) → shape-at fs j ≡ true → fits (lawful (tags-of fs) j) (items-of (field-at fs j .tag)) (field-at fs j .payload) ≡ true
 unfolding shape-at
 shape-fits fs j e = fits-tag (tags-of fs) j (field-at fs j .tag) (eqb (j + 1) (length fs)) (field-at fs j .payload) e
+
+-- its tag is one of the table's
+pub shape-tag : (fs : List Field) (j : ℕ) → shape-at fs j ≡ true → field-at fs j .tag < 31
+unfolding items-of grammar
+shape-tag fs j e =
+    ⊎-elim (λ (q : field-at fs j .tag < 31). q)
+    (λ (q : 31 ≤ field-at fs j .tag). absurd (none-fits (tags-of fs) j (field-at fs j .payload)
+    (ap (λ (is : List Item). fits (lawful (tags-of fs) j) is (field-at fs j .payload)) (sym (List·getD-eq-default grammar never q)) ∙ shape-fits fs j e)))
+    (lt-or-le (field-at fs j .tag) 31)
 
 -- a node of the right shape has no child at or above it
 pub shape-kids : (fs : List Field) (j c : ℕ) → shape-at fs j ≡ true → j ≤ c → count c (kids-of (field-at fs j)) ≡ 0

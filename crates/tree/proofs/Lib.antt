@@ -1,0 +1,8 @@
+-- Laws that the functions' proofs cite.
+pub mod Table
+pub mod Words
+pub mod Payloads
+pub mod Shapes
+pub mod Depths
+pub mod Parents
+pub mod Answers

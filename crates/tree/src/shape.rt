@@ -1,0 +1,132 @@
+// Refusal 3, and on the way who has whom as a child. The scratch has a word for each node below the one in hand: its tag, and 256 times the
+// node that has it as a child plus one, 0 where none has, 65,535 where it is a child more than once.
+use crate::fields::payload;
+use crate::fields::span_of;
+use crate::fields::wide;
+use crate::fields::word;
+use crate::rows::LIMITS;
+use crate::rows::ROWS;
+use crate::rows::STARTS;
+use crate::rows::is_child;
+use crate::rows::is_inside;
+use crate::rows::place_after;
+use crate::rows::start_of;
+use crate::rows::wide32;
+ghost use mathlib.Core.Path.{_≡_};
+ghost use mathlib.Core.Bool.{cond};
+ghost use Prim.Native.Nat.{_<_, _≤_};
+ghost use lib.ListN.{length};
+ghost use Rattle.meaning.specs.Base.{lowest};
+ghost use Rattle.meaning.specs.Fields.{fields};
+ghost use Rattle.meaning.specs.Grammar.{bounds, lawful, shape-at};
+ghost use Rattle.tree.specs.Rows.{row-list, first-rows, fits-row};
+ghost use Rattle.tree.specs.Scratch.{tags-in, note, note-word, note-row, enter-all, Beyond};
+
+// Notes that node i has w as a child.
+fn note(scratch: &mut [u32], i: usize, w: usize)
+    requires { ⌜ (i < 32768) × (w < length (now scratch)) ⌝ }
+    ensures { λ _. ⌜ now (scratch .exit) ≡ note (now (scratch .entry)) i w ⌝ }
+{
+    let v = scratch[w];
+    if v < 256 {
+        scratch[w] = v + 256 * (i as u32 + 1);
+    } else {
+        scratch[w] = v % 256 + 16776960;
+    }
+}
+
+// The word w of this kind is lawful in node i. If it names a child, that is noted.
+fn admit(scratch: &mut [u32], limits: &[u32; 36], i: usize, kind: usize, w: usize) -> bool
+    requires { ⌜ (i < 32768) × (i ≤ length (now scratch)) × (kind < 12) × (now limits ≡ bounds) ⌝ }
+    ensures lawful { λ r. ⌜ r ≡ lawful (tags-in (now (scratch .entry))) i kind w ⌝ }
+    ensures noted { λ r. ⌜ now (scratch .exit) ≡ cond r (note-word (now (scratch .entry)) i kind w) (now (scratch .entry)) ⌝ }
+{
+    if is_child(kind, w) {
+        if w < i {
+            if is_inside(limits, kind, wide32(scratch[w]) % 256) {
+                note(scratch, i, w);
+                return true;
+            }
+        }
+        return false;
+    }
+    if kind < 6 {
+        return is_inside(limits, kind, w);
+    }
+    true
+}
+
+// The payload p of node i fits from a row on.
+fn fits_from(
+    scratch: &mut [u32],
+    rows: &[u32; 78],
+    limits: &[u32; 36],
+    i: usize,
+    first: usize,
+    p: &[u8],
+) -> bool
+    requires { ⌜ (i < 32768) × (i ≤ length (now scratch)) × (first < 78) × (now rows ≡ row-list) × (now limits ≡ bounds) ⌝ }
+    ensures fits { λ r. ⌜ r ≡ fits-row (lawful (tags-in (now (scratch .entry))) i) first 0 (now (p .entry)) ⌝ }
+    ensures noted { λ r. ⌜ now (scratch .exit) ≡ note-row (lawful (tags-in (now (scratch .entry))) i) (now (scratch .entry)) i first 0 (now (p .entry)) ⌝ }
+{
+    let mut q = p;
+    let mut at = first;
+    let mut left: usize = 0;
+    while 2 <= q.len() {
+        let w = word(q, 0);
+        let row = wide32(rows[at]);
+        if admit(scratch, limits, i, row % 16, w) {
+            let place = place_after(row, left, w);
+            at = place.at;
+            left = place.left;
+            q = &q[2..];
+        } else {
+            return false;
+        }
+    }
+    if q.len() == 1 {
+        return false;
+    }
+    wide32(rows[at]) / 1048576 == 1
+}
+
+// The lowest node with a wrong shape, or n where every node is right, by the tables that are lent.
+fn first_wrong(
+    scratch: &mut [u32],
+    tree: &[u8],
+    n: usize,
+    rows: &[u32; 78],
+    starts: &[u8; 31],
+    limits: &[u32; 36],
+) -> usize
+    requires { ⌜ (n ≡ length (fields (now tree))) × (n ≤ 32768) × (n ≤ length (now scratch)) × (now rows ≡ row-list) × (now starts ≡ first-rows) × (now limits ≡ bounds) ⌝ }
+    ensures lowest { λ r. ⌜ r ≡ lowest (shape-at (fields (now (tree .entry)))) n ⌝ }
+    ensures entered { λ r. ⌜ (n ≤ r → now (scratch .exit) ≡ enter-all (now (scratch .entry)) 0 (fields (now (tree .entry)))) ⌝ }
+    ensures beyond { λ _. ⌜ Beyond n (now (scratch .entry)) (now (scratch .exit)) ⌝ }
+{
+    let mut t = tree;
+    let mut i: usize = 0;
+    while i < n {
+        let tag = t[0];
+        let first = start_of(starts, tag, i + 1 == n);
+        if fits_from(scratch, rows, limits, i, first, payload(t)) {
+            scratch[i] = tag as u32;
+            let k = span_of(t);
+            t = &t[k..];
+            i = i + 1;
+        } else {
+            return i;
+        }
+    }
+    n
+}
+
+// The same. The tables are copied here once: a constant that a function indexes is copied at each of its calls.
+pub fn first_misshapen(scratch: &mut [u32], tree: &[u8], n: usize) -> usize
+    requires { ⌜ (n ≡ length (fields (now tree))) × (n ≤ 32768) × (n ≤ length (now scratch)) ⌝ }
+    ensures place { λ r. ⌜ r ≡ lowest (shape-at (fields (now (tree .entry)))) n ⌝ }
+    ensures entered { λ r. ⌜ (n ≤ r → now (scratch .exit) ≡ enter-all (now (scratch .entry)) 0 (fields (now (tree .entry)))) ⌝ }
+    ensures beyond { λ _. ⌜ Beyond n (now (scratch .entry)) (now (scratch .exit)) ⌝ }
+{
+    first_wrong(scratch, tree, n, &ROWS, &STARTS, &LIMITS)
+}
