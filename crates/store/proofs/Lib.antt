@@ -14,3 +14,4 @@ pub mod Leaving
 pub mod Around
 pub mod Registers
 pub mod Pools
+pub mod Opening

@@ -5,3 +5,4 @@ pub mod Layout
 pub mod Store
 pub mod Promise
 pub mod Search
+pub mod Opening

@@ -1,0 +1,168 @@
+-- Scopes that are opened: the main function's on words that held anything, and that of a function inside another.
+use Prim.Native.Nat.{ℕ, zero, suc, _+_, _-_, _*_, _/_, _%_, _≤_, _<_}
+use mathlib.Core.Path.{_≡_, refl, sym, ap, ap₂, _∙_}
+use mathlib.Core.List.{List, [], _∷_, _++_}
+use native.Mathlib.Omega.{arith}
+use native.Mathlib.Decide.{ℕ-discrete}
+use native.Mathlib.Numerals.{add-one}
+use lib.ListN.{length, getD, set, take, length-set}
+use lib.Seq.{getD-set-same, getD-set-other}
+use Rattle.store.specs.declared.Step.{Step}
+use Rattle.store.specs.declared.Scope.{Scope}
+use Rattle.store.specs.Half.{half}
+use Rattle.store.specs.Table.{tab, stack, span}
+use Rattle.store.specs.Layout.{registers, held, first, saved, edge, local-at, block, latest, link, head, capture-at}
+use Rattle.store.specs.Store.{open-at, around, state-of, config-of, run, main-scope, first-step, Image, Linked, Sound, Fine}
+use Rattle.store.specs.Promise.{taken, Roomy, Room}
+use Rattle.store.specs.Opening.{Zeroed, Framed, Begun}
+use Rattle.store.proofs.Tables.{tab-none, stack-none, span-more, span-none}
+use Rattle.store.proofs.Halves.{half-even, half-odd}
+use Rattle.store.proofs.Regions.{frame}
+use Rattle.meaning.specs.State.{State, Open, Proto}
+use Rattle.meaning.specs.Lower.{start}
+use Rattle.forward.specs.Forward.{Config, config, going}
+
+-- ---- words that are cleared, one a turn
+
+pub zeroed-none : (w : List ℕ) (a : ℕ) → Zeroed w a a w
+zeroed-none w a = record { same = refl; zeros = λ i h k. absurd (omega arith); other = λ i h. refl }
+
+pub zeroed-more : {w w1 : List ℕ} {a i : ℕ} → a ≤ i → i < length w → Zeroed w a i w1 → Zeroed w a (i + 1) (set w1 i 0)
+zeroed-more {w} {w1} {a} {i} l k g =
+    record {
+      same = length-set w1 i 0 ∙ g .same;
+      zeros = λ j x y. zeros j x y (ℕ-discrete j i);
+      other = λ j x. getD-set-other w1 i j 0 0 (λ e. let z = x (omega arith) in omega arith) ∙ g .other j (λ y. let z = x y in omega arith);
+    }
+  where
+    zeros : (j : ℕ) → a ≤ j → j < i + 1 → Dec (j ≡ i) → getD (set w1 i 0) j 0 ≡ 0
+    zeros j x y (yes e) = rw e (getD-set-same w1 i 0 0 (omega (arith, g .same)))
+    zeros j x y (no e) = getD-set-other w1 i j 0 0 e ∙ g .zeros j x (omega arith)
+
+-- ---- a frame
+
+-- its five words, at a
+abbrev pub frame-words : (w : List ℕ) (a name block loops : ℕ) → List ℕ
+frame-words w a name block loops = set (set (set (set (set w a name) (a + 1) 0) (a + 2) 0) (a + 3) block) (a + 4) loops
+
+-- a word stays under a store to another
+under : (w : List ℕ) (i v j : ℕ) {x : ℕ} → ¬ (j ≡ i) → getD w j 0 ≡ x → getD (set w i v) j 0 ≡ x
+under w i v j ne e = getD-set-other w i j v 0 ne ∙ e
+
+pub framed : (w : List ℕ) (j name block loops : ℕ) → 3077 + 8 * j ≤ length w → Framed w j name block loops (frame-words w (3072 + 8 * j) name block loops)
+framed w j name block loops fits =
+    let a : ℕ = 3072 + 8 * j in
+    let w1 = set w a name in
+    let w2 = set w1 (a + 1) 0 in
+    let w3 = set w2 (a + 2) 0 in
+    let w4 = set w3 (a + 3) block in
+    let w5 = set w4 (a + 4) loops in
+    let l1 = length-set w a name in
+    let l2 = length-set w1 (a + 1) 0 in
+    let l3 = length-set w2 (a + 2) 0 in
+    let l4 = length-set w3 (a + 3) block in
+    let l5 = length-set w4 (a + 4) loops in
+    let r : getD w5 (a + 1) 0 ≡ 0 =
+    under w4 (a + 4) loops (a + 1) (omega arith) (under w3 (a + 3) block (a + 1) (omega arith) (under w2 (a + 2) 0 (a + 1) (omega arith) (getD-set-same w1 (a + 1) 0 0 (omega arith)))) in
+    let h : getD w5 (a + 2) 0 ≡ 0 = under w4 (a + 4) loops (a + 2) (omega arith) (under w3 (a + 3) block (a + 2) (omega arith) (getD-set-same w2 (a + 2) 0 0 (omega arith))) in
+    let f : getD w5 (a + 3) 0 ≡ block = under w4 (a + 4) loops (a + 3) (omega arith) (getD-set-same w3 (a + 3) block 0 (omega arith)) in
+    record {
+      same = l5 ∙ l4 ∙ l3 ∙ l2 ∙ l1;
+      name-is =
+          under w4 (a + 4) loops a (omega arith) (under w3 (a + 3) block a (omega arith) (under w2 (a + 2) 0 a (omega arith) (under w1 (a + 1) 0 a (omega arith) (getD-set-same w a name 0 (omega arith)))));
+      registers-none = ap (λ x. x % 256) (sym (frame w5 j 1 (3073 + 8 * j) (omega arith)) ∙ r);
+      held-none = ap (λ x. x % 256) (sym (frame w5 j 2 (3074 + 8 * j) (omega arith)) ∙ h);
+      first-is = sym (frame w5 j 3 (3075 + 8 * j) (omega arith)) ∙ f;
+      saved-is = sym (frame w5 j 4 (3076 + 8 * j) (omega arith)) ∙ getD-set-same w4 (a + 4) loops 0 (omega arith);
+      other = λ i k.
+          under w4 (a + 4) loops i (λ e. let z = k (omega arith) in omega arith) (under w3 (a + 3) block i (λ e. let z = k (omega arith) in omega arith) (under w2 (a + 2) 0 i (λ e. let z = k (omega arith) in omega arith) (under w1 (a + 1) 0 i (λ e. let z = k (omega arith) in omega arith) (getD-set-other w a i name 0 (λ e. let z = k (omega arith) in omega arith)))));
+    }
+
+-- ---- the start
+
+-- the heads are cleared, then the first two edges, then main's frame is set up
+module _ (w w1 w2 w' : List ℕ) (n : ℕ) (some : 1 ≤ n) (few : n ≤ 32768) (long : 12288 + 16 * n ≤ length w) (cleared : Zeroed w (12288 + 11 * n) (12288 + 15 * n) w1) (edged : w2 ≡ set (set w1 (5708 + n) 0) (5709 + n) 0) (framed : Framed w2 0 65535 0 0 w') where
+  length-w2 : length w2 ≡ length w
+  length-w2 = ap length edged ∙ length-set (set w1 (5708 + n) 0) (5709 + n) 0 ∙ length-set w1 (5708 + n) 0 ∙ cleared .same
+
+  edges : (i : ℕ) → i ≤ 1 → edge w' n i ≡ 0
+  edges i h = framed .other (5708 + n + i) (λ z. omega arith) ∙ ap (λ l. getD l (5708 + n + i) 0) edged ∙ set-to (ℕ-discrete i 0)
+    where
+      l1 : length (set w1 (5708 + n) 0) ≡ length w
+      l1 = length-set w1 (5708 + n) 0 ∙ cleared .same
+
+      set-to : Dec (i ≡ 0) → getD (set (set w1 (5708 + n) 0) (5709 + n) 0) (5708 + n + i) 0 ≡ 0
+      set-to (yes e) =
+          let at : 5708 + n + i ≡ 5708 + n = omega arith in
+          rw at (under (set w1 (5708 + n) 0) (5709 + n) 0 (5708 + n) (omega arith) (getD-set-same w1 (5708 + n) 0 0 (omega (arith, cleared .same))))
+      set-to (no e) =
+          let at : 5708 + n + i ≡ 5709 + n = omega arith in
+          rw at (getD-set-same (set w1 (5708 + n) 0) (5709 + n) 0 0 (omega (arith, l1)))
+
+  above : (i : ℕ) → 12288 + 11 * n ≤ i → getD w' i 0 ≡ getD w1 i 0
+  above i h =
+      framed .other i (λ z. omega arith)
+      ∙ ap (λ l. getD l i 0) edged
+      ∙ under (set w1 (5708 + n) 0) (5709 + n) 0 i (omega arith) (getD-set-other w1 (5708 + n) i 0 0 (omega arith))
+
+  heads : (i : ℕ) → 12288 + 11 * n ≤ i → i < 12288 + 15 * n → getD w' i 0 ≡ 0
+  heads i h k = above i h ∙ cleared .zeros i h k
+
+  same : length w' ≡ length w
+  same = framed .same ∙ length-w2
+
+  start-linked : Linked w' n 0
+  unfolding latest
+  start-linked = record { links = λ i h. absurd (omega arith); heads = λ b h. empty b h (ℕ-discrete ((24576 + 22 * n + b) % 2) 0) }
+    where
+      empty : (b : ℕ) → b < 8 * n → Dec ((24576 + 22 * n + b) % 2 ≡ 0) → head w' n b ≡ 0
+      empty b h (yes e) = omega (arith, half-even w' (24576 + 22 * n + b) e, heads ((24576 + 22 * n + b) / 2) (omega arith) (omega arith))
+      empty b h (no e) = omega (arith, half-odd w' (24576 + 22 * n + b) e, heads ((24576 + 22 * n + b) / 2) (omega arith) (omega arith))
+
+  start-sound : Sound w' (main-scope n)
+  start-sound =
+      let e = edges 1 (omega arith) in
+      record {
+        some = some;
+        few = few;
+        long = omega (arith, same);
+        deep = omega arith;
+        blocks = omega arith;
+        loops = omega arith;
+        sorted = λ i h. omega (arith, edges i (omega arith), edges (suc i) (omega arith));
+        main = framed .first-is;
+        starts = λ j h. let z : j ≡ 0 = omega arith in rw z (omega (arith, framed .first-is));
+        count = omega arith;
+        linked = rw e start-linked;
+      }
+
+  start-fine : Fine w' (main-scope n) first-step
+  start-fine =
+      let e = edges 1 (omega arith) in
+      record { sound = start-sound; nested = omega arith; room = omega arith; constants = omega arith; globals = omega arith; functions = omega arith; written = omega arith; result = omega arith }
+
+  start-room : Room w' (main-scope n) first-step n 0 0
+  unfolding taken
+  start-room =
+      let e = edges 1 (omega arith) in
+      record { roomy = record { words = omega (arith, framed .registers-none); locals = omega (arith, framed .registers-none); globals = omega arith } }
+
+  start-blocks : span (block w' n) 0 1 ≡ [] ∷ []
+  start-blocks =
+      span-more (block w' n) 0 0 (omega arith)
+      ∙ ap₂ (λ b l. b ∷ l) (rw (edges 1 (omega arith)) (span-none (local-at w' n) (edge w' n 0) 0 (omega arith))) (span-none (block w' n) 0 0 (omega arith))
+
+  start-runs : run w' (main-scope n) first-step [] ≡ going (config [] 0 start)
+  unfolding run config-of state-of open-at around tab stack
+  start-runs = rw (framed .name-is, framed .registers-none, framed .held-none, framed .first-is, start-blocks)
+
+  pub begun : Begun w n w'
+  begun =
+      record {
+        same = same;
+        offsets = λ i h. above i (omega arith) ∙ cleared .other i (λ z. h);
+        fine = start-fine;
+        room = start-room;
+        runs = start-runs;
+        image = λ o. record { counted = refl; sized = refl; bytes = λ h. refl };
+      }

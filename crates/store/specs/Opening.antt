@@ -1,0 +1,38 @@
+-- What the functions promise that open a scope: the work area at the start of the lowering, and a function inside another.
+use Prim.Native.Nat.{ℕ, suc, _+_, _*_, _<_, _≤_}
+use mathlib.Core.Path.{_≡_}
+use mathlib.Core.List.{List, []}
+use lib.ListN.{length, getD}
+use Rattle.store.specs.declared.Step.{Step}
+use Rattle.store.specs.declared.Scope.{Scope}
+use Rattle.store.specs.Layout.{name-of, registers, held, first, saved, edge}
+use Rattle.store.specs.Store.{run, main-scope, inner, first-step, Image, Fine}
+use Rattle.store.specs.Promise.{Room, nothing, Leaf}
+use Rattle.meaning.specs.Lower.{start}
+use Rattle.meaning.specs.State.{enter-function}
+use Rattle.forward.specs.Forward.{config, going, fwd-unit}
+
+-- the words from a up to b are 0, the others stay
+pub record Zeroed (w : List ℕ) (a b : ℕ) (w' : List ℕ) : Type 0 where
+  pub same : length w' ≡ length w
+  pub zeros : (i : ℕ) → a ≤ i → i < b → getD w' i 0 ≡ 0
+  pub other : (i : ℕ) → (a ≤ i → b ≤ i) → getD w' i 0 ≡ getD w i 0
+
+-- the frame of function j is set up: its name, no register, no capture, its first block, the loops of the function around it
+pub record Framed (w : List ℕ) (j name block loops : ℕ) (w' : List ℕ) : Type 0 where
+  pub same : length w' ≡ length w
+  pub name-is : name-of w' j ≡ name
+  pub registers-none : registers w' j ≡ 0
+  pub held-none : held w' j ≡ 0
+  pub first-is : first w' j ≡ block
+  pub saved-is : saved w' j ≡ loops
+  pub other : (i : ℕ) → (3072 + 8 * j ≤ i → 3077 + 8 * j ≤ i) → getD w' i 0 ≡ getD w i 0
+
+-- the work area stands for what the definition starts from, whatever it held, and has room for every node; the nodes' offsets stay
+pub record Begun (w : List ℕ) (n : ℕ) (w' : List ℕ) : Type 0 where
+  pub same : length w' ≡ length w
+  pub offsets : (i : ℕ) → 12288 + 15 * n ≤ i → getD w' i 0 ≡ getD w i 0
+  pub fine : Fine w' (main-scope n) first-step
+  pub room : Room w' (main-scope n) first-step n 0 0
+  pub runs : run w' (main-scope n) first-step [] ≡ going (config [] 0 start)
+  pub image : (o : List ℕ) → Image o first-step []
