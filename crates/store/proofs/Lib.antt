@@ -15,3 +15,4 @@ pub mod Around
 pub mod Registers
 pub mod Pools
 pub mod Opening
+pub mod Functions

@@ -36,3 +36,11 @@ pub record Begun (w : List ℕ) (n : ℕ) (w' : List ℕ) : Type 0 where
   pub room : Room w' (main-scope n) first-step n 0 0
   pub runs : run w' (main-scope n) first-step [] ≡ going (config [] 0 start)
   pub image : (o : List ℕ) → Image o first-step []
+
+-- a function inside p is entered: its scope is `inner p`; what p's scope needs when it is left again
+pub record Enters (w : List ℕ) (p : Scope) (s : Step) (w' : List ℕ) (r : Step) (node name : ℕ) : Type 0 where
+  pub leaf : Leaf w p s w' (inner p) r nothing (fwd-unit (enter-function node name))
+  pub first-is : first w' (suc (p .depth)) ≡ p .block
+  pub saved-is : saved w' (suc (p .depth)) ≡ p .loops
+  pub own : registers w' (p .depth) ≡ registers w (p .depth)
+  pub start : edge w' (p .nodes) (p .block) ≡ edge w (p .nodes) (p .block)

@@ -11,10 +11,10 @@ ghost use Rattle.store.specs.declared.Step.{Step};
 ghost use Rattle.store.specs.Half.{half, with-half};
 ghost use Rattle.store.specs.Table.{stack};
 ghost use Rattle.store.specs.Layout.{constant-by, global-at, local-at};
-ghost use Rattle.store.specs.Store.{first-step, refused-step, with-result, while-going, global-scope, deeper, Sound, Fine, Kept};
+ghost use Rattle.store.specs.Store.{first-step, refused-step, with-result, while-going, global-scope, deeper, inner, Sound, Fine, Kept};
 ghost use Rattle.store.specs.Promise.{nothing, a-register, some-registers, a-local, a-constant, a-global, Room, Leaf, Tells, Popped};
 ghost use Rattle.store.specs.Search.{option-of, found-of, in-byte, seek, Walkable};
-ghost use Rattle.store.specs.Opening.{Zeroed, Framed, Begun};
+ghost use Rattle.store.specs.Opening.{Zeroed, Framed, Begun, Enters};
 
 // Module 3 of document 01: registers, blocks, locals, captures, globals and constants in the lent work area. specs/Layout.antt has its table.
 
@@ -48,6 +48,12 @@ pub enum Found {
 pub struct Lookup {
     pub step: Step,
     pub found: Found,
+}
+
+// A step with the scope inside.
+pub struct Entered {
+    pub step: Step,
+    pub scope: Scope,
 }
 
 // A step that is refused stays so; any other is now.
@@ -401,5 +407,48 @@ pub fn begin(work: &mut [u32], nodes: usize) -> Step
         globals: 0,
         functions: 0,
         result: 0,
+    }
+}
+
+// ---- functions
+
+// fn enter_function: a ninth is refused, and has a scope of its own all the same, in which nothing happens any more.
+pub fn enter_function(
+    work: &mut [u32],
+    step: Step,
+    scope: Scope,
+    node: usize,
+    name: usize,
+) -> Entered
+    requires { ⌜ Fine (now work) scope step × (scope .depth ≤ 7) × (scope .block < scope .nodes + 10) × (name < 65536) ⌝ }
+    ensures { λ r. ⌜ (r .scope ≡ inner scope) × Enters (now (work .entry)) scope step (now (work .exit)) (r .step) node name ⌝ }
+{
+    let depth = scope.depth;
+    let block = scope.block;
+    open_frame(
+        work,
+        depth + 1,
+        name as u32,
+        block as u32,
+        scope.loops as u32,
+    );
+    let at = 5708 + scope.nodes + block;
+    work[at + 1] = work[at];
+    let inside = Scope {
+        nodes: scope.nodes,
+        depth: depth + 1,
+        block: block + 1,
+        loops: 0,
+    };
+    if depth == 7 {
+        let refused = refuse(step, meaning::Cause::Nesting, node);
+        return Entered {
+            step: refused,
+            scope: inside,
+        };
+    }
+    Entered {
+        step: step,
+        scope: inside,
     }
 }
