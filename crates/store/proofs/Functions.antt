@@ -1,33 +1,32 @@
 -- A function inside another: its frame and its first block are set up, and around its lowering the words stand for the enclosing function again.
-use Prim.Native.Nat.{ℕ, zero, suc, _+_, _-_, _*_, _%_, _≤_, _<_}
+use Prim.Native.Nat.{ℕ, zero, suc, _+_, _*_, _%_, _≤_, _<_}
 use mathlib.Core.Path.{_≡_, refl, sym, ap, ap₂, _∙_}
-use mathlib.Core.List.{List, [], _∷_}
+use mathlib.Core.List.{List, _∷_}
 use native.Mathlib.Omega.{arith}
 use native.Mathlib.Decide.{decLt}
 use native.Mathlib.Numerals.{add-one}
 use lib.ListN.{length, getD, set, length-set}
 use lib.Seq.{getD-set-same, getD-set-other}
-use lib.Dec.{leb}
 use borrow.Author.Tests.{le-leb, lt-leb}
 use Rattle.store.specs.declared.Step.{Step}
 use Rattle.store.specs.declared.Scope.{Scope}
-use Rattle.store.specs.Table.{tab, stack, span}
-use Rattle.store.specs.Layout.{name-of, registers, held, first, saved, edge, block, inst-at, top, capture-at}
-use Rattle.store.specs.Store.{open-at, around, state-of, run, goes-on, while-going, refused-by, refused-step, deeper, inner, Sound, Fine, Kept}
-use Rattle.store.specs.Promise.{nothing, taken, Used, Moves, Leaf}
+use Rattle.store.specs.Table.{tab}
+use Rattle.store.specs.Layout.{registers, held, first, saved, edge, block}
+use Rattle.store.specs.Store.{open-at, around, state-of, run, goes-on, while-going, refused-by, refused-step, inner, Sound, Fine, Kept}
+use Rattle.store.specs.Promise.{nothing, taken, Moves, Leaf}
 use Rattle.store.specs.Opening.{Framed, Enters}
 use Rattle.store.proofs.Tables.{span-none}
-use Rattle.store.proofs.Regions.{Same, constants-same, globals-same, code-same, captures-same, around-same, around-length, below-256}
-use Rattle.store.proofs.Runs.{due, promised, goes, stays, ran, ran-out, image-same, image-none}
+use Rattle.store.proofs.Regions.{constants-same, globals-same, code-same, captures-same, around-same, around-length, below-256}
+use Rattle.store.proofs.Runs.{promised, stays, ran, ran-out}
 use Rattle.store.proofs.Steps.{refused-outcome}
 use Rattle.store.proofs.Compose.{refused-leaf}
 use Rattle.store.proofs.Blocks.{Opened, opened-edge, opened-top, opened-blocks, opened-span, opened-sound}
-use Rattle.meaning.specs.State.{State, Open, Proto, refused, done, refuse, if-then, fresh, enter-function}
+use Rattle.meaning.specs.State.{Proto, refused, done, refuse, if-then, fresh, enter-function}
 use Rattle.meaning.specs.declared.Cause.{Cause}
 use Rattle.meaning.specs.declared.Cause.the-variants.{Nesting}
 use Rattle.meaning.specs.declared.Outcome.{Outcome}
 use Rattle.meaning.specs.declared.Outcome.the-variants.{Accepted, Refused}
-use Rattle.forward.specs.Forward.{Config, bind, fwd-unit, add-none}
+use Rattle.forward.specs.Forward.{bind, fwd-unit, add-none}
 
 -- ---- a function is entered: a frame, then an edge
 
@@ -185,12 +184,12 @@ module _ (w w1 : List ℕ) (p : Scope) (s : Step) (name : ℕ) (fine : Fine w p 
       runs (Refused k n) on ps = stays w w' p (inner p) s (refused-step s Nesting node) (fwd-unit (enter-function node name)) k n on (rw on) ps
       runs (Accepted x) on ps = ran-out w w' p (inner p) s (refused-step s Nesting node) (enter-function node name) ps add-none x Nesting node on (refused-outcome s Nesting node on) (too-deep e node ps)
 
-  enters-by : (r : Step) (node : ℕ) → Leaf w p s w' (inner p) r nothing (fwd-unit (enter-function node name)) → Enters w p s w' r node name
-  enters-by r node leaf =
-      record { leaf = leaf; first-is = new-first; saved-is = new-saved; own = outer-registers (p .depth) (omega arith); start = opened-edge (fine .sound) lim entered-opened (p .block) (omega arith) }
+  enters-by : (r : Step) (node : ℕ) → r .code ≡ s .code → Leaf w p s w' (inner p) r nothing (fwd-unit (enter-function node name)) → Enters w p s w' r node name
+  enters-by r node e leaf =
+      record { leaf = leaf; code = e; first-is = new-first; saved-is = new-saved; own = outer-registers (p .depth) (omega arith); start = opened-edge (fine .sound) lim entered-opened (p .block) (omega arith) }
 
   pub enters-in : ¬ (p .depth ≡ 7) → (node : ℕ) → Enters w p s w' s node name
-  enters-in ne node = enters-by s node (entered-in (omega arith) node)
+  enters-in ne node = enters-by s node refl (entered-in (omega arith) node)
 
   pub enters-out : p .depth ≡ 7 → (node : ℕ) → Enters w p s w' (refused-step s Nesting node) node name
-  enters-out e node = enters-by (refused-step s Nesting node) node (entered-out e node)
+  enters-out e node = enters-by (refused-step s Nesting node) node refl (entered-out e node)

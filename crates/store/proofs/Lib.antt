@@ -16,3 +16,4 @@ pub mod Registers
 pub mod Pools
 pub mod Opening
 pub mod Functions
+pub mod Inside

@@ -1,26 +1,21 @@
 -- Scopes that are opened: the main function's on words that held anything, and that of a function inside another.
-use Prim.Native.Nat.{ℕ, zero, suc, _+_, _-_, _*_, _/_, _%_, _≤_, _<_}
+use Prim.Native.Nat.{ℕ, suc, _+_, _*_, _/_, _%_, _≤_, _<_}
 use mathlib.Core.Path.{_≡_, refl, sym, ap, ap₂, _∙_}
-use mathlib.Core.List.{List, [], _∷_, _++_}
+use mathlib.Core.List.{List, [], _∷_}
 use native.Mathlib.Omega.{arith}
 use native.Mathlib.Decide.{ℕ-discrete}
-use native.Mathlib.Numerals.{add-one}
-use lib.ListN.{length, getD, set, take, length-set}
+use lib.ListN.{length, getD, set, length-set}
 use lib.Seq.{getD-set-same, getD-set-other}
-use Rattle.store.specs.declared.Step.{Step}
-use Rattle.store.specs.declared.Scope.{Scope}
-use Rattle.store.specs.Half.{half}
 use Rattle.store.specs.Table.{tab, stack, span}
-use Rattle.store.specs.Layout.{registers, held, first, saved, edge, local-at, block, latest, link, head, capture-at}
-use Rattle.store.specs.Store.{open-at, around, state-of, config-of, run, main-scope, first-step, Image, Linked, Sound, Fine}
-use Rattle.store.specs.Promise.{taken, Roomy, Room}
+use Rattle.store.specs.Layout.{edge, local-at, block, latest, head}
+use Rattle.store.specs.Store.{open-at, around, state-of, config-of, run, main-scope, first-step, Linked, Sound, Fine}
+use Rattle.store.specs.Promise.{taken, Room}
 use Rattle.store.specs.Opening.{Zeroed, Framed, Begun}
-use Rattle.store.proofs.Tables.{tab-none, stack-none, span-more, span-none}
+use Rattle.store.proofs.Tables.{span-more, span-none}
 use Rattle.store.proofs.Halves.{half-even, half-odd}
 use Rattle.store.proofs.Regions.{frame}
-use Rattle.meaning.specs.State.{State, Open, Proto}
 use Rattle.meaning.specs.Lower.{start}
-use Rattle.forward.specs.Forward.{Config, config, going}
+use Rattle.forward.specs.Forward.{config, going}
 
 -- ---- words that are cleared, one a turn
 

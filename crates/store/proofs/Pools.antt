@@ -1,35 +1,35 @@
 -- Constants and globals: a table grows by one, and nothing else that the words stand for changes.
-use Prim.Native.Nat.{ℕ, zero, suc, _+_, _-_, _*_, _/_, _%_, _≤_, _<_}
+use Prim.Native.Nat.{ℕ, zero, suc, _+_, _-_, _*_, _/_, _≤_, _<_}
 use mathlib.Core.Path.{_≡_, refl, sym, ap, ap₂, _∙_}
 use mathlib.Core.List.{List, [], _∷_, _++_}
 use mathlib.Core.Bool.{Bool, true, false, _&&_}
 use native.Mathlib.Omega.{arith}
 use native.Mathlib.Decide.{ℕ-discrete}
 use native.Mathlib.Numerals.{add-one}
-use lib.ListN.{length, getD, set, length-set}
+use lib.ListN.{length, set, length-set}
 use lib.Seq.{getD-set-same, getD-set-other}
 use lib.Dec.{eqb}
 use borrow.Author.Tests.{eq-eqb, ne-eqb}
 use Rattle.store.specs.declared.Step.{Step}
 use Rattle.store.specs.declared.Scope.{Scope}
-use Rattle.store.specs.Half.{half, with-half}
+use Rattle.store.specs.Half.{with-half}
 use Rattle.store.specs.Table.{tab, stack, span}
-use Rattle.store.specs.Layout.{constant-by, constant-at, global-at, edge, block, inst-at, top}
-use Rattle.store.specs.Store.{open-at, around, state-of, config-of, run-by, run, while-going, global-scope, refused-step, Sound, Fine}
-use Rattle.store.specs.Promise.{Cost, a-constant, a-global, taken, Room, Used, Moves, Leaf, Tells}
+use Rattle.store.specs.Layout.{constant-by, constant-at, global-at, block, top}
+use Rattle.store.specs.Store.{open-at, around, state-of, while-going, global-scope, refused-step, Sound, Fine}
+use Rattle.store.specs.Promise.{a-constant, a-global, Room, Moves, Leaf, Tells}
 use Rattle.store.proofs.Tables.{tab-suc, tab-length, stack-none, stack-suc, stack-ext, span-more, span-none}
 use Rattle.store.proofs.Halves.{length-half, word-other, half-same, half-other}
 use Rattle.store.proofs.Regions.{Same, Only, only-set, only-trans, only-wider, below, above, constants-same, globals-same, code-same}
 use Rattle.store.proofs.Runs.{due, promised, ran, ran-out, image-same, image-none}
 use Rattle.store.proofs.Steady.{Clear, sound-apart, kept-apart, edge-apart, open-apart, around-apart, taken-apart, fine-words, fine-step}
 use Rattle.store.proofs.Steps.{refused-outcome, refused-moves}
+use Rattle.store.proofs.Compose.{told-of}
 use Rattle.meaning.specs.Constant.{Constant}
-use Rattle.meaning.specs.State.{State, Proto, Res, refused, done, get, refuse, if-then, add-constant, add-global, among, is-single, is-global, is-global-context, is-global-var}
+use Rattle.meaning.specs.State.{State, Proto, refused, done, refuse, if-then, add-constant, add-global, among, is-single, is-global, is-global-context, is-global-var}
 use Rattle.meaning.specs.declared.Cause.the-variants.{Constants}
-use Rattle.meaning.specs.declared.Outcome.{Outcome}
-use Rattle.meaning.specs.declared.Outcome.the-variants.{Accepted, Refused}
-use Rattle.forward.specs.Forward.{Config, going, fwd-number, fwd-unit, give}
-use Rattle.forward.proofs.Opened.{with-constant, with-global, answers-get}
+use Rattle.meaning.specs.declared.Outcome.the-variants.{Accepted}
+use Rattle.forward.specs.Forward.{Config, fwd-number, fwd-unit, give}
+use Rattle.forward.proofs.Opened.{with-constant}
 
 -- ---- constants
 
@@ -208,15 +208,6 @@ global-here p e = cases (ℕ-discrete (p .depth) 0) (ℕ-discrete (p .block) 1)
 
 -- ---- questions
 
--- what is asked of the state, from what the words say
-asked : {A : Type 0} (w : List ℕ) (p : Scope) (s : Step) (a : A) (f : State → A) → ((ps : List Proto) → f (state-of w p s ps) ≡ a) → Tells w p s a (get f)
-unfolding run config-of
-asked {A} w p s a f h ps = answers-get (run w p s ps) f a (λ c e. told (s .outcome) c e)
-  where
-    told : (o : Outcome) (c : Config) → run-by o (config-of w p s ps) ≡ going c → f (c .state) ≡ a
-    told (Accepted x) c e = let g : config-of w p s ps ≡ c = cc in sym (ap (λ (y : Config). f (y .state)) g) ∙ h ps
-    told (Refused x y) c e = absurd (let z : _≡_ {A = ℕ} 0 1 = cc in omega arith)
-
 -- one open block: the words say where the main function's blocks begin
 single-by : {X : Type 0} (f : ℕ → X) (b : ℕ) → 0 < b → is-single (span f 0 b) ≡ eqb b 1
 single-by f zero h = absurd (omega arith)
@@ -225,7 +216,7 @@ single-by f (suc (suc b)) h = rw (span-more f 0 (suc b) (omega arith), span-more
 
 pub context-told : (w : List ℕ) (p : Scope) (s : Step) → Sound w p → Tells w p s (global-scope p) is-global-context
 unfolding is-global-context state-of open-at around
-context-told w p s h = asked w p s (global-scope p) (λ t. is-global (t .current) (t .outer)) (λ ps. cases (p .depth) refl)
+context-told w p s h = told-of w p s (λ t. is-global (t .current) (t .outer)) (global-scope p) (λ ps. cases (p .depth) refl)
   where
     cases : (d : ℕ) → d ≡ p .depth → is-global (open-at w (p .nodes) d (p .block) (p .loops)) (around w (p .nodes) d) ≡ eqb d 0 && eqb (p .block) 1
     cases zero e = rw (h .main) (single-by (block w (p .nodes)) (p .block) (omega (arith, h .starts 0 (omega arith))))
@@ -247,4 +238,4 @@ among-miss w name i h e =
 
 pub global-told : (w : List ℕ) (p : Scope) (s : Step) (name : ℕ) (r : Bool) → r ≡ among name (stack (global-at w) (s .globals)) → Tells w p s r (is-global-var name)
 unfolding is-global-var state-of
-global-told w p s name r e = asked w p s r (λ t. among name (t .globals)) (λ ps. sym e)
+global-told w p s name r e = told-of w p s (λ t. among name (t .globals)) r (λ ps. sym e)

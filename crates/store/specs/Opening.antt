@@ -6,8 +6,8 @@ use lib.ListN.{length, getD}
 use Rattle.store.specs.declared.Step.{Step}
 use Rattle.store.specs.declared.Scope.{Scope}
 use Rattle.store.specs.Layout.{name-of, registers, held, first, saved, edge}
-use Rattle.store.specs.Store.{run, main-scope, inner, first-step, Image, Fine}
-use Rattle.store.specs.Promise.{Room, nothing, Leaf}
+use Rattle.store.specs.Store.{run, main-scope, inner, first-step, goes-on, while-going, Image, Fine}
+use Rattle.store.specs.Promise.{Cost, Room, nothing, Leaf}
 use Rattle.meaning.specs.Lower.{start}
 use Rattle.meaning.specs.State.{enter-function}
 use Rattle.forward.specs.Forward.{config, going, fwd-unit}
@@ -40,7 +40,27 @@ pub record Begun (w : List ℕ) (n : ℕ) (w' : List ℕ) : Type 0 where
 -- a function inside p is entered: its scope is `inner p`; what p's scope needs when it is left again
 pub record Enters (w : List ℕ) (p : Scope) (s : Step) (w' : List ℕ) (r : Step) (node name : ℕ) : Type 0 where
   pub leaf : Leaf w p s w' (inner p) r nothing (fwd-unit (enter-function node name))
+  pub code : r .code ≡ s .code
   pub first-is : first w' (suc (p .depth)) ≡ p .block
   pub saved-is : saved w' (suc (p .depth)) ≡ p .loops
   pub own : registers w' (p .depth) ≡ registers w (p .depth)
   pub start : edge w' (p .nodes) (p .block) ≡ edge w (p .nodes) (p .block)
+
+-- the words of a function inside p: p's scope can be read from them again
+pub record Leavable (w : List ℕ) (p : Scope) : Type 0 where
+  pub loops : p .loops ≤ p .nodes + 10
+  pub starts : (j : ℕ) → j ≤ p .depth → first w j < p .block
+  pub first-is : first w (suc (p .depth)) ≡ p .block
+  pub saved-is : saved w (suc (p .depth)) ≡ p .loops
+
+-- a function's code is cut off, from `first` on, or a refusal stands; the pools stay
+pub record Closed (s : Step) (first : ℕ) (r : Step) : Type 0 where
+  pub code : while-going (r .outcome) (r .code ≡ first)
+  pub longer : first ≤ r .code
+  pub back : goes-on (r .outcome) → goes-on (s .outcome)
+  pub constants : r .constants ≡ s .constants
+  pub globals : r .globals ≡ s .globals
+
+-- the cost of a function inside: its code, its locals and its registers are given back
+abbrev pub inside : Cost → Cost
+inside u = record { words = 0; locals = 0; names = u .names; words-back = 0; locals-back = 0; names-back = u .names-back }

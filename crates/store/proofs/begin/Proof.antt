@@ -2,7 +2,6 @@
 use borrow.Author.Needs.{needs}
 use Rattle.store.proofs.begin.Statement.{statement}
 use Rattle.store.proofs.begin.Tie as tie
-use Prim.Native.Nat.{_+_}
 use mathlib.Core.Path.{refl, _∙_}
 use native.Mathlib.Omega.{arith}
 use lib.ListN.{length-set}

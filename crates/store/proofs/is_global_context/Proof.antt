@@ -1,9 +1,8 @@
 -- The scope shows what the definition asks of the state (Pools.antt).
-use borrow.Author.Needs.{needs}
 use Rattle.store.proofs.is_global_context.Statement.{statement}
 use Rattle.store.proofs.is_global_context.Tie as tie
-use mathlib.Core.Path.{_≡_, sym, refl}
-use mathlib.Core.Bool.{false, _&&_}
+use mathlib.Core.Path.{_≡_, sym}
+use mathlib.Core.Bool.{false}
 use lib.Dec.{eqb}
 use borrow.Author.Tests.{eq-eqb, ne-eqb}
 use Rattle.store.specs.Store.{global-scope}

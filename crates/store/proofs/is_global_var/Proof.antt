@@ -10,7 +10,6 @@ use denote.Ref.{now}
 use Rattle.meaning.specs.State.{among}
 use Rattle.store.specs.Table.{stack}
 use Rattle.store.specs.Layout.{global-at}
-use Rattle.store.proofs.Halves.{half-small}
 use Rattle.store.proofs.Pools.{among-none, among-hit, among-miss, global-told}
 
 abbrev Inv-loop : tie.InvT-loop

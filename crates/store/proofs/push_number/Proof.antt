@@ -2,7 +2,7 @@
 use borrow.Author.Needs.{needs}
 use Rattle.store.proofs.push_number.Statement.{statement}
 use Rattle.store.proofs.push_number.Tie as tie
-use Prim.Native.Nat.{ℕ, _+_, _*_, _/_, _%_}
+use Prim.Native.Nat.{_+_, _*_, _/_, _%_}
 use mathlib.Core.Path.{_≡_}
 use native.Mathlib.Omega.{arith}
 
