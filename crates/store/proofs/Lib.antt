@@ -12,8 +12,11 @@ pub mod Locals
 pub mod Blocks
 pub mod Leaving
 pub mod Around
+pub mod Captures
 pub mod Registers
 pub mod Pools
+pub mod Searching
+pub mod Upvalues
 pub mod Opening
 pub mod Functions
 pub mod Inside

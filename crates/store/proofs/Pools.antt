@@ -14,7 +14,7 @@ use Rattle.store.specs.declared.Step.{Step}
 use Rattle.store.specs.declared.Scope.{Scope}
 use Rattle.store.specs.Half.{with-half}
 use Rattle.store.specs.Table.{tab, stack, span}
-use Rattle.store.specs.Layout.{constant-by, constant-at, global-at, block, top}
+use Rattle.store.specs.Layout.{constant-by, constant-at, global-at, first, block, top}
 use Rattle.store.specs.Store.{open-at, around, state-of, while-going, global-scope, refused-step, Sound, Fine}
 use Rattle.store.specs.Promise.{a-constant, a-global, Room, Moves, Leaf, Tells}
 use Rattle.store.proofs.Tables.{tab-suc, tab-length, stack-none, stack-suc, stack-ext, span-more, span-none}
@@ -209,18 +209,19 @@ global-here p e = cases (ℕ-discrete (p .depth) 0) (ℕ-discrete (p .block) 1)
 -- ---- questions
 
 -- one open block: the words say where the main function's blocks begin
-single-by : {X : Type 0} (f : ℕ → X) (b : ℕ) → 0 < b → is-single (span f 0 b) ≡ eqb b 1
-single-by f zero h = absurd (omega arith)
-single-by f (suc zero) h = rw (span-more f 0 0 (omega arith), span-none f 0 0 (omega arith))
-single-by f (suc (suc b)) h = rw (span-more f 0 (suc b) (omega arith), span-more f 0 b (omega arith), ne-eqb (suc (suc b)) 1 (omega arith))
+single-by : {X : Type 0} (f : ℕ → X) (b : ℕ) → is-single (span f 0 b) ≡ eqb b 1
+single-by f zero = rw (span-none f 0 0 (omega arith)) (sym (ne-eqb 0 1 (omega arith)))
+single-by f (suc zero) = rw (span-more f 0 0 (omega arith), span-none f 0 0 (omega arith))
+single-by f (suc (suc b)) = rw (span-more f 0 (suc b) (omega arith), span-more f 0 b (omega arith), ne-eqb (suc (suc b)) 1 (omega arith))
+
+pub global-is : (w : List ℕ) (n d e l : ℕ) → first w 0 ≡ 0 → is-global (open-at w n d e l) (around w n d) ≡ eqb d 0 && eqb e 1
+unfolding open-at around
+global-is w n zero e l h = rw h (single-by (block w n) e)
+global-is w n (suc d) e l h = rw (ne-eqb (suc d) 0 (omega arith))
 
 pub context-told : (w : List ℕ) (p : Scope) (s : Step) → Sound w p → Tells w p s (global-scope p) is-global-context
-unfolding is-global-context state-of open-at around
-context-told w p s h = told-of w p s (λ t. is-global (t .current) (t .outer)) (global-scope p) (λ ps. cases (p .depth) refl)
-  where
-    cases : (d : ℕ) → d ≡ p .depth → is-global (open-at w (p .nodes) d (p .block) (p .loops)) (around w (p .nodes) d) ≡ eqb d 0 && eqb (p .block) 1
-    cases zero e = rw (h .main) (single-by (block w (p .nodes)) (p .block) (omega (arith, h .starts 0 (omega arith))))
-    cases (suc d) e = rw (ne-eqb (suc d) 0 (omega arith))
+unfolding is-global-context state-of
+context-told w p s h = told-of w p s (λ t. is-global (t .current) (t .outer)) (global-scope p) (λ ps. global-is w (p .nodes) (p .depth) (p .block) (p .loops) (h .main))
 
 -- the walk down the names
 pub among-none : (w : List ℕ) (name i : ℕ) → i ≤ 0 → among name (stack (global-at w) i) ≡ false

@@ -8,8 +8,9 @@ use lib.ListN.{length, getD}
 use lib.Dec.{ltb, eqb}
 use Rattle.store.specs.declared.Found.{Found}
 use Rattle.store.specs.declared.Found.the-variants.{At, Nothing, Full}
-use Rattle.store.specs.Store.{Linked}
-use Rattle.meaning.specs.State.{Local}
+use Rattle.store.specs.Layout.{first, edge, capture-of}
+use Rattle.store.specs.Store.{open-at, around, Linked}
+use Rattle.meaning.specs.State.{Local, Search, not-found, full, found, add-upvalue, search-outward}
 
 abbrev pub option-of : Found → Option ℕ
 option-of (At i) = some i
@@ -40,3 +41,44 @@ pub record Walkable (w : List ℕ) (n end : ℕ) : Type 0 where
   pub within : end ≤ count
   pub fits : count ≤ n + 2040
   pub linked : Linked w n count
+
+-- ---- captures
+
+-- only captures of the functions 0 to d changed
+pub record Caught (w : List ℕ) (d : ℕ) (w' : List ℕ) : Type 0 where
+  pub same : length w' ≡ length w
+  pub low : (i : ℕ) → i < 3072 → getD w' i 0 ≡ getD w i 0
+  pub high : (i : ℕ) → 4168 ≤ i → getD w' i 0 ≡ getD w i 0
+  pub frames : (j k : ℕ) → j < 9 → k < 8 → ¬ (k ≡ 2) → getD w' (3072 + 8 * j + k) 0 ≡ getD w (3072 + 8 * j + k) 0
+  pub counts : (j : ℕ) → d < j → j < 9 → getD w' (3074 + 8 * j) 0 ≡ getD w (3074 + 8 * j) 0
+  pub above : (i : ℕ) → 3144 + 128 * suc d ≤ i → i < 4168 → getD w' i 0 ≡ getD w i 0
+
+-- what was found, with the words after it, in function d and around it
+abbrev pub search-of : List ℕ → (n d e l : ℕ) → Found → Search
+search-of w n d e l Nothing = not-found
+search-of w n d e l Full = full
+search-of w n d e l (At i) = found i (open-at w n d e l) (around w n d)
+
+-- function d captures x; there may be any number of nodes, and function d's blocks and loops may end anywhere
+pub record Added (w : List ℕ) (d x : ℕ) (w' : List ℕ) (r : Found) : Type 0 where
+  pub says : (n e l : ℕ) → search-of w' n d e l r ≡ add-upvalue (open-at w n d e l) (capture-of x) (around w n d)
+  pub small : in-byte r
+  pub never : r ≡ Nothing → ⊥
+  pub caught : Caught w d w'
+
+-- the search outward from function d
+pub record Sought (w : List ℕ) (n d name : ℕ) (w' : List ℕ) (r : Found) : Type 0 where
+  pub says : (e l : ℕ) → search-of w' n d e l r ≡ search-outward name (open-at w n d e l) (around w n d)
+  pub small : in-byte r
+  pub caught : Caught w d w'
+  pub unchanged : r ≡ Nothing → w' ≡ w
+
+-- what the search reads: the blocks of the functions 0 to d
+pub record Ready (w : List ℕ) (n d : ℕ) : Type 0 where
+  pub few : n ≤ 32768
+  pub long : 12288 + 16 * n ≤ length w
+  pub deep : d ≤ 7
+  pub main : first w 0 ≡ 0
+  pub starts : (j : ℕ) → j ≤ d → first w j ≤ n + 10
+  pub sorted : (j : ℕ) → j ≤ d → (i : ℕ) → i < first w j → edge w n i ≤ edge w n (suc i)
+  pub walks : (j : ℕ) → j ≤ d → Walkable w n (edge w n (first w j))
