@@ -1,19 +1,17 @@
 -- A block and a loop around a step, for those who call enter and leave around it: what is inside is promised in the scope inside, the whole in the scope around.
-use mathlib.Core.Path.{_≡_, refl, sym, ap, _∙_}
+use mathlib.Core.Path.{_≡_, refl, ap, _∙_}
 use mathlib.Core.List.{List}
-use Prim.Native.Nat.{ℕ, zero, suc, _+_, _*_, _-_, _<_, _≤_}
+use Prim.Native.Nat.{ℕ, suc, _+_, _-_, _<_, _≤_}
 use native.Mathlib.Omega.{arith}
-use lib.ListN.{length}
 use Rattle.store.specs.declared.Step.{Step}
 use Rattle.store.specs.declared.Scope.{Scope}
-use Rattle.store.specs.Table.{tab}
-use Rattle.store.specs.Layout.{first, edge, inst-at}
+use Rattle.store.specs.Layout.{first}
 use Rattle.store.specs.Store.{open-at, state-of, run, deeper, looped, Image, Sound, Fine, Kept}
-use Rattle.store.specs.Promise.{Cost, nothing, both, boxed, taken, Used, Moves, Leaf, After, Does, Popped}
-use Rattle.store.proofs.Runs.{due, promised, goes, stays, ran, kept-refl}
-use Rattle.store.proofs.Compose.{moves-then, moves-by, leaf-does, does-then}
+use Rattle.store.specs.Promise.{Cost, nothing, boxed, Used, Moves, Leaf, After, Does, Popped}
+use Rattle.store.proofs.Runs.{due, promised, stays, ran, kept-refl}
+use Rattle.store.proofs.Compose.{moves-then, moves-by}
 use Rattle.store.proofs.Leaving.{left-moves, left-runs}
-use Rattle.meaning.specs.State.{State, Open, Proto, done, and-then, _>>=_, get, set-current, with-loops, enter-block, leave-block, enter-loop, leave-loop}
+use Rattle.meaning.specs.State.{Proto, and-then, _>>=_, get, set-current, enter-block, leave-block, enter-loop, leave-loop}
 use Rattle.meaning.specs.declared.Outcome.{Outcome}
 use Rattle.meaning.specs.declared.Outcome.the-variants.{Accepted, Refused}
 use Rattle.forward.specs.Forward.{Config, Run, bind, fwd-unit}

@@ -1,25 +1,26 @@
 -- Blocks are entered by a new edge, where the edge before stands again, and left by popping the locals of the innermost one.
 use mathlib.Core.Path.{_≡_, refl, sym, ap, ap₂, _∙_}
-use mathlib.Core.List.{List, [], _∷_, _++_}
-use Prim.Native.Nat.{ℕ, zero, suc, _+_, _*_, _-_, _/_, _%_, _<_, _≤_}
+use mathlib.Core.List.{List, [], _∷_}
+use Prim.Native.Nat.{ℕ, suc, _+_, _*_, _<_, _≤_}
 use native.Mathlib.Omega.{arith}
-use native.Mathlib.Decide.{decLt, ℕ-discrete}
+use native.Mathlib.Decide.{decLt}
 use native.Mathlib.Numerals.{add-one}
 use lib.ListN.{length, getD, set, length-set}
 use lib.Seq.{getD-set-same, getD-set-other}
 use Rattle.store.specs.declared.Step.{Step}
 use Rattle.store.specs.declared.Scope.{Scope}
-use Rattle.store.specs.Table.{tab, stack, span}
-use Rattle.store.specs.Layout.{registers, first, saved, held, edge, local-at, block, inst-at, top}
-use Rattle.store.specs.Store.{open-at, around, state-of, run-by, run, config-of, deeper, Linked, Sound, Fine, Kept}
-use Rattle.store.specs.Promise.{Cost, nothing, boxed, taken, Used, Moves, Leaf, Popped}
-use Rattle.store.proofs.Tables.{span-more, span-none, span-ext}
-use Rattle.store.proofs.Regions.{Same, same-part, blocks-same, linked-same, edges-below, constants-same, globals-same, code-same, captures-same, around-same, below-256}
-use Rattle.store.proofs.Runs.{due, promised, goes, run-going, stays, ran, image-same}
-use Rattle.meaning.specs.State.{State, Open, Proto, done, and-then, _>>=_, get, set-current, with-blocks, enter-block, leave-block, rest}
+use Rattle.store.specs.Table.{tab, span}
+use Rattle.store.specs.Layout.{registers, first, edge, local-at, block, inst-at}
+use Rattle.store.specs.Store.{open-at, around, state-of, run, deeper, Linked, Sound, Fine, Kept}
+use Rattle.store.specs.Promise.{nothing, Used, Moves, Leaf}
+use Rattle.store.proofs.Tables.{span-more, span-none}
+use Rattle.store.proofs.Regions.{Same, same-part, blocks-same, linked-same, edges-below, constants-same, globals-same, code-same, around-same, alike-by, open-by}
+use Rattle.store.proofs.Steady.{kept-by, taken-same}
+use Rattle.store.proofs.Runs.{due, promised, goes, stays, ran}
+use Rattle.meaning.specs.State.{Proto, done, and-then, _>>=_, get, set-current, with-blocks, enter-block}
 use Rattle.meaning.specs.declared.Outcome.{Outcome}
 use Rattle.meaning.specs.declared.Outcome.the-variants.{Accepted, Refused}
-use Rattle.forward.specs.Forward.{Config, Run, stopped, going, bind, fwd-unit}
+use Rattle.forward.specs.Forward.{bind, fwd-unit}
 
 -- ---- a new edge: what lies from the globals on is the same but for it
 
@@ -94,16 +95,8 @@ opened-by w p h lim =
     }
 
 module _ (w w' : List ℕ) (p : Scope) (s : Step) (fine : Fine w p s) (lim : p .block < p .nodes + 10) (g : Opened w w' p) (low : Same w w' 0 4168) where
-  frames : (j k : ℕ) → j ≤ 8 → k < 8 → getD w' (3072 + 8 * j + k) 0 ≡ getD w (3072 + 8 * j + k) 0
-  frames j k a b = low .same (3072 + 8 * j + k) (omega arith) (omega arith)
-
-  word : (i : ℕ) → i < 3144 → getD w' i 0 ≡ getD w i 0
-  word i l = low .same i (omega arith) (omega arith)
-
-  taken-same : (d : ℕ) → d ≤ 8 → taken w' d ≡ taken w d
-  unfolding taken
-  taken-same zero l = ap (λ y. y % 256) (word 3073 (omega arith))
-  taken-same (suc d) l = ap₂ (λ y z. y % 256 + z) (word (3073 + 8 * suc d) (omega arith)) (taken-same d (omega arith))
+  frames : Same w w' 3072 4168
+  frames = same-part 3072 4168 (omega arith) (omega arith) low
 
   block-moves : Moves w p s w' (deeper p) s nothing
   block-moves =
@@ -122,15 +115,7 @@ module _ (w w' : List ℕ) (p : Scope) (s : Step) (fine : Fine w p s) (lim : p .
               written = fine .written;
               result = fine .result;
             };
-        kept =
-            record {
-              same = g .length;
-              firsts = g .firsts;
-              saves = λ j l. word (3076 + 8 * j) (omega arith);
-              outer = λ j l. ap (λ y. y % 256) (word (3073 + 8 * j) (omega arith));
-              edges = λ i l. opened-edge h lim g i (omega arith);
-              offsets = λ i l. g .other i (omega arith) (omega arith);
-            };
+        kept = kept-by d (g .length) frames (λ i l. opened-edge h lim g i (omega arith)) (λ i l. g .other i (omega arith) (omega arith));
         back = λ z. z;
         used = promised (s .outcome) (λ z. used);
         longer = omega arith;
@@ -140,25 +125,18 @@ module _ (w w' : List ℕ) (p : Scope) (s : Step) (fine : Fine w p s) (lim : p .
       used : Used w p s w' (deeper p) s nothing
       used =
           let e = opened-top (fine .sound) lim g in
-          let t = taken-same (p .depth) (fine .sound .deep) in
+          let t = taken-same w w' (p .depth) (fine .sound .deep) frames in
           record { words = omega arith; locals = omega arith; names = omega arith; registers = omega arith }
 
   block-open : p .depth ≤ 7 → open-at w' (p .nodes) (p .depth) (p .block + 1) (p .loops) ≡ with-blocks (open-at w (p .nodes) (p .depth) (p .block) (p .loops)) ([] ∷ span (block w (p .nodes)) (first w (p .depth)) (p .block))
   unfolding open-at
   block-open deep =
-      rw
-      (word (3072 + 8 * p .depth) (omega arith), word (3073 + 8 * p .depth) (omega arith), word (3074 + 8 * p .depth) (omega arith), g .firsts (p .depth) (omega arith), opened-span (fine .sound) lim g (first w (p .depth)) (omega (arith, fine .sound .starts (p .depth) (omega arith))), captures-same w w' (p .depth) (held w (p .depth)) (omega (arith, below-256 (getD w (3074 + 8 * p .depth) 0))) (same-part (3144 + 128 * p .depth) (3144 + 128 * suc (p .depth)) (omega arith) (omega arith) low))
+      open-by w w' (p .nodes) (p .depth) (p .block + 1) (p .loops) deep frames
+      ∙ rw (opened-span (fine .sound) lim g (first w (p .depth)) (omega (arith, fine .sound .starts (p .depth) (omega arith))))
 
   pub opened-around : p .depth ≤ 7 → around w' (p .nodes) (p .depth) ≡ around w (p .nodes) (p .depth)
   opened-around deep =
-      around-same w w' (p .nodes) (p .depth)
-      (record {
-        frames = λ j k a b. frames j k (omega arith) b;
-        firsts = g .firsts;
-        saves = λ j a. word (3076 + 8 * j) (omega arith);
-        captures = λ j a. same-part (3144 + 128 * j) (3144 + 128 * suc j) (omega arith) (omega arith) low;
-        blocks = λ j a. opened-blocks (fine .sound) lim g (first w j) (first w (suc j)) (omega (arith, fine .sound .starts (suc j) a));
-      })
+      around-same w w' (p .nodes) (p .depth) (alike-by (omega arith) frames (λ j a. opened-blocks (fine .sound) lim g (first w j) (first w (suc j)) (omega (arith, fine .sound .starts (suc j) a))))
 
   block-state : p .depth ≤ 7 → (ps : List Proto) → enter-block (state-of w p s ps) ≡ done tt (state-of w' (deeper p) s ps)
   unfolding state-of open-at enter-block _>>=_ and-then get set-current
@@ -180,15 +158,7 @@ module _ (w w' : List ℕ) (p : Scope) (s : Step) (fine : Fine w p s) (lim : p .
 -- nothing outside the new block changed
 pub block-kept : {w w' : List ℕ} {p : Scope} → Sound w p → p .block < p .nodes + 10 → Opened w w' p → Same w w' 0 4168 → Kept w (deeper p) w'
 block-kept {w} {w'} {p} h lim g low =
-    let d = h .deep in
-    record {
-      same = g .length;
-      firsts = g .firsts;
-      saves = λ j l. low .same (3076 + 8 * j) (omega arith) (omega arith);
-      outer = λ j l. ap (λ y. y % 256) (low .same (3073 + 8 * j) (omega arith) (omega arith));
-      edges = λ i l. opened-edge h lim g i (omega arith);
-      offsets = λ i l. g .other i (omega arith) (omega arith);
-    }
+    kept-by (h .deep) (g .length) (same-part 3072 4168 (omega arith) (omega arith) low) (λ i l. opened-edge h lim g i (omega arith)) (λ i l. g .other i (omega arith) (omega arith))
 
 -- ---- leave_block
 

@@ -1,25 +1,24 @@
 -- Captures: an equal one is found, or one is added at the end. A capture is a half, an index or 256 and a register, and two are equal where the halves are.
 use mathlib.Core.Path.{_≡_, refl, sym, ap, ap₂, _∙_}
-use mathlib.Core.Bool.{Bool, true, false, cond, _&&_, Bool·beq}
+use mathlib.Core.Bool.{_&&_, Bool·beq}
 use mathlib.Core.List.{List, [], _∷_, _++_}
-use Prim.Native.Nat.{ℕ, zero, suc, _+_, _*_, _-_, _/_, _%_, _<_, _≤_}
+use Prim.Native.Nat.{ℕ, zero, suc, _+_, _*_, _-_, _%_, _<_, _≤_}
 use native.Mathlib.Omega.{arith}
 use native.Mathlib.Decide.{decLt}
 use lib.ListN.{length, getD, set, length-set}
 use lib.Seq.{getD-set-same, getD-set-other}
-use lib.Dec.{ltb, leb, eqb}
+use lib.Dec.{eqb}
 use borrow.Author.Tests.{lt-ltb, le-ltb, eq-eqb, ne-eqb, le-leb, lt-leb}
-use Rattle.store.specs.declared.Found.{Found}
 use Rattle.store.specs.declared.Found.the-variants.{At, Nothing, Full}
 use Rattle.store.specs.Half.{half, with-half}
 use Rattle.store.specs.Table.{tab, span}
-use Rattle.store.specs.Layout.{edge, local-at, local-of-word, block, first, saved, held, capture-of, capture-at}
+use Rattle.store.specs.Layout.{edge, local-of-word, block, first, held, capture-of, capture-at}
 use Rattle.store.specs.Store.{open-at, around}
-use Rattle.store.specs.Search.{in-byte, search-of, Caught, Added}
+use Rattle.store.specs.Search.{search-of, Caught, Added}
 use Rattle.store.proofs.Tables.{tab-none, tab-suc, tab-front, tab-length, tab-ext, span-ext}
 use Rattle.store.proofs.Halves.{half-same, half-other, half-apart, word-other, length-half}
-use Rattle.store.proofs.Regions.{Alike, around-same, below-256}
-use Rattle.meaning.specs.State.{Open, Capture, capture-index, captures-full, with-capture, add-upvalue, Search, not-found, full, found}
+use Rattle.store.proofs.Regions.{around-same, below-256}
+use Rattle.meaning.specs.State.{capture-index, add-upvalue}
 
 -- ---- equal captures
 

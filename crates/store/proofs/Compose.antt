@@ -7,22 +7,22 @@ use lib.ListN.{length, getD}
 use Rattle.store.specs.declared.Step.{Step}
 use Rattle.store.specs.declared.Scope.{Scope}
 use Rattle.store.specs.Table.{tab}
-use Rattle.store.specs.Layout.{edge, inst-at}
-use Rattle.store.specs.Store.{run-by, run, open-at, state-of, config-of, goes-on, while-going, refused-by, refused-step, with-result, result-limit, Image, Fine, Kept}
-use Rattle.store.specs.Promise.{Cost, both, nothing, taken, Roomy, Room, Used, Moves, Leaf, Told, Tells, After, Does}
+use Rattle.store.specs.Layout.{inst-at}
+use Rattle.store.specs.Store.{run-by, run, open-at, state-of, config-of, refused-by, refused-step, with-result, result-limit, Image, Fine}
+use Rattle.store.specs.Promise.{Cost, both, nothing, taken, Roomy, Room, Used, Moves, Leaf, Tells, After, Does}
 use Rattle.store.proofs.Regions.{below-256}
-use Rattle.store.proofs.Runs.{due, promised, goes, kept-refl, kept-in, absorbed, run-going, run-stopped, stays, image-same, image-none}
+use Rattle.store.proofs.Runs.{due, promised, kept-refl, kept-in, absorbed, image-same, image-none}
 use Rattle.store.proofs.Steady.{fine-step}
-use Rattle.store.proofs.Steps.{refused-moves, refused-again, refused-outcome, refused-small}
+use Rattle.store.proofs.Steps.{refused-moves, refused-again, refused-outcome}
 use Rattle.store.proofs.Tables.{tab-length}
-use Rattle.meaning.specs.State.{State, Proto, M, get, done}
+use Rattle.meaning.specs.State.{State, Proto, get}
 use Rattle.meaning.specs.declared.Instruction.{Instruction}
 use Rattle.meaning.specs.declared.Cause.{Cause}
 use Rattle.meaning.specs.declared.Outcome.{Outcome}
 use Rattle.meaning.specs.declared.Outcome.the-variants.{Accepted, Refused}
-use Rattle.forward.specs.Forward.{Config, config, Run, stopped, going, bind, on, at, fwd-by, add-none, sure, give, Answers}
+use Rattle.forward.specs.Forward.{Config, config, Run, stopped, going, bind, sure, give}
 use Rattle.forward.proofs.Steps.{bind-assoc}
-use Rattle.forward.proofs.Calls.{Seen, Known}
+use Rattle.forward.proofs.Calls.{Seen, seen, Known, finally, read, chain}
 use Rattle.forward.proofs.Opened.{answers-get}
 
 -- ---- what was used
@@ -122,6 +122,16 @@ known-by (Refused x y) c s h k = record { size = λ d e. absurd (apart d e); val
 pub known : (w : List ℕ) (p : Scope) (s : Step) (ps : List Proto) → Known (run w p s ps) (seen-of s)
 unfolding run config-of
 known w p s ps = known-by (s .outcome) (config-of w p s ps) (seen-of s) (sym (tab-length (inst-at w (p .nodes)) (s .code))) refl
+
+-- a leaf, and one that reads the step between them
+pub leaf-read : {w w1 w2 : List ℕ} {p q t : Scope} {s s1 s2 : Step} {u v : Cost} (f : Config → Run) (g : Seen → Config → Run) → p .nodes ≡ q .nodes → p .depth ≤ q .depth → p .block ≤ q .block → Leaf w p s w1 q s1 u f → Leaf w1 q s1 w2 t s2 v (g (seen-of s1))
+    → Leaf w p s w2 t s2 (both u v) (λ c. bind (f c) (λ d. g (seen d) d))
+leaf-read {w} {w1} {w2} {p} {q} {t} {s} {s1} {s2} f g n d b x y =
+    record {
+      moves = moves-then n d b (x .moves) (y .moves);
+      runs = λ ps. chain (read f (λ z. finally (g z))) (λ c. bind (f c) (λ d. g (seen d) d)) (λ c. refl) (run w p s ps) (run w1 q s1 ps) (x .runs ps) (seen-of s1) (known w1 q s1 ps) (run w2 t s2 ps) (y .runs ps);
+      image = λ o ps i. y .image o ps (x .image o ps i);
+    }
 
 -- ---- steps that no word shows
 

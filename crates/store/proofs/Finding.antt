@@ -1,22 +1,19 @@
 -- A local of the current function, found by the walk.
-use Prim.Native.Nat.{ℕ, suc, _+_, _*_, _≤_, _<_}
+use Prim.Native.Nat.{ℕ, _<_}
 use mathlib.Core.Path.{_≡_, refl, sym, ap, _∙_}
 use mathlib.Core.Option.{Option, none, some}
 use mathlib.Core.List.{List}
 use native.Mathlib.Omega.{arith}
-use lib.ListN.{length}
 use Rattle.store.specs.declared.Found.{Found}
-use Rattle.store.specs.declared.Found.the-variants.{At, Nothing, Full}
 use Rattle.store.specs.declared.Step.{Step}
 use Rattle.store.specs.declared.Scope.{Scope}
 use Rattle.store.specs.Layout.{edge, first, local-at}
 use Rattle.store.specs.Store.{open-at, state-of, Sound}
 use Rattle.store.specs.Search.{option-of, found-of, in-byte, seek, Walkable}
 use Rattle.store.specs.Promise.{Tells}
-use Rattle.store.proofs.Regions.{edges-below}
 use Rattle.store.proofs.Compose.{told-of}
 use Rattle.store.proofs.Links.{in-blocks, seek-small}
-use Rattle.meaning.specs.State.{State, Proto, get, local-of, get-var-register}
+use Rattle.meaning.specs.State.{Proto, local-of, get-var-register}
 
 pub walkable-of : {w : List ℕ} {p : Scope} → Sound w p → Walkable w (p .nodes) (edge w (p .nodes) (p .block))
 walkable-of {w} {p} h = record { some = h .some; few = h .few; long = h .long; count = edge w (p .nodes) (p .block); within = omega arith; fits = h .count; linked = h .linked }

@@ -1,5 +1,5 @@
 -- A function inside another: its frame and its first block are set up, and around its lowering the words stand for the enclosing function again.
-use Prim.Native.Nat.{ℕ, zero, suc, _+_, _*_, _%_, _≤_, _<_}
+use Prim.Native.Nat.{ℕ, suc, _+_, _*_, _%_, _≤_, _<_}
 use mathlib.Core.Path.{_≡_, refl, sym, ap, ap₂, _∙_}
 use mathlib.Core.List.{List, _∷_}
 use native.Mathlib.Omega.{arith}
@@ -17,6 +17,7 @@ use Rattle.store.specs.Promise.{nothing, taken, Moves, Leaf}
 use Rattle.store.specs.Opening.{Framed, Enters}
 use Rattle.store.proofs.Tables.{span-none}
 use Rattle.store.proofs.Regions.{constants-same, globals-same, code-same, captures-same, around-same, around-length, below-256}
+use Rattle.store.proofs.Steady.{taken-by}
 use Rattle.store.proofs.Runs.{promised, stays, ran, ran-out}
 use Rattle.store.proofs.Steps.{refused-outcome}
 use Rattle.store.proofs.Compose.{refused-leaf}
@@ -68,10 +69,8 @@ module _ (w w1 : List ℕ) (p : Scope) (s : Step) (name : ℕ) (fine : Fine w p 
   outer-registers : (j : ℕ) → j ≤ p .depth → registers w' j ≡ registers w j
   outer-registers j l = ap (λ x. x % 256) (word (3073 + 8 * j) (omega arith) (λ z. absurd (omega arith)))
 
-  taken-outer : (j : ℕ) → j ≤ p .depth → taken w' j ≡ taken w j
-  unfolding taken
-  taken-outer zero l = outer-registers 0 l
-  taken-outer (suc j) l = ap₂ (λ x y. x + y) (outer-registers (suc j) l) (taken-outer j (omega arith))
+  taken-outer : taken w' (p .depth) ≡ taken w (p .depth)
+  taken-outer = taken-by w w' (p .depth) outer-registers
 
   -- the new frame
   new-registers : registers w' (suc (p .depth)) ≡ 0
@@ -85,7 +84,7 @@ module _ (w w1 : List ℕ) (p : Scope) (s : Step) (name : ℕ) (fine : Fine w p 
 
   taken-new : taken w' (p .depth + 1) ≡ taken w (p .depth)
   unfolding taken
-  taken-new = ap (λ d. taken w' d) (add-one (p .depth)) ∙ omega (arith, new-registers, taken-outer (p .depth) (omega arith))
+  taken-new = ap (λ d. taken w' d) (add-one (p .depth)) ∙ omega (arith, new-registers, taken-outer)
 
   entered-sound : Sound w' (inner p)
   entered-sound = opened-sound (fine .sound) lim entered-opened (p .depth + 1) 0 (omega arith) (omega arith) (λ j l. starts j l (decLt (p .depth) j))

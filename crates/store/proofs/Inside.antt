@@ -1,6 +1,6 @@
 -- A function is left: its last block's locals are popped, and the same words, read in the scope around it, stand for the enclosing function again. Around
 -- a function's lowering nothing is used up but what its constants and globals took.
-use Prim.Native.Nat.{ℕ, zero, suc, _+_, _*_, _≤_, _<_}
+use Prim.Native.Nat.{ℕ, suc, _+_, _*_, _≤_, _<_}
 use mathlib.Core.Path.{_≡_, refl, sym, ap, ap₂, _∙_}
 use mathlib.Core.List.{List, _∷_}
 use native.Mathlib.Omega.{arith}
@@ -15,6 +15,7 @@ use Rattle.store.specs.Promise.{Cost, nothing, taken, Used, Moves, Poppe
 use Rattle.store.specs.Opening.{Enters, Leavable, Closed, inside}
 use Rattle.store.proofs.Regions.{constants-same, globals-same}
 use Rattle.store.proofs.Runs.{due, promised, goes, kept-in, stays, ran}
+use Rattle.store.proofs.Steady.{taken-by}
 use Rattle.store.proofs.Leaving.{popped-same, popped-edge, popped-rises, popped-taken, popped-kept, popped-code, sound-left, left-around}
 use Rattle.meaning.specs.State.{Proto, done, close-function}
 use Rattle.meaning.specs.declared.Outcome.{Outcome}
@@ -94,11 +95,6 @@ module _ {w w' : List ℕ} {p : Scope} {r : Step} (fine : Fine w (inner p) r) (h
   closed-runs = closed-by (r .outcome) refl
 
 -- ---- around a function's lowering: entered, lowered, its code cut off, left
-
-taken-by : (w w' : List ℕ) (d : ℕ) → ((j : ℕ) → j ≤ d → registers w' j ≡ registers w j) → taken w' d ≡ taken w d
-unfolding taken
-taken-by w w' zero h = h 0 (omega arith)
-taken-by w w' (suc d) h = ap₂ (λ x y. x + y) (h (suc d) (omega arith)) (taken-by w w' d (λ j l. h j (omega arith)))
 
 module _ {w w1 w2 : List ℕ} {p : Scope} {s s1 s2 : Step} {v : Cost} {node name : ℕ} (fine : Fine w p s) (enters : Enters w p s w1 s1 node name) (m : Moves w1 (inner p) s1 w2 (inner p) s2 v) where
   around-kept : Kept w p w2

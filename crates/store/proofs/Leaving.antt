@@ -1,23 +1,24 @@
 -- A block is left: its locals are popped, and what is left is the scope around it. Around a step: what the block's locals took is given back.
-use mathlib.Core.Path.{_≡_, refl, sym, ap, ap₂, _∙_}
-use mathlib.Core.List.{List, [], _∷_, _++_}
-use Prim.Native.Nat.{ℕ, zero, suc, _+_, _*_, _-_, _%_, _<_, _≤_}
+use mathlib.Core.Path.{_≡_, refl, sym, ap, _∙_}
+use mathlib.Core.List.{List}
+use Prim.Native.Nat.{ℕ, suc, _+_, _*_, _<_, _≤_}
 use native.Mathlib.Omega.{arith}
 use native.Mathlib.Numerals.{add-one}
-use lib.ListN.{length, getD}
+use lib.ListN.{getD}
 use Rattle.store.specs.declared.Step.{Step}
 use Rattle.store.specs.declared.Scope.{Scope}
-use Rattle.store.specs.Table.{tab, stack, span}
-use Rattle.store.specs.Layout.{registers, first, saved, held, edge, block, inst-at, top}
+use Rattle.store.specs.Table.{tab, span}
+use Rattle.store.specs.Layout.{registers, first, edge, block, inst-at, top}
 use Rattle.store.specs.Store.{open-at, around, state-of, run, deeper, Sound, Fine, Kept}
 use Rattle.store.specs.Promise.{Cost, uses, boxed, taken, Used, Moves, Leaf, Popped}
 use Rattle.store.proofs.Tables.{span-more}
-use Rattle.store.proofs.Regions.{Same, same-part, blocks-same, constants-same, globals-same, code-same, captures-same, around-same, edges-below, below-256}
+use Rattle.store.proofs.Regions.{Same, blocks-same, constants-same, globals-same, code-same, around-same, alike-by, open-by, edges-below}
+use Rattle.store.proofs.Steady.{kept-by, taken-same}
 use Rattle.store.proofs.Runs.{due, promised, goes, stays, ran}
-use Rattle.meaning.specs.State.{State, Open, Proto, done, and-then, _>>=_, get, set-current, with-blocks, leave-block, rest}
+use Rattle.meaning.specs.State.{Proto, done, and-then, _>>=_, get, set-current, with-blocks, leave-block, rest}
 use Rattle.meaning.specs.declared.Outcome.{Outcome}
 use Rattle.meaning.specs.declared.Outcome.the-variants.{Accepted, Refused}
-use Rattle.forward.specs.Forward.{Config, Run, bind, fwd-unit}
+use Rattle.forward.specs.Forward.{bind, fwd-unit}
 
 -- ---- the words after popping
 
@@ -38,10 +39,11 @@ module _ {w w' : List ℕ} (p : Scope) (h : Sound w (deeper p)) (g : Popped w p 
   pub popped-rises : edge w (p .nodes) (p .block) ≤ edge w (p .nodes) (p .block + 1)
   popped-rises = let e = ap (λ i. edge w (p .nodes) i) (add-one (p .block)) in omega (arith, h .sorted (p .block) (omega arith), e)
 
+  frames : Same w w' 3072 4168
+  frames = record { same = λ i a b. word i (omega arith) }
+
   pub popped-taken : (d : ℕ) → d ≤ 8 → taken w' d ≡ taken w d
-  unfolding taken
-  popped-taken zero l = ap (λ y. y % 256) (word 3073 (omega arith))
-  popped-taken (suc d) l = ap₂ (λ y z. y % 256 + z) (word (3073 + 8 * suc d) (omega arith)) (popped-taken d (omega arith))
+  popped-taken d l = taken-same w w' d l frames
 
   -- the scope around is sound
   pub sound-left : ((j : ℕ) → j ≤ p .depth → first w j < p .block) → Sound w' p
@@ -62,15 +64,7 @@ module _ {w w' : List ℕ} (p : Scope) (h : Sound w (deeper p)) (g : Popped w p 
       }
 
   pub popped-kept : (q : Scope) → q .nodes ≡ p .nodes → q .depth ≤ 8 → q .block ≤ p .block + 1 → Kept w q w'
-  popped-kept q e d b =
-      record {
-        same = g .same;
-        firsts = λ j l. word (3075 + 8 * j) (omega arith);
-        saves = λ j l. word (3076 + 8 * j) (omega arith);
-        outer = λ j l. ap (λ y. y % 256) (word (3073 + 8 * j) (omega arith));
-        edges = λ i l. word (5708 + q .nodes + i) (omega (arith, h .blocks));
-        offsets = λ i l. g .other i (λ z. omega arith);
-      }
+  popped-kept q e d b = kept-by d (g .same) frames (λ i l. word (5708 + q .nodes + i) (omega (arith, h .blocks))) (λ i l. g .other i (λ z. omega arith))
 
   pub popped-code : (k : ℕ) → 2 * k ≤ top (p .nodes) → tab (inst-at w' (p .nodes)) k ≡ tab (inst-at w (p .nodes)) k
   popped-code k l = code-same w w' (p .nodes) k l (record { same = λ i a b. word i b })
@@ -133,22 +127,17 @@ module _ (w w' : List ℕ) (p : Scope) (r : Step) (fine : Fine w (deeper p) r) (
   room : 5724 + 2 * p .nodes + edge w (p .nodes) (p .block) ≤ top (p .nodes)
   room = omega (arith, popped-rises p (fine .sound) g, fine .room)
 
+  low-frames : Same w w' 3072 4168
+  low-frames = record { same = λ i a b. at i (omega arith) }
+
   left-open : p .depth ≤ 7 → open-at w' (p .nodes) (p .depth) (p .block) (p .loops) ≡ with-blocks (open-at w (p .nodes) (p .depth) (p .block + 1) (p .loops)) (rest (span (block w (p .nodes)) (first w (p .depth)) (p .block + 1)))
   unfolding open-at
   left-open deep =
-      rw
-      (at (3072 + 8 * p .depth) (omega arith), at (3073 + 8 * p .depth) (omega arith), at (3074 + 8 * p .depth) (omega arith), at (3075 + 8 * p .depth) (omega arith), popped-blocks p (fine .sound) g room (first w (p .depth)) (p .block) (omega arith), captures-same w w' (p .depth) (held w (p .depth)) (omega (arith, below-256 (getD w (3074 + 8 * p .depth) 0))) (record { same = λ i x y. at i (omega arith) }), add-one (p .block), span-more (block w (p .nodes)) (first w (p .depth)) (p .block) own)
+      open-by w w' (p .nodes) (p .depth) (p .block) (p .loops) deep low-frames
+      ∙ rw (popped-blocks p (fine .sound) g room (first w (p .depth)) (p .block) (omega arith), add-one (p .block), span-more (block w (p .nodes)) (first w (p .depth)) (p .block) own)
 
   pub left-around : p .depth ≤ 7 → around w' (p .nodes) (p .depth) ≡ around w (p .nodes) (p .depth)
-  left-around deep =
-      around-same w w' (p .nodes) (p .depth)
-      (record {
-        frames = λ j k a b. at (3072 + 8 * j + k) (omega arith);
-        firsts = λ j a. at (3075 + 8 * j) (omega arith);
-        saves = λ j a. at (3076 + 8 * j) (omega arith);
-        captures = λ j a. record { same = λ i x y. at i (omega arith) };
-        blocks = λ j a. popped-blocks p (fine .sound) g room (first w j) (first w (suc j)) (outer j a);
-      })
+  left-around deep = around-same w w' (p .nodes) (p .depth) (alike-by (omega arith) low-frames (λ j a. popped-blocks p (fine .sound) g room (first w j) (first w (suc j)) (outer j a)))
 
   left-state : p .depth ≤ 7 → (ps : List Proto) → leave-block (state-of w (deeper p) r ps) ≡ done tt (state-of w' p r ps)
   unfolding state-of open-at leave-block _>>=_ and-then get set-current

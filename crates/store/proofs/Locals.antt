@@ -1,28 +1,28 @@
 -- A local more in the innermost block: its word, the edge, its link and the head of its bucket.
-use mathlib.Core.Path.{_≡_, refl, sym, ap, ap₂, _∙_}
-use mathlib.Core.List.{List, [], _∷_, _++_}
-use Prim.Native.Nat.{ℕ, zero, suc, _+_, _*_, _-_, _/_, _%_, _<_, _≤_}
+use mathlib.Core.Path.{_≡_, refl, sym, ap, _∙_}
+use mathlib.Core.List.{List, _∷_}
+use Prim.Native.Nat.{ℕ, suc, _+_, _*_, _-_, _/_, _%_, _<_, _≤_}
 use native.Mathlib.Omega.{arith}
-use native.Mathlib.Decide.{decLt, ℕ-discrete}
+use native.Mathlib.Decide.{ℕ-discrete}
 use native.Mathlib.Numerals.{add-one}
 use lib.ListN.{length, getD, set, length-set}
 use lib.Seq.{getD-set-same, getD-set-other}
 use Rattle.store.specs.declared.Step.{Step}
 use Rattle.store.specs.declared.Scope.{Scope}
 use Rattle.store.specs.Half.{half, with-half}
-use Rattle.store.specs.Table.{tab, stack, span}
-use Rattle.store.specs.Layout.{registers, first, saved, held, edge, local-at, local-of-word, block, latest, link, head, inst-at, top}
+use Rattle.store.specs.Table.{tab, span}
+use Rattle.store.specs.Layout.{registers, first, edge, local-at, local-of-word, block, latest, link, head, inst-at, top}
 use Rattle.store.specs.Store.{open-at, around, state-of, Linked, Sound, Fine, Kept}
-use Rattle.store.specs.Promise.{a-local, taken, Roomy, Room, Used, Moves, Leaf}
+use Rattle.store.specs.Promise.{a-local, Roomy, Used, Moves, Leaf}
 use Rattle.store.proofs.Tables.{span-more, span-ext}
 use Rattle.store.proofs.Halves.{half-same, half-other, half-apart, half-small, word-other, length-half}
-use Rattle.store.proofs.Regions.{Same, same-part, half-kept, local-same, blocks-same, latest-same, edges-below, constants-same, globals-same, code-same, captures-same, around-same, below-256}
-use Rattle.store.proofs.Runs.{due, promised, goes, ran, image-same}
-use Rattle.store.proofs.Steps.{shallow}
+use Rattle.store.proofs.Regions.{Same, same-part, local-same, blocks-same, latest-same, edges-below, constants-same, globals-same, code-same, around-same, alike-by, open-by}
+use Rattle.store.proofs.Steady.{kept-by, taken-same}
+use Rattle.store.proofs.Runs.{promised, ran}
 use Rattle.store.proofs.Compose.{taken-few}
 use Rattle.store.proofs.Links.{latest-hit, latest-miss}
-use Rattle.meaning.specs.State.{State, Open, Local, Proto, done, and-then, _>>=_, get, set-current, with-local, with-blocks, allocate-register}
-use Rattle.meaning.specs.declared.Outcome.the-variants.{Accepted, Refused}
+use Rattle.meaning.specs.State.{Local, Proto, done, and-then, _>>=_, get, set-current, with-local, with-blocks, allocate-register}
+use Rattle.meaning.specs.declared.Outcome.the-variants.{Accepted}
 use Rattle.forward.specs.Forward.{fwd-unit}
 
 -- local i, of bucket b, is pushed as the word x; its block's edge stands at `at`
@@ -154,17 +154,14 @@ module _ (w w' : List ℕ) (p : Scope) (s : Step) (b x : ℕ) (fine : Fine w p s
   top-edge : edge w' (p .nodes) (p .block) ≡ suc (edge w (p .nodes) (p .block))
   top-edge = g .edge ∙ add-one (edge w (p .nodes) (p .block))
 
+  frames : Same w w' 3072 4168
+  frames = record { same = λ j a b. low-other j (omega arith) }
+
   local-kept : Kept w p w'
   local-kept =
+      let k = fine .sound .blocks in
       let r = local-room deep room in
-      record {
-        same = g .length;
-        firsts = firsts;
-        saves = λ j l. low-other (3076 + 8 * j) (omega arith);
-        outer = λ j l. ap (λ y. y % 256) (low-other (3073 + 8 * j) (omega arith));
-        edges = λ i l. edges .same (5708 + p .nodes + i) (omega arith) (omega arith);
-        offsets = λ i l. let k = fine .sound .blocks in g .other i (λ z. omega arith) (omega arith) (omega arith) (λ z. l);
-      }
+      kept-by (omega arith) (g .length) frames (λ i l. edges .same (5708 + p .nodes + i) (omega arith) (omega arith)) (λ i l. g .other i (λ z. omega arith) (omega arith) (omega arith) (λ z. l))
 
   local-sound : Sound w' p
   local-sound =
@@ -190,11 +187,6 @@ module _ (w w' : List ℕ) (p : Scope) (s : Step) (b x : ℕ) (fine : Fine w p s
           let up : edge w' (p .nodes) (suc i) ≡ suc (edge w (p .nodes) (suc i)) = ap (λ k. edge w' (p .nodes) k) a ∙ top-edge ∙ ap (λ k. suc (edge w (p .nodes) k)) (sym a) in
           omega (arith, local-kept .edges i l, up, fine .sound .sorted i l)
 
-  taken-same : (d : ℕ) → d ≤ p .depth → taken w' d ≡ taken w d
-  unfolding taken
-  taken-same zero l = ap (λ y. y % 256) (low-other 3073 (omega arith))
-  taken-same (suc d) l = ap₂ (λ y z. y % 256 + z) (low-other (3073 + 8 * suc d) (omega arith)) (taken-same d (omega arith))
-
   pub local-moves : Moves w p s w' p s a-local
   local-moves =
       let r = local-room deep room in
@@ -209,7 +201,7 @@ module _ (w w' : List ℕ) (p : Scope) (s : Step) (b x : ℕ) (fine : Fine w p s
     where
       used : Used w p s w' p s a-local
       used =
-          let t = taken-same (p .depth) (omega arith) in
+          let t = taken-same w w' (p .depth) (omega arith) frames in
           let e = g .edge in
           record { words = omega arith; locals = omega arith; names = omega arith; registers = omega arith }
 
@@ -228,21 +220,12 @@ module _ (w w' : List ℕ) (p : Scope) (s : Step) (b x : ℕ) (fine : Fine w p s
       blocks-same w w' (p .nodes) (first w j) (first w (suc j)) (edge w (p .nodes) (p .block)) (record { same = λ i a c. edges .same i a (omega (arith, st)) }) lower (λ i a. edges-below w (p .nodes) (p .block) (fine .sound .sorted) (suc i) (omega (arith, st)))
 
   local-around : around w' (p .nodes) (p .depth) ≡ around w (p .nodes) (p .depth)
-  local-around =
-      around-same w w' (p .nodes) (p .depth)
-      (record {
-        frames = λ j k a c. low-other (3072 + 8 * j + k) (omega arith);
-        firsts = firsts;
-        saves = λ j a. low-other (3076 + 8 * j) (omega arith);
-        captures = λ j a. record { same = λ i c e. low-other i (omega arith) };
-        blocks = outer-blocks;
-      })
+  local-around = around-same w w' (p .nodes) (p .depth) (alike-by (omega arith) frames outer-blocks)
 
   local-open : open-at w' (p .nodes) (p .depth) (p .block) (p .loops) ≡ with-blocks (open-at w (p .nodes) (p .depth) (p .block) (p .loops)) (with-local (span (block w (p .nodes)) (first w (p .depth)) (p .block)) (local-of-word x))
-  unfolding open-at
   local-open =
-      rw
-      (low-other (3072 + 8 * p .depth) (omega arith), low-other (3073 + 8 * p .depth) (omega arith), low-other (3074 + 8 * p .depth) (omega arith), firsts (p .depth) (omega arith), own-blocks (first w (p .depth)) (fine .sound .starts (p .depth) (omega arith)), captures-same w w' (p .depth) (held w (p .depth)) (omega (arith, below-256 (getD w (3074 + 8 * p .depth) 0))) (record { same = λ i c e. low-other i (omega arith) }))
+      open-by w w' (p .nodes) (p .depth) (p .block) (p .loops) deep frames
+      ∙ ap (λ bs. with-blocks (open-at w (p .nodes) (p .depth) (p .block) (p .loops)) bs) (own-blocks (first w (p .depth)) (fine .sound .starts (p .depth) (omega arith)))
 
   local-state : (ps : List Proto) → allocate-register (x / 255) (x % 255) (state-of w p s ps) ≡ done tt (state-of w' p s ps)
   unfolding state-of open-at allocate-register _>>=_ and-then get set-current

@@ -28,7 +28,7 @@ use Rattle.meaning.specs.Constant.{Constant}
 use Rattle.meaning.specs.State.{State, Proto, refused, done, refuse, if-then, add-constant, add-global, among, is-single, is-global, is-global-context, is-global-var}
 use Rattle.meaning.specs.declared.Cause.the-variants.{Constants}
 use Rattle.meaning.specs.declared.Outcome.the-variants.{Accepted}
-use Rattle.forward.specs.Forward.{Config, fwd-number, fwd-unit, give}
+use Rattle.forward.specs.Forward.{fwd-number, fwd-unit, give}
 use Rattle.forward.proofs.Opened.{with-constant}
 
 -- ---- constants
@@ -116,7 +116,7 @@ module _ (w : List ℕ) (p : Scope) (s : Step) (fine : Fine w p s) (shallow : p 
     constant-moves : Moves w p s w' p (constant-more s) a-constant
     constant-moves =
         let e = edge-apart (fine .sound) shallow only clear frames in
-        let t = taken-apart (fine .sound) shallow only clear frames (p .depth) (omega arith) in
+        let t = taken-apart (fine .sound) shallow only clear frames in
         record {
           fine = fine-step (constant-more s) (fine-words fine (sound-apart (fine .sound) shallow only clear frames) e) (fine .nested) (omega arith) (omega (arith, few)) (omega (arith, fine .globals)) refl (omega arith) (rw on few);
           kept = kept-apart (fine .sound) shallow only clear frames;
@@ -175,7 +175,7 @@ module _ (w : List ℕ) (p : Scope) (s : Step) (fine : Fine w p s) (shallow : p 
   global-moves : Moves w p s global-words p (global-more s) a-global
   global-moves =
       let e = edge-apart (fine .sound) shallow global-only global-clear global-frames in
-      let t = taken-apart (fine .sound) shallow global-only global-clear global-frames (p .depth) (omega arith) in
+      let t = taken-apart (fine .sound) shallow global-only global-clear global-frames in
       record {
         fine = fine-step (global-more s) (fine-words fine (sound-apart (fine .sound) shallow global-only global-clear global-frames) e) (fine .nested) (omega arith) (fine .constants) (omega arith) refl (omega arith) (fine .result);
         kept = kept-apart (fine .sound) shallow global-only global-clear global-frames;

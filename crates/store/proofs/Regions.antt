@@ -1,18 +1,17 @@
 -- What the words of a region stand for stays where its words stay. A leaf shows that all words but a few stay, and takes from here what it does not change.
-use mathlib.Core.Path.{_≡_, refl, sym, ap, ap₂, _∙_}
-use mathlib.Core.List.{List, [], _∷_, _++_}
+use mathlib.Core.Path.{_≡_, refl, sym, ap, _∙_}
+use mathlib.Core.List.{List}
 use Prim.Native.Nat.{ℕ, zero, suc, _+_, _*_, _-_, _/_, _%_, _<_, _≤_}
 use native.Mathlib.Omega.{arith}
-use native.Mathlib.Nat.{add-zero}
 use lib.ListN.{length, getD, set, length-set}
 use lib.Seq.{getD-set-other}
-use Rattle.store.specs.declared.Scope.{Scope}
 use Rattle.store.specs.Half.{half}
 use Rattle.store.specs.Table.{tab, stack, span}
-use Rattle.store.specs.Layout.{constant-at, registers, global-at, inst-at, edge, first, saved, held, capture-of, capture-at, local-at, local-of-word, block, latest, link, head, top}
+use Rattle.store.specs.Layout.{constant-at, global-at, inst-at, edge, first, saved, held, capture-of, capture-at, local-at, local-of-word, block, latest, top}
 use Rattle.store.specs.Store.{open-at, around, Linked}
 use Rattle.store.proofs.Tables.{tab-ext, stack-ext, span-ext}
 use Rattle.store.proofs.Halves.{half-word}
+use Rattle.meaning.specs.State.{with-blocks}
 
 -- w' has the words of w from a up to b
 pub record Same (w w' : List ℕ) (a b : ℕ) : Type 0 where
@@ -163,6 +162,24 @@ around-same w w' n (suc d) a =
     let bl = a .blocks d (omega arith) in
     let cp = captures-same w w' d (held w d) (omega (arith, below-256 (getD w (3074 + 8 * d) 0))) (a .captures d (omega arith)) in
     rw (f1, s1, f0, nm, rg, hd, bl, cp, around-same w w' n d (less a))
+
+-- where frames and captures are the same, the functions differ by their blocks alone
+pub alike-by : {w w' : List ℕ} {n d : ℕ} → d ≤ 8 → Same w w' 3072 4168 → ((j : ℕ) → j < d → span (block w' n) (first w j) (first w (suc j)) ≡ span (block w n) (first w j) (first w (suc j))) → Alike w w' n d
+alike-by l g b =
+    record {
+      frames = λ j k x y. g .same (3072 + 8 * j + k) (omega arith) (omega arith);
+      firsts = λ j x. g .same (3075 + 8 * j) (omega arith) (omega arith);
+      saves = λ j x. g .same (3076 + 8 * j) (omega arith) (omega arith);
+      captures = λ j x. same-part (3144 + 128 * j) (3144 + 128 * suc j) (omega arith) (omega arith) g;
+      blocks = b;
+    }
+
+pub open-by : (w w' : List ℕ) (n d e l : ℕ) → d ≤ 7 → Same w w' 3072 4168 → open-at w' n d e l ≡ with-blocks (open-at w n d e l) (span (block w' n) (first w d) e)
+unfolding open-at
+open-by w w' n d e l le g =
+    let captures = captures-same w w' d (held w d) (omega (arith, below-256 (getD w (3074 + 8 * d) 0))) (same-part (3144 + 128 * d) (3144 + 128 * suc d) (omega arith) (omega arith) g) in
+    rw
+    (g .same (3072 + 8 * d) (omega arith) (omega arith), g .same (3073 + 8 * d) (omega arith) (omega arith), g .same (3074 + 8 * d) (omega arith) (omega arith), g .same (3075 + 8 * d) (omega arith) (omega arith), captures)
 
 pub around-length : (w : List ℕ) (n d : ℕ) → length (around w n d) ≡ d
 unfolding around

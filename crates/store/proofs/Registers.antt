@@ -1,30 +1,27 @@
 -- Registers: the count of the current function's frame goes up, by one or by several at once.
 use Prim.Native.Nat.{ℕ, zero, suc, _+_, _-_, _*_, _%_, _≤_, _<_}
-use mathlib.Core.Path.{_≡_, refl, sym, ap, ap₂, _∙_}
-use mathlib.Core.List.{List, [], _∷_, _++_}
-use mathlib.Core.Bool.{true, false}
+use mathlib.Core.Path.{_≡_, refl, sym, ap, _∙_}
+use mathlib.Core.List.{List}
 use native.Mathlib.Omega.{arith}
 use native.Mathlib.Decide.{ℕ-discrete}
 use lib.ListN.{length, getD, set}
 use lib.Seq.{getD-set-same}
-use lib.Dec.{eqb}
 use borrow.Author.Tests.{eq-eqb, ne-eqb}
 use Rattle.store.specs.declared.Step.{Step}
 use Rattle.store.specs.declared.Scope.{Scope}
-use Rattle.store.specs.Table.{tab, stack, span}
-use Rattle.store.specs.Layout.{registers, first, saved, held, edge, block, inst-at, top}
-use Rattle.store.specs.Store.{open-at, around, state-of, run, with-result, refused-step, Sound, Fine, Kept}
-use Rattle.store.specs.Promise.{Cost, some-registers, a-register, taken, Used, Moves, Leaf}
-use Rattle.store.proofs.Regions.{Same, Only, only-set, below, above, same-part, constants-same, globals-same, code-same, captures-same, around-same, below-256}
-use Rattle.store.proofs.Runs.{due, promised, goes, run-going, ran, ran-out, image-same, image-none, kept-refl, none-due}
-use Rattle.store.proofs.Steady.{Clear, sound-clear, kept-clear, clear-edges, clear-blocks, fine-words, fine-step}
+use Rattle.store.specs.Table.{tab}
+use Rattle.store.specs.Layout.{registers, first, held, edge, block, inst-at, top}
+use Rattle.store.specs.Store.{open-at, around, state-of, with-result, refused-step, Fine}
+use Rattle.store.specs.Promise.{some-registers, a-register, taken, Used, Moves, Leaf}
+use Rattle.store.proofs.Regions.{Only, below, above, constants-same, globals-same, code-same, captures-same, around-same, below-256}
+use Rattle.store.proofs.Runs.{promised, ran, ran-out, image-same, image-none}
+use Rattle.store.proofs.Steady.{Clear, sound-clear, kept-clear, clear-edges, clear-blocks, fine-words, fine-step, taken-by}
 use Rattle.store.proofs.Steps.{refused-outcome, refused-moves}
-use Rattle.meaning.specs.State.{State, Open, Proto, Res, refused, done, M, and-then, _>>=_, _>>_, get, pure, refuse, if-then, set-current, with-registers, next-register}
+use Rattle.meaning.specs.State.{State, Proto, refused, done, and-then, _>>=_, _>>_, get, pure, refuse, if-then, set-current, with-registers, next-register}
 use Rattle.meaning.specs.Expressions.{next-registers}
 use Rattle.meaning.specs.declared.Cause.the-variants.{Registers}
-use Rattle.meaning.specs.declared.Outcome.{Outcome}
-use Rattle.meaning.specs.declared.Outcome.the-variants.{Accepted, Refused}
-use Rattle.forward.specs.Forward.{Config, fwd-number, fwd-zero, give, add-zero}
+use Rattle.meaning.specs.declared.Outcome.the-variants.{Accepted}
+use Rattle.forward.specs.Forward.{fwd-number, fwd-zero, give, add-zero}
 
 -- ---- the definition: the state with n registers more
 
@@ -73,17 +70,12 @@ module _ (w w' : List ℕ) (p : Scope) (s : Step) (v : ℕ) (fine : Fine w p s) 
   outer-registers : (j : ℕ) → j < p .depth → registers w' j ≡ registers w j
   outer-registers j l = ap (λ y. y % 256) (only .other (3073 + 8 * j) (λ e. omega arith))
 
-  taken-outer : (k : ℕ) → k < p .depth → taken w' k ≡ taken w k
-  unfolding taken
-  taken-outer zero l = outer-registers 0 l
-  taken-outer (suc k) l = ap₂ (λ y z. y + z) (outer-registers (suc k) l) (taken-outer k (omega arith))
-
   taken-more : (k : ℕ) → k ≡ p .depth → taken w' k ≡ taken w k + v
   unfolding taken
   taken-more zero e = ap (λ j. registers w' j) e ∙ counted ∙ ap (λ j. registers w j + v) (sym e)
   taken-more (suc k) e =
       let own : registers w' (suc k) ≡ registers w (suc k) + v = ap (λ j. registers w' j) e ∙ counted ∙ ap (λ j. registers w j + v) (sym e) in
-      omega (arith, own, taken-outer k (omega arith))
+      omega (arith, own, taken-by w w' k (λ j l. outer-registers j (omega arith)))
 
   edge-kept : edge w' (p .nodes) (p .block) ≡ edge w (p .nodes) (p .block)
   edge-kept = clear-edges (fine .sound) only clear firsts (p .block) (omega arith)

@@ -1,20 +1,19 @@
 -- What a step stands for, refused or not; what a refused step does; how promises follow one another.
-use Prim.Native.Nat.{ℕ, zero, suc, _+_, _*_, _≤_, _<_, min}
+use Prim.Native.Nat.{ℕ, _≤_}
 use mathlib.Core.Path.{_≡_, refl, sym, ap, _∙_}
 use mathlib.Core.List.{List}
 use native.Mathlib.Omega.{arith}
-use lib.ListN.{length}
 use Rattle.store.specs.declared.Step.{Step}
 use Rattle.store.specs.declared.Scope.{Scope}
 use Rattle.store.specs.Table.{tab}
-use Rattle.store.specs.Layout.{edge, inst-at}
-use Rattle.store.specs.Store.{state-of, config-of, run-by, run, image-by, Image, goes-on, while-going, with-result, Sound, Fine, Kept}
-use Rattle.store.specs.Promise.{Cost, both, taken, Roomy, Room, Used, Moves, Leaf, Told, Tells, After, Does}
-use Rattle.meaning.specs.State.{State, Proto, M, Res, refused, done, get}
+use Rattle.store.specs.Layout.{inst-at}
+use Rattle.store.specs.Store.{state-of, config-of, run, image-by, Image, goes-on, while-going, Fine, Kept}
+use Rattle.store.specs.Promise.{Cost, Moves, Leaf}
+use Rattle.meaning.specs.State.{Proto, M, refused, done}
 use Rattle.meaning.specs.declared.Cause.{Cause}
 use Rattle.meaning.specs.declared.Outcome.{Outcome}
 use Rattle.meaning.specs.declared.Outcome.the-variants.{Accepted, Refused}
-use Rattle.forward.specs.Forward.{Config, config, Run, stopped, going, bind, on, at, fwd-by, add-none, sure, give, Answers}
+use Rattle.forward.specs.Forward.{Config, config, Run, stopped, going, bind, on, at, fwd-by}
 
 -- ---- facts that are due while nothing is refused
 

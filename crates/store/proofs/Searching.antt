@@ -1,26 +1,24 @@
 -- The search of the functions around, one at a time: what the search of the function around found is what lies beyond, and a capture is added on the way back.
-use mathlib.Core.Path.{_≡_, refl, sym, ap, ap₂, _∙_}
-use mathlib.Core.Bool.{Bool, true, false, cond, _&&_}
+use mathlib.Core.Path.{_≡_, refl, sym, ap, _∙_}
+use mathlib.Core.Bool.{true, false, _&&_}
 use mathlib.Core.Option.{Option, none, some}
-use mathlib.Core.List.{List, [], _∷_, _++_}
-use Prim.Native.Nat.{ℕ, zero, suc, _+_, _*_, _-_, _%_, _<_, _≤_}
+use mathlib.Core.List.{List, _∷_}
+use Prim.Native.Nat.{ℕ, suc, _+_, _*_, _-_, _<_, _≤_}
 use native.Mathlib.Omega.{arith}
-use lib.ListN.{length, getD}
-use lib.Dec.{ltb, eqb}
+use lib.ListN.{getD}
+use lib.Dec.{eqb}
 use borrow.Author.Tests.{lt-ltb, le-ltb}
 use Rattle.store.specs.declared.Found.{Found}
 use Rattle.store.specs.declared.Found.the-variants.{At, Nothing, Full}
-use Rattle.store.specs.declared.Step.{Step}
 use Rattle.store.specs.declared.Scope.{Scope}
-use Rattle.store.specs.Table.{tab, span}
-use Rattle.store.specs.Layout.{edge, local-at, block, first, saved, held, capture-of, capture-at}
+use Rattle.store.specs.Layout.{edge, local-at, block, first, saved, held, capture-of}
 use Rattle.store.specs.Store.{open-at, around, Sound}
-use Rattle.store.specs.Search.{found-of, in-byte, seek, Walkable, search-of, Caught, Added, Sought, Ready}
+use Rattle.store.specs.Search.{found-of, seek, search-of, Caught, Added, Sought, Ready}
 use Rattle.store.proofs.Regions.{frame, captures-same, edges-below, below-256}
 use Rattle.store.proofs.Links.{in-blocks}
 use Rattle.store.proofs.Pools.{global-is}
-use Rattle.store.proofs.Captures.{at-never, full-never, caught-refl, caught-wider, caught-trans, blocks-high}
-use Rattle.meaning.specs.State.{Open, local-of, is-global, outward, search-outward, add-upvalue, local-capture, outer-capture, Search, not-found, full, found}
+use Rattle.store.proofs.Captures.{at-never, caught-refl, caught-wider, caught-trans, blocks-high}
+use Rattle.meaning.specs.State.{Open, local-of, outward, search-outward, add-upvalue, local-capture, outer-capture}
 
 -- ---- what a search leaves as it was
 

@@ -1,16 +1,16 @@
 -- The invariants after a change of some words: a step that changes few words shows which, and takes `Sound`, `Fine` and `Kept` from here.
 use Prim.Native.Nat.{ℕ, zero, suc, _+_, _*_, _%_, _≤_, _<_}
-use mathlib.Core.Path.{_≡_, refl, sym, ap, ap₂, _∙_}
+use mathlib.Core.Path.{_≡_, ap, ap₂, _∙_}
 use mathlib.Core.List.{List}
 use native.Mathlib.Omega.{arith}
 use lib.ListN.{length, getD}
 use Rattle.store.specs.declared.Step.{Step}
 use Rattle.store.specs.declared.Scope.{Scope}
-use Rattle.store.specs.Table.{tab, stack, span}
-use Rattle.store.specs.Layout.{constant-at, global-at, registers, first, saved, held, edge, block, inst-at, top}
+use Rattle.store.specs.Table.{span}
+use Rattle.store.specs.Layout.{registers, first, saved, edge, block}
 use Rattle.store.specs.Store.{open-at, around, while-going, written-by, result-limit, Linked, Sound, Fine, Kept}
 use Rattle.store.specs.Promise.{taken}
-use Rattle.store.proofs.Regions.{Same, Only, below, above, same-part, constants-same, globals-same, code-same, captures-same, blocks-same, linked-same, edges-below, Alike, around-same, below-256}
+use Rattle.store.proofs.Regions.{Same, Only, blocks-same, linked-same, edges-below, around-same, alike-by, open-by}
 
 -- ---- the invariants
 
@@ -41,6 +41,27 @@ fine-step r h n c k g f wr v =
 pub fine-words : {w w' : List ℕ} {p : Scope} {s : Step} → Fine w p s → Sound w' p → edge w' (p .nodes) (p .block) ≡ edge w (p .nodes) (p .block) → Fine w' p s
 fine-words h k e =
     record { sound = k; nested = h .nested; room = omega (arith, h .room, e); constants = h .constants; globals = h .globals; functions = h .functions; written = h .written; result = h .result }
+
+-- ---- frames that stay
+
+pub taken-by : (w w' : List ℕ) (d : ℕ) → ((j : ℕ) → j ≤ d → registers w' j ≡ registers w j) → taken w' d ≡ taken w d
+unfolding taken
+taken-by w w' zero h = h 0 (omega arith)
+taken-by w w' (suc d) h = ap₂ (λ x y. x + y) (h (suc d) (omega arith)) (taken-by w w' d (λ j l. h j (omega arith)))
+
+pub taken-same : (w w' : List ℕ) (d : ℕ) → d ≤ 8 → Same w w' 3072 4168 → taken w' d ≡ taken w d
+taken-same w w' d l g = taken-by w w' d (λ j k. ap (λ y. y % 256) (g .same (3073 + 8 * j) (omega arith) (omega arith)))
+
+pub kept-by : {w w' : List ℕ} {p : Scope} → p .depth ≤ 8 → length w' ≡ length w → Same w w' 3072 4168 → ((i : ℕ) → i < p .block → edge w' (p .nodes) i ≡ edge w (p .nodes) i) → ((i : ℕ) → 12288 + 15 * p .nodes ≤ i → getD w' i 0 ≡ getD w i 0) → Kept w p w'
+kept-by d len g es os =
+    record {
+      same = len;
+      firsts = λ j l. g .same (3075 + 8 * j) (omega arith) (omega arith);
+      saves = λ j l. g .same (3076 + 8 * j) (omega arith) (omega arith);
+      outer = λ j l. ap (λ y. y % 256) (g .same (3073 + 8 * j) (omega arith) (omega arith));
+      edges = es;
+      offsets = os;
+    }
 
 -- ---- a change below the links, or between the locals and the heads
 
@@ -86,32 +107,17 @@ module _ {w w' : List ℕ} {p : Scope} {a b : ℕ} (h : Sound w p) (shallow : p 
   sound-apart = sound-clear h only clear apart-firsts
 
   pub kept-apart : Kept w p w'
-  kept-apart =
-      kept-clear h only clear apart-firsts
-      (λ j x. frames .same (3076 + 8 * j) (omega arith) (omega arith))
-      (λ j x. ap (λ y. y % 256) (frames .same (3073 + 8 * j) (omega arith) (omega arith)))
+  kept-apart = kept-by (omega arith) (only .length) frames (λ i x. clear-edges h only clear apart-firsts i (omega arith)) (λ i x. only .other i (clear .1 i (omega arith)))
 
   pub edge-apart : edge w' (p .nodes) (p .block) ≡ edge w (p .nodes) (p .block)
   edge-apart = clear-edges h only clear apart-firsts (p .block) (omega arith)
 
   pub open-apart : open-at w' (p .nodes) (p .depth) (p .block) (p .loops) ≡ open-at w (p .nodes) (p .depth) (p .block) (p .loops)
   unfolding open-at
-  open-apart =
-      rw
-      (frames .same (3072 + 8 * p .depth) (omega arith) (omega arith), frames .same (3073 + 8 * p .depth) (omega arith) (omega arith), frames .same (3074 + 8 * p .depth) (omega arith) (omega arith), frames .same (3075 + 8 * p .depth) (omega arith) (omega arith), clear-blocks h only clear apart-firsts (first w (p .depth)) (p .block) (omega arith), captures-same w w' (p .depth) (held w (p .depth)) (omega (arith, below-256 (getD w (3074 + 8 * p .depth) 0))) (same-part (3144 + 128 * p .depth) (3144 + 128 * suc (p .depth)) (omega arith) (omega arith) frames))
+  open-apart = open-by w w' (p .nodes) (p .depth) (p .block) (p .loops) shallow frames ∙ rw (clear-blocks h only clear apart-firsts (first w (p .depth)) (p .block) (omega arith))
 
   pub around-apart : around w' (p .nodes) (p .depth) ≡ around w (p .nodes) (p .depth)
-  around-apart =
-      around-same w w' (p .nodes) (p .depth)
-      (record {
-        frames = λ j k x y. frames .same (3072 + 8 * j + k) (omega arith) (omega arith);
-        firsts = apart-firsts;
-        saves = λ j x. frames .same (3076 + 8 * j) (omega arith) (omega arith);
-        captures = λ j x. same-part (3144 + 128 * j) (3144 + 128 * suc j) (omega arith) (omega arith) frames;
-        blocks = λ j x. clear-blocks h only clear apart-firsts (first w j) (first w (suc j)) (omega (arith, h .starts (suc j) x));
-      })
+  around-apart = around-same w w' (p .nodes) (p .depth) (alike-by (omega arith) frames (λ j x. clear-blocks h only clear apart-firsts (first w j) (first w (suc j)) (omega (arith, h .starts (suc j) x))))
 
-  pub taken-apart : (d : ℕ) → d ≤ p .depth → taken w' d ≡ taken w d
-  unfolding taken
-  taken-apart zero x = ap (λ y. y % 256) (frames .same 3073 (omega arith) (omega arith))
-  taken-apart (suc d) x = ap₂ (λ y z. y % 256 + z) (frames .same (3073 + 8 * suc d) (omega arith) (omega arith)) (taken-apart d (omega arith))
+  pub taken-apart : taken w' (p .depth) ≡ taken w (p .depth)
+  taken-apart = taken-same w w' (p .depth) (omega arith) frames

@@ -1,19 +1,17 @@
 -- Steps: a refused one, one with another result.
-use Prim.Native.Nat.{ℕ, _+_, _≤_, _<_}
-use mathlib.Core.Path.{_≡_, refl, sym, ap, _∙_}
+use Prim.Native.Nat.{ℕ, _≤_, _<_}
+use mathlib.Core.Path.{_≡_, refl}
 use mathlib.Core.List.{List}
 use native.Mathlib.Omega.{arith}
 use Rattle.store.specs.declared.Step.{Step}
 use Rattle.store.specs.declared.Scope.{Scope}
-use Rattle.store.specs.Store.{run, refused-by, result-by, refused-step, with-result, written-by, result-limit, while-going, goes-on, Fine}
-use Rattle.store.specs.Promise.{Cost, nothing, Used, Moves, Leaf}
-use Rattle.store.proofs.Runs.{run-going, run-stopped, kept-refl, image-same, image-none, goes, refuses, due, promised}
+use Rattle.store.specs.Store.{result-by, refused-step, result-limit, Fine}
+use Rattle.store.specs.Promise.{Cost, Moves}
+use Rattle.store.proofs.Runs.{kept-refl, goes, due}
 use Rattle.store.proofs.Steady.{fine-step}
-use Rattle.meaning.specs.State.{Proto}
 use Rattle.meaning.specs.declared.Cause.{Cause}
 use Rattle.meaning.specs.declared.Outcome.{Outcome}
 use Rattle.meaning.specs.declared.Outcome.the-variants.{Accepted, Refused}
-use Rattle.forward.specs.Forward.{Config, Run, stopped, going, bind, sure, give}
 
 abbrev stepped : Outcome → (code constants globals functions result : ℕ) → Step
 stepped o c k g f r = record { outcome = o; code = c; constants = k; globals = g; functions = f; result = r }

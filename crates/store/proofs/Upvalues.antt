@@ -1,29 +1,27 @@
 -- get_upvalue: the search outward from the current function, as a step of the definition.
-use mathlib.Core.Path.{_≡_, refl, sym, ap, ap₂, _∙_}
+use mathlib.Core.Path.{_≡_, refl, sym, ap, _∙_}
 use mathlib.Core.Option.{Option, none, some}
 use mathlib.Core.List.{List}
-use Prim.Native.Nat.{ℕ, zero, suc, _+_, _*_, _-_, _%_, _<_, _≤_}
+use Prim.Native.Nat.{ℕ, _+_, _%_, _≤_}
 use native.Mathlib.Omega.{arith}
-use lib.ListN.{length, getD}
 use Rattle.store.specs.declared.Found.{Found}
 use Rattle.store.specs.declared.Found.the-variants.{At, Nothing, Full}
 use Rattle.store.specs.declared.Step.{Step}
 use Rattle.store.specs.declared.Scope.{Scope}
-use Rattle.store.specs.Table.{tab, stack}
-use Rattle.store.specs.Layout.{first, edge, constant-at, global-at, inst-at, top}
-use Rattle.store.specs.Store.{open-at, around, state-of, config-of, run, refused-step, Sound, Fine, Kept}
-use Rattle.store.specs.Search.{option-of, in-byte, search-of, Caught, Sought}
-use Rattle.store.specs.Promise.{Cost, nothing, taken, Used, Moves, Told}
-use Rattle.store.proofs.Regions.{Same, constants-same, globals-same, code-same, linked-same}
-use Rattle.store.proofs.Runs.{due, promised, goes, run-going, run-stopped, absorbed, image-none}
-use Rattle.store.proofs.Steady.{sound-again, fine-words, fine-step}
+use Rattle.store.specs.Layout.{first, edge}
+use Rattle.store.specs.Store.{open-at, around, state-of, config-of, refused-step, Fine, Kept}
+use Rattle.store.specs.Search.{option-of, search-of, Caught, Sought}
+use Rattle.store.specs.Promise.{nothing, Used, Moves, Told}
+use Rattle.store.proofs.Regions.{constants-same, globals-same, code-same, linked-same}
+use Rattle.store.proofs.Runs.{promised, goes, run-going, run-stopped, absorbed, image-none}
+use Rattle.store.proofs.Steady.{taken-by, sound-again, fine-words, fine-step}
 use Rattle.store.proofs.Steps.{refused-outcome}
 use Rattle.store.proofs.Searching.{caught-first, caught-saved, caught-registers}
-use Rattle.meaning.specs.State.{State, Open, Proto, Search, not-found, full, found, search-outward, get-upvalue}
+use Rattle.meaning.specs.State.{Proto, search-outward, get-upvalue}
 use Rattle.meaning.specs.declared.Cause.{Cause}
 use Rattle.meaning.specs.declared.Cause.the-variants.{Captures}
 use Rattle.meaning.specs.declared.Outcome.the-variants.{Accepted, Refused}
-use Rattle.forward.specs.Forward.{Config, config, Run, going, stopped, at, Answers}
+use Rattle.forward.specs.Forward.{going, stopped, at, Answers}
 use Rattle.forward.proofs.Opened.{with-functions, answers-stopped, upvalue-not-found, upvalue-full, upvalue-found}
 
 -- refused at entry
@@ -40,11 +38,6 @@ module _ (w w' : List ℕ) (p : Scope) (s : Step) (fine : Fine w p s) (deep : p 
 
   edge-kept : (i : ℕ) → edge w' (p .nodes) i ≡ edge w (p .nodes) i
   edge-kept i = caught .high (5708 + p .nodes + i) (omega arith)
-
-  taken-same : (d : ℕ) → d < 9 → taken w' d ≡ taken w d
-  unfolding taken
-  taken-same zero l = ap (λ y. y % 256) (caught-registers caught 0 l)
-  taken-same (suc d) l = ap₂ (λ y z. y % 256 + z) (caught-registers caught (suc d) l) (taken-same d (omega arith))
 
   caught-fine : Fine w' p s
   caught-fine =
@@ -74,7 +67,7 @@ module _ (w w' : List ℕ) (p : Scope) (s : Step) (fine : Fine w p s) (deep : p 
       used : Used w p s w' p s nothing
       used =
           let e = edge-kept (p .block) in
-          let t = taken-same (p .depth) (omega arith) in
+          let t = taken-by w w' (p .depth) (λ j l. ap (λ y. y % 256) (caught-registers caught j (omega arith))) in
           record { words = omega arith; locals = omega arith; names = omega arith; registers = omega arith }
 
   -- where a capture was found, only the functions changed

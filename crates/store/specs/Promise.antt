@@ -7,8 +7,8 @@ use Rattle.store.specs.declared.Step.{Step}
 use Rattle.store.specs.declared.Scope.{Scope}
 use Rattle.store.specs.Layout.{registers, edge, top}
 use Rattle.store.specs.Store.{run, goes-on, while-going, Image, Linked, Fine, Kept}
-use Rattle.meaning.specs.State.{Proto, M}
-use Rattle.forward.specs.Forward.{Config, Run, bind, Answers}
+use Rattle.meaning.specs.State.{Proto, M, next-register, allocate-register}
+use Rattle.forward.specs.Forward.{Config, Run, bind, fwd-number, fwd-unit, Answers}
 
 -- ---- what a step uses up, and what it gives back: words for code and locals, locals, names of globals for which no constant stands yet
 
@@ -134,3 +134,7 @@ pub record Popped (w : List ℕ) (p : Scope) (w' : List ℕ) : Type 0 where
 -- the cost of a step inside a block or a function: its locals are given back
 abbrev pub boxed : Cost → Cost
 boxed u = record { words = u .words; locals = 0; names = u .names; words-back = u .words-back; locals-back = 0; names-back = u .names-back }
+
+-- `parameters`, one of them: a register, and a local that names it
+abbrev pub a-parameter : (node name : ℕ) → Config → Run
+a-parameter node name c = bind (fwd-number (next-register node) c) (λ d. fwd-unit (allocate-register name (d .result)) d)

@@ -12,7 +12,7 @@ ghost use Rattle.store.specs.Half.{half, with-half};
 ghost use Rattle.store.specs.Table.{stack};
 ghost use Rattle.store.specs.Layout.{constant-by, global-at, local-at};
 ghost use Rattle.store.specs.Store.{first-step, refused-step, with-result, while-going, global-scope, deeper, inner, Sound, Fine, Kept};
-ghost use Rattle.store.specs.Promise.{nothing, a-register, some-registers, a-local, a-constant, a-global, Room, Leaf, Told, Tells, Popped};
+ghost use Rattle.store.specs.Promise.{nothing, a-register, some-registers, a-local, a-constant, a-global, both, a-parameter, Room, Leaf, Told, Tells, Popped};
 ghost use Rattle.store.specs.Search.{option-of, found-of, in-byte, seek, Walkable, Added, Sought, Ready};
 ghost use Rattle.store.specs.Opening.{Zeroed, Framed, Begun, Enters};
 
@@ -215,6 +215,22 @@ pub fn allocate_register(work: &mut [u32], step: Step, scope: Scope, name: usize
     set_half(work, head, count + 1);
     work[5724 + 2 * nodes + i] = (name as u32) * 255 + register;
     work[at] = count + 1;
+}
+
+// A register, and a local that names it: a parameter, a function's own name, a for-in's or a catch's variable.
+pub fn declare_parameter(
+    work: &mut [u32],
+    step: Step,
+    scope: Scope,
+    name: usize,
+    node: usize,
+) -> Step
+    requires { ⌜ Fine (now work) scope step × Room (now work) scope step 0 0 0 × (name < 65536) ⌝ }
+    ensures { λ r. ⌜ Leaf (now (work .entry)) scope step (now (work .exit)) scope r (both a-register a-local) (a-parameter node name) × (r .result < 255) ⌝ }
+{
+    let taken = next_register(work, step, scope, node);
+    allocate_register(work, taken, scope, name, taken.result);
+    taken
 }
 
 // ---- blocks

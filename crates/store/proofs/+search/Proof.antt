@@ -12,8 +12,8 @@ use Rattle.store.proofs.is_global_context.Reads as is-global-context-re
 use Rattle.store.proofs.look.Reads as look-reads
 use Rattle.store.proofs.+search.{statement}
 use Rattle.store.proofs.+search.Tie.{close}
-use Prim.Native.Nat.{suc, _+_, _-_, _*_, _≤_}
-use mathlib.Core.Path.{_≡_, refl, sym, ap, _∙_}
+use Prim.Native.Nat.{_+_, _-_}
+use mathlib.Core.Path.{_≡_, sym, _∙_}
 use mathlib.Core.Logic.{_⊎_, inl, inr}
 use native.Mathlib.Omega.{arith}
 use denote.Ref.{now}

@@ -3,11 +3,11 @@ use borrow.Author.Needs.{needs}
 use Rattle.store.proofs.add_upvalue.Statement.{statement}
 use Rattle.store.proofs.add_upvalue.Tie as tie
 use Prim.Native.Nat.{ℕ, _+_, _-_, _*_, _%_, _≤_, _<_}
-use mathlib.Core.Path.{_≡_, refl, sym, ap, _∙_}
+use mathlib.Core.Path.{_≡_, sym, ap, _∙_}
 use native.Mathlib.Omega.{arith}
 use borrow.Author.Count.{below-more}
 use denote.Ref.{now}
-use lib.ListN.{length, getD, length-set}
+use lib.ListN.{getD, length-set}
 use Rattle.store.specs.Layout.{held}
 use Rattle.store.proofs.Regions.{below-256}
 use Rattle.store.proofs.Captures.{capture-word, add-old, add-full, add-new}

@@ -2,7 +2,7 @@
 use borrow.Author.Needs.{needs}
 use Rattle.store.proofs.allocate_register.Statement.{statement}
 use Rattle.store.proofs.allocate_register.Tie as tie
-use Prim.Native.Nat.{ℕ, _+_, _*_, _/_, _%_, _<_}
+use Prim.Native.Nat.{ℕ, _+_, _*_, _/_, _%_}
 use mathlib.Core.Path.{_≡_, sym, ap, _∙_}
 use native.Mathlib.Omega.{arith}
 use lib.ListN.{length-set}

@@ -2,7 +2,6 @@
 use borrow.Author.Needs.{needs}
 use Rattle.store.proofs.bucket.Statement.{statement}
 use Rattle.store.proofs.bucket.Tie as tie
-use Prim.Native.Nat.{_*_}
 use mathlib.Core.Path.{refl, sym}
 use native.Mathlib.Omega.{arith}
 use native.Mathlib.Nat.{mod-lt, mod-eq-of-lt}

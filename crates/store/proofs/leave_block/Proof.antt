@@ -3,11 +3,11 @@ use borrow.Author.Needs.{needs}
 use Rattle.store.proofs.leave_block.Statement.{statement}
 use Rattle.store.proofs.leave_block.Tie as tie
 use Prim.Native.Nat.{ℕ, suc, _+_, _-_, _*_, _/_, _%_, _≤_}
-use mathlib.Core.Path.{_≡_, refl, sym, ap, _∙_}
+use mathlib.Core.Path.{_≡_, sym, ap, _∙_}
 use native.Mathlib.Omega.{arith}
 use denote.Ref.{now}
-use lib.ListN.{length, getD}
-use Rattle.store.specs.Layout.{local-at, link}
+use lib.ListN.{getD}
+use Rattle.store.specs.Layout.{local-at}
 use Rattle.store.proofs.Halves.{half-small}
 use Rattle.store.proofs.Links.{Popping, popping-start, popping-next, popping-end}
 use Rattle.store.proofs.Blocks.{leaving}

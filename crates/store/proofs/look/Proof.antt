@@ -8,9 +8,8 @@ use mathlib.Core.Path.{_≡_, refl, sym, ap, _∙_}
 use mathlib.Core.Option.{none}
 use native.Mathlib.Omega.{arith}
 use denote.Ref.{now}
-use Rattle.store.specs.Layout.{local-at, latest, head, link}
+use Rattle.store.specs.Layout.{local-at, latest, head}
 use Rattle.store.specs.Search.{seek, found-of}
-use Rattle.store.proofs.Halves.{half-small}
 use Rattle.store.proofs.Links.{latest-le, seek-none, head-within, walk-next, walk-self, walk-start, walk-hit, walk-miss, skip-start, skip-self, skip-next, skip-end}
 
 abbrev Inv-loop : tie.InvT-loop

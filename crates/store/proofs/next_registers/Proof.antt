@@ -4,7 +4,6 @@ use Rattle.store.proofs.next_registers.Statement.{statement}
 use Rattle.store.proofs.next_registers.Tie as tie
 use Prim.Native.Nat.{_+_, _*_}
 use native.Mathlib.Omega.{arith}
-use mathlib.Core.Path.{refl}
 use denote.Ref.{now}
 use Rattle.store.specs.Layout.{registers}
 use Rattle.store.specs.Promise.{some-registers}
