@@ -1,0 +1,153 @@
+-- A step that changes the pending code alone keeps its promise if the instructions are as the operation wants them; one that refuses changes no word.
+-- Assumes nothing.
+use mathlib.Core.Path.{_≡_, refl, sym, ap, ap₂, _∙_}
+use mathlib.Core.List.{List, [], _∷_, _++_}
+use Prim.Native.Nat.{ℕ, zero, suc, _+_, _*_, _-_, _/_, _%_, _<_, _≤_}
+use native.Mathlib.Omega.{arith}
+use lib.ListN.{length, getD, set, length-append}
+use Rattle.store.specs.declared.Step.{Step}
+use Rattle.store.specs.declared.Scope.{Scope}
+use Rattle.store.specs.Table.{tab}
+use Rattle.store.specs.Layout.{edge, top, inst-at}
+use Rattle.store.specs.Store.{state-of, config-of, run-by, run, while-going, result-limit, refused-step, Fine}
+use Rattle.store.specs.Promise.{uses, Cost, Room, Leaf}
+use Rattle.store.proofs.Tables.{tab-length, tab-getD}
+use Rattle.store.proofs.Regions.{Same, Only, below, constants-same, globals-same}
+use Rattle.store.proofs.Runs.{due, promised, goes}
+use Rattle.store.proofs.Steps.{refused-moves, shallow}
+use Rattle.store.proofs.Compose.{taken-few}
+use Rattle.store.proofs.Steady.{Clear, sound-apart, kept-apart, edge-apart, open-apart, around-apart, taken-apart}
+use Rattle.meaning.specs.Opcode.{inst, wide, back, Jmp}
+use Rattle.meaning.specs.Chunk.{patch-loop}
+use Rattle.meaning.specs.State.{State, Proto}
+use Rattle.meaning.specs.declared.Cause.{Cause}
+use Rattle.meaning.specs.declared.Outcome.{Outcome}
+use Rattle.meaning.specs.declared.Outcome.the-variants.{Accepted, Refused}
+use Rattle.meaning.specs.declared.Instruction.{Instruction}
+use Rattle.forward.specs.Forward.{Config, config, Run, stopped, going, bind, give, jump-here}
+use Rattle.code.specs.Words.{mended, closed-loop}
+use Rattle.code.proofs.Writing.{Spelled, spelled}
+
+-- a fact that is due, where nothing is refused
+pub met : {P : Type 0} {o : Outcome} {x : ℕ} → o ≡ Accepted x → while-going o P → P
+met {o = o} e h = due o h (goes e)
+
+-- the potential leaves room for a words
+pub room-for : {w : List ℕ} {p : Scope} {s : Step} {x : ℕ} (a : ℕ) → Fine w p s → s .outcome ≡ Accepted x → Room w p s 0 a 0 → 5724 + 2 * p .nodes + 2 * s .code + edge w (p .nodes) (p .block) + a ≤ top (p .nodes)
+room-for {w} {p} {s} a fine on room = omega (arith, met on (room .roomy) .words, taken-few w (p .depth), shallow s fine on)
+
+-- ---- the code alone
+
+abbrev pub with-code : Step → (code result : ℕ) → Step
+with-code s k v = record { outcome = s .outcome; code = k; constants = s .constants; globals = s .globals; functions = s .functions; result = v }
+
+pub result-small : {w : List ℕ} {p : Scope} {s : Step} {x : ℕ} → Fine w p s → s .outcome ≡ Accepted x → s .result < 1024
+result-small {w} {p} {s} fine on = cases (s .outcome) on (fine .result)
+  where
+    cases : {x : ℕ} (o : Outcome) → o ≡ Accepted x → s .result < result-limit o → s .result < 1024
+    cases (Accepted y) e h = h
+    cases (Refused k n) e h = omega arith
+
+pub result-due : {w : List ℕ} {p : Scope} {s : Step} → Fine w p s → while-going (s .outcome) (s .result < 1024)
+result-due {w} {p} {s} fine = cases (s .outcome) (fine .result)
+  where
+    cases : (o : Outcome) → s .result < result-limit o → while-going o (s .result < 1024)
+    cases (Accepted y) small = small
+    cases (Refused k n) small = tt
+
+-- what is written starts with the code that there is
+pub starts : {w : List ℕ} {p : Scope} {s : Step} → Fine w p s → Spelled w w (p .nodes) (5724 + 2 * p .nodes + edge w (p .nodes) (p .block)) (s .code) (tab (inst-at w (p .nodes)) (s .code))
+starts {w} {p} {s} fine = spelled w (p .nodes) (5724 + 2 * p .nodes + edge w (p .nodes) (p .block)) (s .code) (omega (arith, fine .room)) (omega (arith, fine .sound .long))
+
+module _ {w w' : List ℕ} {p : Scope} {s : Step} {x : ℕ} (fine : Fine w p s) (on : s .outcome ≡ Accepted x) (only : Only w w' (5724 + 2 * p .nodes + edge w (p .nodes) (p .block)) (top (p .nodes))) where
+  clear : Clear w p (5724 + 2 * p .nodes + edge w (p .nodes) (p .block)) (top (p .nodes))
+  clear = (λ c h k l. absurd (omega arith), λ c h l. h)
+
+  frames : Same w w' 3072 4168
+  frames = below 3072 4168 (omega arith) only
+
+  state-same : (ps : List Proto) → state-of w' p s ps ≡ state-of w p s ps
+  unfolding state-of
+  state-same ps =
+      let deep = shallow s fine on in
+      rw (
+        constants-same w w' (s .constants) (below 0 (3 * s .constants) (omega (arith, fine .constants)) only),
+        globals-same w w' (s .globals) (omega (arith, fine .constants, fine .globals)) (below 4168 4688 (omega arith) only),
+        open-apart (fine .sound) deep only clear frames,
+        around-apart (fine .sound) deep only clear frames,
+      )
+
+-- k instructions l are there at last, and the operation wants them and the result v
+pub coded : {w w' : List ℕ} {p : Scope} {s : Step} {x k : ℕ} {l : List Instruction} (v a : ℕ) (op : Config → Run)
+    → Fine w p s → s .outcome ≡ Accepted x → Spelled w w' (p .nodes) (5724 + 2 * p .nodes + edge w (p .nodes) (p .block)) k l → s .code ≤ k → 2 * k ≤ 2 * s .code + a → v < 1024
+    → ((t : State) → going (config l v t) ≡ op (config (tab (inst-at w (p .nodes)) (s .code)) (s .result) t))
+    → Leaf w p s w' p (with-code s k v) (uses a 0 0) op
+unfolding run config-of state-of bind
+coded {w} {w'} {p} {s} {k = k} v a op fine on written le most small wants =
+    let only = written .only in
+    let deep = shallow s fine on in
+    let e = edge-apart (fine .sound) deep only (clear fine on only) (frames fine on only) in
+    let t = taken-apart (fine .sound) deep only (clear fine on only) (frames fine on only) in
+    record {
+      moves =
+          record {
+            fine =
+                record {
+                  sound = sound-apart (fine .sound) deep only (clear fine on only) (frames fine on only);
+                  nested = fine .nested;
+                  room = omega (arith, written .room, e);
+                  constants = fine .constants;
+                  globals = fine .globals;
+                  functions = fine .functions;
+                  written = fine .written;
+                  result = rw on small;
+                };
+            kept = kept-apart (fine .sound) deep only (clear fine on only) (frames fine on only);
+            back = λ g. g;
+            used = promised (s .outcome) (λ g. record { words = omega (arith, e, t, most); locals = omega (arith, e, t); names = omega arith; registers = omega (arith, t) });
+            longer = le;
+            still = λ z. e;
+          };
+      runs = λ ps. rw on (rw (written .code, state-same fine on only ps) (wants (state-of w p s ps)));
+      image = λ o ps i. i;
+    }
+
+-- an operation that comes to the same
+pub leaf-as : {w w' : List ℕ} {p q : Scope} {s r : Step} {u : Cost} (op op' : Config → Run) → ((t : State) → op (config (tab (inst-at w (p .nodes)) (s .code)) (s .result) t) ≡ op' (config (tab (inst-at w (p .nodes)) (s .code)) (s .result) t))
+    → Leaf w p s w' q r u op → Leaf w p s w' q r u op'
+unfolding run config-of bind
+leaf-as {w} {w'} {p} {q} {s} {r} op op' same leaf = record { moves = leaf .moves; runs = λ ps. leaf .runs ps ∙ cases ps (s .outcome); image = leaf .image }
+  where
+    cases : (ps : List Proto) (o : Outcome) → bind (run-by o (config-of w p s ps)) op ≡ bind (run-by o (config-of w p s ps)) op'
+    cases ps (Accepted x) = same (state-of w p s ps)
+    cases ps (Refused k n) = refl
+
+-- a step that refuses
+pub refusing : {w : List ℕ} {p : Scope} {s : Step} {x : ℕ} (u : Cost) (op : Config → Run) (cause : Cause) (node : ℕ) → Fine w p s → s .outcome ≡ Accepted x
+    → ((t : State) → stopped cause node ≡ op (config (tab (inst-at w (p .nodes)) (s .code)) (s .result) t))
+    → Leaf w p s w p (refused-step s cause node) u op
+unfolding run config-of state-of bind
+refusing {w} {p} {s} u op cause node fine on wants =
+    record { moves = refused-moves s cause node u fine on; runs = λ ps. rw on (wants (state-of w p s ps)); image = rw on (λ o ps i. tt) }
+
+-- ---- a jump that is set to the end of the code, behind which the instruction i was just written
+
+pub jumped : (f : ℕ → Instruction) (k test mark v r : ℕ) (i : Instruction) (t : State) → going (config (set (tab f k ++ i ∷ []) (test + 1) (wide Jmp 0 (k - test) mark)) v t) ≡ going (give v (jump-here test mark (config (tab f k ++ i ∷ []) r t)))
+unfolding jump-here
+jumped f k test mark v r i t =
+    let n : k - test ≡ length (tab f k ++ i ∷ []) - (test + 1) = simp length-append (omega (arith, tab-length f k)) in
+    ap (λ n. going (config (set (tab f k ++ i ∷ []) (test + 1) (wide Jmp 0 n mark)) v t)) n
+
+-- ---- the end of a loop, of a body
+
+pub closed-is : (f : ℕ → Instruction) (k first condition test mark : ℕ)
+    → mended patch-loop first (set (tab f k ++ wide Jmp 0 (back (k - condition)) mark ∷ []) (test + 1) (wide Jmp 0 (k - test) mark)) ≡ closed-loop first condition test mark (tab f k)
+closed-is f k first condition test mark =
+    let n : length (tab f k ++ wide Jmp 0 (back (k - condition)) mark ∷ []) - (test + 1) ≡ k - test = simp length-append (omega (arith, tab-length f k)) in
+    rw (tab-length f k, n)
+
+-- the mark of the last instruction
+pub last-mark : (w : List ℕ) (n k : ℕ) → 1 ≤ k → getD w (top n - (2 * k - 1)) 0 ≡ getD (tab (inst-at w n) k) (length (tab (inst-at w n) k) - 1) (inst 0 0 0 0 0) .mark
+last-mark w n k h =
+    let e : 2 * k - 1 ≡ 2 * (k - 1) + 1 = omega arith in
+    rw (tab-length (inst-at w n) k, e) (sym (ap (λ i. i .mark) (tab-getD (inst-at w n) k (k - 1) (inst 0 0 0 0 0) (omega arith))))

@@ -1,0 +1,133 @@
+-- The dropped pass costs nothing: its code is cut off, and where it made no local all that stays are registers. Assumes nothing.
+use mathlib.Core.Path.{_≡_, refl, sym, ap, _∙_}
+use mathlib.Core.List.{List}
+use Prim.Native.Nat.{ℕ, _+_, _*_, _-_, _<_, _≤_}
+use native.Mathlib.Omega.{arith}
+use lib.ListN.{length, take}
+use Rattle.store.specs.declared.Step.{Step}
+use Rattle.store.specs.declared.Scope.{Scope}
+use Rattle.store.specs.Table.{tab}
+use Rattle.store.specs.Layout.{edge, inst-at}
+use Rattle.store.specs.Store.{state-of, config-of, run-by, run, image-by, Image, goes-on, while-going, result-limit, Fine}
+use Rattle.store.specs.Promise.{Cost, nothing, Used, Moves, After, Does}
+use Rattle.store.proofs.Tables.{tab-take}
+use Rattle.store.proofs.Runs.{due, promised}
+use Rattle.meaning.specs.State.{State, Proto}
+use Rattle.meaning.specs.declared.Instruction.{Instruction}
+use Rattle.meaning.specs.declared.Outcome.{Outcome}
+use Rattle.meaning.specs.declared.Outcome.the-variants.{Accepted, Refused}
+use Rattle.forward.specs.Forward.{Config, config, Run, going, bind, sure, roll-back}
+use Rattle.forward.proofs.Steps.{bind-assoc}
+use Rattle.code.specs.Cuts.{rolled-by, rolled-step}
+
+pub cut-tab : {X : Type 0} (f : ℕ → X) (first k : ℕ) → first ≤ k → take first (tab f k) ≡ tab f first
+cut-tab f first k h = let e : k ≡ first + (k - first) = omega arith in rw e (tab-take f first (k - first))
+
+-- ---- what roll_back does, by the outcome
+
+module _ (s : Step) (first : ℕ) where
+  abbrev stepped : Outcome → Step
+  stepped o = record { outcome = o; code = s .code; constants = s .constants; globals = s .globals; functions = s .functions; result = s .result }
+
+  runs-by : (o : Outcome) (w : List ℕ) (p : Scope) (ps : List Proto) → first ≤ s .code → run w p (rolled-by o (stepped o) first) ps ≡ bind (run w p (stepped o) ps) (sure (roll-back first))
+  unfolding run config-of state-of bind roll-back
+  runs-by (Accepted x) w p ps le = rw (cut-tab (inst-at w (p .nodes)) first (s .code) le)
+  runs-by (Refused k n) w p ps le = refl
+
+  fine-by : (o : Outcome) (w : List ℕ) (p : Scope) → first ≤ s .code → Fine w p (stepped o) → Fine w p (rolled-by o (stepped o) first)
+  fine-by (Accepted x) w p le fine =
+      record {
+        sound = fine .sound;
+        nested = fine .nested;
+        room = omega (arith, fine .room);
+        constants = fine .constants;
+        globals = fine .globals;
+        functions = fine .functions;
+        written = fine .written;
+        result = omega arith;
+      }
+  fine-by (Refused k n) w p le fine = fine
+
+  outcome-by : (o : Outcome) → rolled-by o (stepped o) first .outcome ≡ o
+  outcome-by (Accepted x) = refl
+  outcome-by (Refused k n) = refl
+
+  code-by : (o : Outcome) → goes-on o → rolled-by o (stepped o) first .code ≡ first
+  code-by (Accepted x) g = refl
+  code-by (Refused k n) g = absurd g
+
+  least-by : (o : Outcome) → first ≤ s .code → first ≤ rolled-by o (stepped o) first .code
+  least-by (Accepted x) le = omega arith
+  least-by (Refused k n) le = le
+
+  pools-by : (o : Outcome) → (rolled-by o (stepped o) first .constants ≡ s .constants) × (rolled-by o (stepped o) first .globals ≡ s .globals)
+  pools-by (Accepted x) = (refl, refl)
+  pools-by (Refused k n) = (refl, refl)
+
+  image-by-case : (x : Outcome) (o : List ℕ) (ps : List Proto) → Image o (stepped x) ps → Image o (rolled-by x (stepped x) first) ps
+  image-by-case (Accepted x) o ps i = i
+  image-by-case (Refused k n) o ps i = i
+
+  -- no word changes, so that this holds of any
+  pub rolled-runs : (w : List ℕ) (p : Scope) (ps : List Proto) → first ≤ s .code → run w p (rolled-step s first) ps ≡ bind (run w p s ps) (sure (roll-back first))
+  rolled-runs = runs-by (s .outcome)
+
+  pub rolled-fine : (w : List ℕ) (p : Scope) → first ≤ s .code → Fine w p s → Fine w p (rolled-step s first)
+  rolled-fine = fine-by (s .outcome)
+
+  pub rolled-image : (o : List ℕ) (ps : List Proto) → Image o s ps → Image o (rolled-step s first) ps
+  rolled-image = image-by-case (s .outcome)
+
+  pub rolled-outcome : rolled-step s first .outcome ≡ s .outcome
+  rolled-outcome = outcome-by (s .outcome)
+
+  pub rolled-code : goes-on (s .outcome) → rolled-step s first .code ≡ first
+  rolled-code = code-by (s .outcome)
+
+  pub rolled-least : first ≤ s .code → first ≤ rolled-step s first .code
+  rolled-least = least-by (s .outcome)
+
+  pub rolled-pools : (rolled-step s first .constants ≡ s .constants) × (rolled-step s first .globals ≡ s .globals)
+  rolled-pools = pools-by (s .outcome)
+
+-- ---- a pass that is dropped
+
+module _ {w w' : List ℕ} {p : Scope} {s s1 : Step} {u : Cost} (no-local : u .locals ≡ 0) (no-name : u .names ≡ 0) where
+  pub moves-dropped : Moves w p s w' p s1 u → Moves w p s w' p (rolled-step s1 (s .code)) nothing
+  moves-dropped m =
+      let r : Step = rolled-step s1 (s .code) in
+      let e = m .still no-local in
+      let o = rolled-outcome s1 (s .code) in
+      record {
+        fine = rolled-fine s1 (s .code) w' p (m .longer) (m .fine);
+        kept = m .kept;
+        back = λ g. m .back (rw o at g);
+        used = promised (r .outcome)
+            (λ g.
+            let h : goes-on (s1 .outcome) = rw o at g in
+            let v = due (s1 .outcome) (m .used) h in
+            let k = rolled-code s1 (s .code) h in
+            let q = rolled-pools s1 (s .code) in
+            record {
+              words = omega (arith, e, k, v .registers);
+              locals = omega (arith, e, v .registers);
+              names = omega (arith, v .names, no-name, q .0, q .1);
+              registers = v .registers;
+            });
+        longer = rolled-least s1 (s .code) (m .longer);
+        still = λ z. e;
+      }
+
+  pub does-dropped : {o o' : List ℕ} {op : Config → Run} → Does w o p s w' o' p s1 u op → Does w o p s w' o' p (rolled-step s1 (s .code)) nothing (λ c. bind (op c) (sure (roll-back (s .code))))
+  does-dropped {op = op} d =
+      record {
+        moves = moves-dropped (d .moves);
+        same = d .same;
+        does = λ ps i.
+            let a = d .does ps i in
+            record {
+              protos = a .protos;
+              image = rolled-image s1 (s .code) _ (a .protos) (a .image);
+              runs = rolled-runs s1 (s .code) w' p (a .protos) (d .moves .longer) ∙ ap (λ x. bind x (sure (roll-back (s .code)))) (a .runs) ∙ bind-assoc (run w p s ps) op (sure (roll-back (s .code)));
+            };
+      }

@@ -1,0 +1,6 @@
+-- Laws of pending code.
+pub mod Writing
+pub mod Coded
+pub mod Scans
+pub mod Turning
+pub mod Dropping

@@ -1,0 +1,48 @@
+-- `code::patch` meets its contract: the instruction is written over the one at the place. Assumes nothing.
+use mathlib.Core.Path.{refl}
+use native.Mathlib.Omega.{arith}
+use Rattle.store.specs.Promise.{uses}
+use Rattle.store.proofs.Runs.{leaf-absorbed}
+use Rattle.code.proofs.Coded.{met, starts, coded, result-small}
+use Rattle.code.proofs.Writing.{spell-over}
+use borrow.Author.Needs.{needs}
+use Rattle.code.proofs.patch.Statement.{statement}
+use Rattle.code.proofs.patch.Tie as tie
+
+returns : tie.Need-returns
+returns c = leaf-absorbed (uses 0 0 0) _ ((c .before .before .before) .pre .0) ((c .enum-told2) .given .1)
+
+pack-wide-requires : tie.Need-pack-wide-requires
+pack-wide-requires c κs =
+    let start = c .before .before .before .before in
+    let h = met ((c .before .enum-told) .given .1) (start .pre .1) in (h .1, h .2)
+
+write-requires : tie.Need-write-requires
+write-requires c κs =
+    let start = c .before .before .before .before .before in
+    let fine = start .pre .0 in
+    let h = met ((c .before .before .enum-told) .given .1) (start .pre .1) in
+    (omega (arith, fine .sound .long), omega (arith, fine .room, h .0), fine .sound .few)
+
+returns-2 : tie.Need-returns-2
+returns-2 c =
+    let start = c .before .before .before .before .before .before .before .before in
+    let told = c .before .before .before .before .before .enum-told in
+    let a = start .args in
+    let fine = start .pre .0 in
+    let on = told .given .1 in
+    let h = met on (start .pre .1) in
+    let one = spell-over (starts fine) ((c .before .before .before .pack-wide) .ensures) ((c .before .before .write) .ensures) (h .0) in
+    coded (a .step .result) 0 _ fine on one (omega arith) (omega arith) (result-small fine on) (λ t. refl)
+
+pub patch-spec : {M : Type 1} → statement M
+patch-spec =
+    tie.close
+    (tie.spec
+    (λ c. search needs)
+    (λ c. search needs)
+    returns
+    pack-wide-requires
+    write-requires
+    (λ c. search needs)
+    returns-2)

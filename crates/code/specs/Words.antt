@@ -1,0 +1,48 @@
+-- Pending code as words: what the inner functions promise.
+use Prim.Native.Nat.{ℕ, _+_, _-_, _*_, _<_, _≤_}
+use mathlib.Core.Path.{_≡_}
+use mathlib.Core.List.{List, [], _∷_, _++_}
+use lib.ListN.{length, getD, set, take, drop}
+use Rattle.store.specs.Table.{tab}
+use Rattle.store.specs.Layout.{top, unpacked, inst-at}
+use Rattle.meaning.specs.Opcode.{wide, back, Jmp}
+use Rattle.meaning.specs.Chunk.{patch-loop}
+use Rattle.meaning.specs.declared.Instruction.{Instruction}
+
+-- operands that fit their bytes
+pub record Bytes (op a b c : ℕ) : Type 0 where
+  pub op-small : op < 256
+  pub a-small : a < 256
+  pub b-small : b < 256
+  pub c-small : c < 256
+
+-- the word x with any mark is that instruction
+pub record Packs (x : ℕ) (i : ℕ → Instruction) : Type 0 where
+  pub is : (mark : ℕ) → unpacked x mark ≡ i mark
+
+-- instruction i set anew, by its packed word and its mark
+abbrev pub with-inst : List ℕ → (n i word mark : ℕ) → List ℕ
+with-inst w n i word mark = set (set w (top n - (2 * i + 2)) word) (top n - (2 * i + 1)) mark
+
+pub record Wrote (w : List ℕ) (n i word mark : ℕ) (w' : List ℕ) : Type 0 where
+  pub is : w' ≡ with-inst w n i word mark
+
+-- the word x became y: any instruction that x packs is turned by f
+pub record Turns (x : ℕ) (f : Instruction → Instruction) (y : ℕ) : Type 0 where
+  pub is : (mark : ℕ) → unpacked y mark ≡ f (unpacked x mark)
+
+-- the first k instructions became k' by f; no word but theirs changed
+pub record Recoded (w : List ℕ) (n k k' : ℕ) (f : List Instruction → List Instruction) (w' : List ℕ) : Type 0 where
+  pub same : length w' ≡ length w
+  pub other : (i : ℕ) → (top n - 2 * k' ≤ i → top n ≤ i) → getD w' i 0 ≡ getD w i 0
+  pub code : tab (inst-at w' n) k' ≡ f (tab (inst-at w n) k)
+
+-- the code from `first` on, anew
+abbrev pub mended : (List Instruction → List Instruction) → ℕ → List Instruction → List Instruction
+mended f first l = take first l ++ f (drop first l)
+
+-- the code of a loop, at its end: the jump back, the jump out, breaks and continues
+abbrev pub closed-loop : (first condition test mark : ℕ) → List Instruction → List Instruction
+closed-loop first condition test mark l =
+    let m : List Instruction = l ++ wide Jmp 0 (back (length l - condition)) mark ∷ [] in
+    mended patch-loop first (set m (test + 1) (wide Jmp 0 (length m - (test + 1)) mark))
