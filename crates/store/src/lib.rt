@@ -468,7 +468,7 @@ pub fn get_upvalue(work: &mut [u32], step: Step, scope: Scope, name: usize, node
 // ---- the start
 
 // The words from `from` up to `to` are 0.
-pub fn zero(work: &mut [u32], from: usize, to: usize)
+fn zero(work: &mut [u32], from: usize, to: usize)
     requires { ⌜ (from ≤ to) × (to ≤ length (now work)) ⌝ }
     ensures { λ _. ⌜ Zeroed (now (work .entry)) from to (now (work .exit)) ⌝ }
 {
