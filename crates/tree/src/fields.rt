@@ -4,14 +4,14 @@ ghost use Prim.Native.Nat.{_+_, _<_, _≤_};
 ghost use lib.ListN.{length};
 ghost use Rattle.meaning.specs.Fields.{word-at, span, whole, payload-of, rest, fields, left};
 
-pub fn wide(x: u8) -> usize
+pub(crate) fn wide(x: u8) -> usize
     ensures { λ r. ⌜ (r ≡ x) × (r < 256) ⌝ }
 {
     x as usize
 }
 
 // The two bytes at a place, the high one first.
-pub fn word(s: &[u8], at: usize) -> usize
+pub(crate) fn word(s: &[u8], at: usize) -> usize
     requires { ⌜ at + 2 ≤ length (now s) ⌝ }
     ensures { λ r. ⌜ (r ≡ word-at (now (s .entry)) at) × (r < 65536) ⌝ }
 {
@@ -19,7 +19,7 @@ pub fn word(s: &[u8], at: usize) -> usize
 }
 
 // A whole field stands at the front.
-pub fn is_whole(t: &[u8]) -> bool
+pub(crate) fn is_whole(t: &[u8]) -> bool
     ensures { λ r. ⌜ r ≡ whole (now (t .entry)) ⌝ }
 {
     if t.len() < 3 {
@@ -29,7 +29,7 @@ pub fn is_whole(t: &[u8]) -> bool
 }
 
 // How many bytes the field at the front takes.
-pub fn span_of(t: &[u8]) -> usize
+pub(crate) fn span_of(t: &[u8]) -> usize
     requires { ⌜ 3 ≤ length (now t) ⌝ }
     ensures { λ r. ⌜ r ≡ span (now (t .entry)) ⌝ }
 {
@@ -66,13 +66,13 @@ pub fn rest_of<'a>(t: &'a [u8]) -> &'a [u8]
 }
 
 // How many whole fields there are, and how many bytes stand after them.
-pub struct Walked {
-    pub count: usize,
-    pub after: usize,
+pub(crate) struct Walked {
+    pub(crate) count: usize,
+    pub(crate) after: usize,
 }
 
 // The field walk: from the middle of the slice on for the following field.
-pub fn walk(tree: &[u8]) -> Walked
+pub(crate) fn walk(tree: &[u8]) -> Walked
     ensures { λ r. ⌜ (r .count ≡ length (fields (now (tree .entry)))) × (r .after ≡ length (left (now (tree .entry)))) ⌝ }
 {
     let mut t = tree;

@@ -4,6 +4,8 @@ mod owners;
 mod rows;
 mod shape;
 
+pub use fields::payload;
+pub use fields::rest_of;
 use meaning::Cause;
 use meaning::Outcome;
 ghost use mathlib.Core.Path.{_≡_};
@@ -11,7 +13,8 @@ ghost use Prim.Native.Nat.{_≤_};
 ghost use lib.ListN.{length};
 ghost use Rattle.meaning.specs.Fields.{fields};
 ghost use Rattle.meaning.specs.Check.{checked-fields, checked};
-ghost use Rattle.tree.specs.Used.{scratch-after};
+ghost use Rattle.meaning.specs.Answer.{answer};
+ghost use Rattle.tree.specs.Used.{scratch-after, told};
 ghost use Rattle.tree.specs.Scratch.{Beyond};
 
 // Refusals 3 to 6 of n nodes, with a word of scratch for each.
@@ -81,4 +84,13 @@ pub fn check(tree: &[u8], work_len: usize) -> Outcome
 {
     let mut none = [0u32; 1];
     check_in(tree, &mut none, work_len)
+}
+
+// For C and Rust: number, place, and as length the number of nodes.
+#[no_mangle]
+pub extern "C" fn yengrazul_check(tree: &[u8], work_len: usize, out: &mut [u64; 3])
+    ensures { λ _. ⌜ now (out .exit) ≡ told (answer (checked (now (tree .entry)) «work_len»)) ⌝ }
+{
+    let a = values::answer_of(check(tree, work_len));
+    *out = [a.number, a.place, a.length];
 }

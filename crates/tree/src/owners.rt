@@ -9,7 +9,7 @@ ghost use Rattle.meaning.specs.Base.{lowest};
 ghost use Rattle.tree.specs.Scratch.{once, Owned, Linked, next-depth, depth-in, Beyond};
 
 // The lowest node below `last` that is not a child exactly once, or `last`.
-pub fn first_unowned(scratch: &[u32], last: usize) -> usize
+pub(crate) fn first_unowned(scratch: &[u32], last: usize) -> usize
     requires { ⌜ last ≤ length (now scratch) ⌝ }
     ensures { λ r. ⌜ r ≡ lowest (λ (c : ℕ). once (getD (now (scratch .entry)) c 0)) last ⌝ }
 {
@@ -41,7 +41,7 @@ fn depth_at(scratch: &[u32], n: usize, c: usize) -> u32
 
 // The lowest of n nodes that is deeper than 128, or n. A parent stands above its children, so one pass from the last node down will do; a
 // node's depth takes the place of what was noted of it.
-pub fn first_deep(scratch: &mut [u32], n: usize) -> usize
+pub(crate) fn first_deep(scratch: &mut [u32], n: usize) -> usize
     requires { ⌜ Owned (now scratch) n ⌝ }
     ensures lowest { λ r. ⌜ r ≡ lowest (λ (c : ℕ). leb (depth-in (now (scratch .entry)) n c) 128) n ⌝ }
     ensures beyond { λ _. ⌜ Beyond n (now (scratch .entry)) (now (scratch .exit)) ⌝ }
@@ -60,7 +60,7 @@ pub fn first_deep(scratch: &mut [u32], n: usize) -> usize
 }
 
 // The first n words are zero.
-pub fn clear(scratch: &mut [u32], n: usize)
+pub(crate) fn clear(scratch: &mut [u32], n: usize)
     requires { ⌜ n ≤ length (now scratch) ⌝ }
     ensures { λ _. ⌜ now (scratch .exit) ≡ replicate n 0 ++ drop n (now (scratch .entry)) ⌝ }
 {

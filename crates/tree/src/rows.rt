@@ -47,7 +47,7 @@ const CLOSES: u32 = 524288;
 
 const ENDS: u32 = 1048576;
 
-pub const ROWS: [u32; 78] = [
+pub(crate) const ROWS: [u32; 78] = [
     // 0: no tag: nothing fits
     NONE + 1 * NEXT,
     // 1: the end of a payload of fixed length
@@ -155,7 +155,7 @@ pub const ROWS: [u32; 78] = [
 ];
 
 // The first row of each tag, from 00 on; 0 for a number that is no tag.
-pub const STARTS: [u8; 31] = [
+pub(crate) const STARTS: [u8; 31] = [
     0,
     2,
     6,
@@ -190,7 +190,7 @@ pub const STARTS: [u8; 31] = [
 ];
 
 // Of each kind the lowest, the highest and one more that is not lawful: of the word, and from EXPR on of the child's tag.
-pub const LIMITS: [u32; 36] = [
+pub(crate) const LIMITS: [u32; 36] = [
     // NONE
     1,
     0,
@@ -241,16 +241,16 @@ pub const LIMITS: [u32; 36] = [
     65536,
 ];
 
-pub fn wide32(x: u32) -> usize
+pub(crate) fn wide32(x: u32) -> usize
     ensures { λ r. ⌜ r ≡ x ⌝ }
 {
     x as usize
 }
 
 // A place in a payload: its row, and how many groups of a counted run are left to come.
-pub struct Place {
-    pub at: usize,
-    pub left: usize,
+pub(crate) struct Place {
+    pub(crate) at: usize,
+    pub(crate) left: usize,
 }
 
 // How many groups are left after a word w that counts them, or that closes one of `left`.
@@ -267,7 +267,7 @@ fn left_after(flow: usize, left: usize, w: usize) -> usize
 }
 
 // The place after the word w of a row, where `left` groups were left before it.
-pub fn place_after(row: usize, left: usize, w: usize) -> Place
+pub(crate) fn place_after(row: usize, left: usize, w: usize) -> Place
     ensures { λ r. ⌜ (r .left ≡ next-left row left w) × (r .at ≡ next-row row (r .left)) ⌝ }
 {
     let flow = row / 262144 % 4;
@@ -291,7 +291,7 @@ pub fn place_after(row: usize, left: usize, w: usize) -> Place
 }
 
 // The first row of a node: the last node is a program, and no other is.
-pub fn start_of(starts: &[u8; 31], tag: u8, last: bool) -> usize
+pub(crate) fn start_of(starts: &[u8; 31], tag: u8, last: bool) -> usize
     requires { ⌜ now starts ≡ first-rows ⌝ }
     ensures { λ r. ⌜ (r ≡ start-of tag last) × (r < 78) ⌝ }
 {
@@ -315,7 +315,7 @@ fn limit_at(limits: &[u32; 36], kind: usize, column: usize) -> usize
 }
 
 // A number is within a kind's limits.
-pub fn is_inside(limits: &[u32; 36], kind: usize, v: usize) -> bool
+pub(crate) fn is_inside(limits: &[u32; 36], kind: usize, v: usize) -> bool
     requires { ⌜ (kind < 12) × (now limits ≡ bounds) ⌝ }
     ensures { λ r. ⌜ r ≡ inside kind v ⌝ }
 {
@@ -329,7 +329,7 @@ pub fn is_inside(limits: &[u32; 36], kind: usize, v: usize) -> bool
 }
 
 // The word names a child.
-pub fn is_child(kind: usize, w: usize) -> bool
+pub(crate) fn is_child(kind: usize, w: usize) -> bool
     ensures { λ r. ⌜ r ≡ names kind w ⌝ }
 {
     if kind < 6 {

@@ -122,7 +122,7 @@ fn first_wrong(
 }
 
 // The same. The tables are copied here once: a constant that a function indexes is copied at each of its calls.
-pub fn first_misshapen(scratch: &mut [u32], tree: &[u8], n: usize) -> usize
+pub(crate) fn first_misshapen(scratch: &mut [u32], tree: &[u8], n: usize) -> usize
     requires { ⌜ (n ≡ length (fields (now tree))) × (n ≤ 32768) × (n ≤ length (now scratch)) ⌝ }
     ensures place { λ r. ⌜ r ≡ lowest (shape-at (fields (now (tree .entry)))) n ⌝ }
     ensures entered { λ r. ⌜ (n ≤ r → now (scratch .exit) ≡ enter-all (now (scratch .entry)) 0 (fields (now (tree .entry)))) ⌝ }

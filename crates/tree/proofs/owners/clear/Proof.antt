@@ -7,8 +7,6 @@ use lib.ListN.{length, set, drop, replicate, length-set}
 use borrow.Author.Fill.{fill-none, fill-more}
 use Rattle.tree.proofs.owners.clear.Statement.{statement}
 use Rattle.tree.proofs.owners.clear.Tie as tie
-use Rattle.tree.proofs.owners.clear.Reads as reads
-use Rattle.tree.proofs.owners.clear.Lts as lts
 
 abbrev Inv-loop : tie.InvT-loop
 Inv-loop scratch₀ n i₀ scratch i = (i ≤ n) × (scratch ≡ replicate i 0 ++ drop i scratch₀) × (length scratch ≡ length scratch₀)

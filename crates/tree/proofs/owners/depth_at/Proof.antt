@@ -9,9 +9,6 @@ use borrow.Author.Tests.{eq-eqb, ne-eqb}
 use Rattle.tree.specs.Scratch.{parent-in, next-depth}
 use Rattle.tree.proofs.owners.depth_at.Statement.{statement}
 use Rattle.tree.proofs.owners.depth_at.Tie as tie
-use Rattle.tree.proofs.owners.depth_at.Reads as reads
-use Rattle.tree.proofs.owners.depth_at.Lts as lts
-use Rattle.tree.proofs.rows.wide32.Reads as wide32-reads
 
 -- what `Linked` says where c is not the last node
 linked : (c : tie.Else1) → let a = c .before .before .args in let l = now (a .scratch) in

@@ -8,9 +8,6 @@ use borrow.Author.Tests.{lt-leb, le-leb}
 use Rattle.tree.proofs.Depths.{Deep, deep-start, deep-linked, deep-more, deep-end}
 use Rattle.tree.proofs.owners.first_deep.Statement.{statement}
 use Rattle.tree.proofs.owners.first_deep.Tie as tie
-use Rattle.tree.proofs.owners.first_deep.Reads as reads
-use Rattle.tree.proofs.owners.first_deep.Lts as lts
-use Rattle.tree.proofs.owners.depth_at.Reads as depth-at-reads
 
 abbrev Inv-loop : tie.InvT-loop
 Inv-loop scratch₀ n c₀ deep₀ scratch c deep = Deep scratch₀ scratch n c deep

@@ -12,8 +12,6 @@ use Rattle.meaning.proofs.Lists.{lowest-found, lowest-none}
 use Rattle.tree.specs.Scratch.{once}
 use Rattle.tree.proofs.owners.first_unowned.Statement.{statement}
 use Rattle.tree.proofs.owners.first_unowned.Tie as tie
-use Rattle.tree.proofs.owners.first_unowned.Reads as reads
-use Rattle.tree.proofs.owners.first_unowned.Lts as lts
 
 abbrev Inv-loop : tie.InvT-loop
 Inv-loop scratch last i₀ i = (i ≤ last) × ((k : ℕ) → k < i → once (getD scratch k 0) ≡ true)

@@ -5,9 +5,6 @@ use borrow.Author.Tests.{eq-eqb, ne-eqb}
 use Rattle.tree.specs.Rows.{next-left, next-row}
 use Rattle.tree.proofs.rows.place_after.Statement.{statement}
 use Rattle.tree.proofs.rows.place_after.Tie as tie
-use Rattle.tree.proofs.rows.place_after.Reads as reads
-use Rattle.tree.proofs.rows.place_after.Lts as lts
-use Rattle.tree.proofs.rows.left_after.Reads as left-after-reads
 
 returns : tie.Need-returns
 unfolding next-left next-row

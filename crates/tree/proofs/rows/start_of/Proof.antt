@@ -9,9 +9,6 @@ use Rattle.tree.specs.Rows.{start-of, first-rows}
 use Rattle.tree.proofs.Table.{start-low, start-tag, start-none}
 use Rattle.tree.proofs.rows.start_of.Statement.{statement}
 use Rattle.tree.proofs.rows.start_of.Tie as tie
-use Rattle.tree.proofs.rows.start_of.Reads as reads
-use Rattle.tree.proofs.rows.start_of.Lts as lts
-use Rattle.tree.proofs.fields.wide.Reads as wide-reads
 
 returns : tie.Need-returns
 unfolding start-of first-rows

@@ -6,9 +6,6 @@ use Rattle.meaning.specs.Grammar.{bounds}
 use Rattle.tree.specs.Rows.{row-list, first-rows}
 use Rattle.tree.proofs.shape.first_misshapen.Statement.{statement}
 use Rattle.tree.proofs.shape.first_misshapen.Tie as tie
-use Rattle.tree.proofs.shape.first_misshapen.Reads as reads
-use Rattle.tree.proofs.shape.first_misshapen.Lts as lts
-use Rattle.tree.proofs.shape.first_wrong.Reads as first-wrong-reads
 
 first-wrong-requires : tie.Need-first-wrong-requires
 unfolding row-list first-rows bounds

@@ -11,12 +11,6 @@ use Rattle.tree.proofs.Words.{beyond-more}
 use Rattle.tree.proofs.Shapes.{Shaped, shaped-start, shaped-more, shaped-stop, shaped-end, shaped-all, shaped-beyond}
 use Rattle.tree.proofs.shape.first_wrong.Statement.{statement}
 use Rattle.tree.proofs.shape.first_wrong.Tie as tie
-use Rattle.tree.proofs.shape.first_wrong.Reads as reads
-use Rattle.tree.proofs.shape.first_wrong.Lts as lts
-use Rattle.tree.proofs.fields.payload.Reads as payload-reads
-use Rattle.tree.proofs.fields.span_of.Reads as span-of-reads
-use Rattle.tree.proofs.rows.start_of.Reads as start-of-reads
-use Rattle.tree.proofs.shape.fits_from.Reads as fits-from-reads
 
 abbrev Inv-loop : tie.InvT-loop
 Inv-loop scratch₀ tree n rows starts limits t₀ i₀ scratch t i = Shaped tree scratch₀ scratch t i

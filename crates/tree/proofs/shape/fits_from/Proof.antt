@@ -13,12 +13,6 @@ use Rattle.tree.proofs.Table.{kind-low}
 use Rattle.tree.proofs.Payloads.{Fitting, fitting-start, fitting-more, fitting-stop, fitting-odd, fitting-end, two-less}
 use Rattle.tree.proofs.shape.fits_from.Statement.{statement}
 use Rattle.tree.proofs.shape.fits_from.Tie as tie
-use Rattle.tree.proofs.shape.fits_from.Reads as reads
-use Rattle.tree.proofs.shape.fits_from.Lts as lts
-use Rattle.tree.proofs.fields.word.Reads as word-reads
-use Rattle.tree.proofs.rows.place_after.Reads as place-after-reads
-use Rattle.tree.proofs.rows.wide32.Reads as wide32-reads
-use Rattle.tree.proofs.shape.admit.Reads as admit-reads
 
 abbrev Inv-loop : tie.InvT-loop
 Inv-loop scratch₀ rows limits i first p q₀ at₀ left₀ scratch q at left = Fitting scratch₀ i first p scratch q at left

@@ -1,0 +1,2 @@
+-- What the contracts cite beside the definition of `meaning`.
+pub mod Literals

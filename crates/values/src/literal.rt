@@ -1,0 +1,120 @@
+// Literals (01, "A constant is a binary64 number, a text or another literal"): read from a payload, tested for Addi, written back by their bits.
+use meaning::Literal;
+ghost use mathlib.Core.Path.{_≡_};
+ghost use Prim.Native.Nat.{_+_, _*_, _<_};
+ghost use lib.Ieee.{binary64, toBits};
+ghost use Rattle.meaning.specs.Fields.{words};
+ghost use Rattle.meaning.specs.Read.{at, bits};
+ghost use Rattle.meaning.specs.Constant.{number, constant-of, Proper, small-value};
+ghost use Rattle.values.specs.Literals.{number-of, literal-of, constant-at, bits-of, small-as, small-of};
+
+// What the test for Addi finds.
+pub enum Immediate {
+    Is(u8),
+    Not,
+}
+
+fn wide(x: u8) -> u64
+    ensures { λ r. ⌜ (r ≡ x) × (r < 256) ⌝ }
+{
+    x as u64
+}
+
+// Word k of a payload, 0 where it has no such word.
+fn word_or_none(p: &[u8], k: usize) -> u64
+    requires { ⌜ k < 32768 ⌝ }
+    ensures { λ r. ⌜ (r ≡ at (words (now (p .entry))) k) × (r < 65536) ⌝ }
+{
+    let start = 2 * k;
+    if start + 2 <= p.len() {
+        return wide(p[start]) * 256 + wide(p[start + 1]);
+    }
+    0
+}
+
+// The 64 bits of a number, the high byte first.
+pub fn bits_at(p: &[u8]) -> u64
+    ensures { λ r. ⌜ r ≡ bits (words (now (p .entry))) ⌝ }
+{
+    let a = word_or_none(p, 0);
+    let b = word_or_none(p, 1);
+    let c = word_or_none(p, 2);
+    let d = word_or_none(p, 3);
+    ((a * 65536 + b) * 65536 + c) * 65536 + d
+}
+
+// A NaN keeps its bits in a case of its own: `f64::from_bits` and `to_bits` are undefined there.
+pub fn number_of(bits: u64) -> Literal
+    ensures case { λ r. ⌜ r ≡ number-of bits ⌝ }
+    ensures constant { λ r. ⌜ (constant-of r ≡ number bits) × Proper r ⌝ }
+{
+    if 0x7FF0_0000_0000_0000 < bits % 0x8000_0000_0000_0000 {
+        return Literal::NotANumber(bits);
+    }
+    Literal::Number(f64::from_bits(bits))
+}
+
+// The literal of a node of tag 01, 02 or 03, by its payload.
+pub fn literal_of(tag: u8, p: &[u8]) -> Literal
+    ensures case { λ r. ⌜ r ≡ literal-of tag (words (now (p .entry))) ⌝ }
+    ensures constant { λ r. ⌜ (constant-of r ≡ constant-at tag (words (now (p .entry)))) × Proper r ⌝ }
+{
+    if tag == 0x01 {
+        return number_of(bits_at(p));
+    }
+    let w = word_or_none(p, 0);
+    if tag == 0x02 {
+        return Literal::Text(w as u16);
+    }
+    Literal::Other(w as u16)
+}
+
+fn bits_of_number(x: f64) -> u64
+    ensures { λ r. ⌜ r ≡ toBits binary64 x ⌝ }
+{
+    if x == x {
+        return f64::to_bits(x);
+    }
+    0x7FF8_0000_0000_0000
+}
+
+// What an image holds of a literal: a number's bits, a name, a word.
+pub fn bits_of(l: Literal) -> u64
+    ensures { λ r. ⌜ r ≡ bits-of l ⌝ }
+{
+    match l {
+        Literal::Number(x) => bits_of_number(x),
+        Literal::NotANumber(bits) => bits,
+        Literal::Text(name) => name as u64,
+        Literal::Other(word) => word as u64,
+    }
+}
+
+// The whole part is a byte only from above -1 to below 256; the comparison then says whether there is no other part.
+fn small_number(x: f64) -> Immediate
+    ensures { λ r. ⌜ r ≡ small-as (small-value x) ⌝ }
+{
+    if x > -1.0 {
+        if x < 256.0 {
+            let k = std::num::truncating_f64_to_u64(x) as u8;
+            if x == (k as f64) {
+                return Immediate::Is(k);
+            }
+            return Immediate::Not;
+        }
+        return Immediate::Not;
+    }
+    Immediate::Not
+}
+
+// The test for Addi: the literal equals one of 0 to 255 by IEEE 754's comparison, and negative zero counts as 0.
+pub fn small(l: Literal) -> Immediate
+    ensures { λ r. ⌜ r ≡ small-of l ⌝ }
+{
+    match l {
+        Literal::Number(x) => small_number(x),
+        Literal::NotANumber(_) => Immediate::Not,
+        Literal::Text(_) => Immediate::Not,
+        Literal::Other(_) => Immediate::Not,
+    }
+}
