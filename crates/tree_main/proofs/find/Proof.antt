@@ -1,0 +1,26 @@
+-- The place is within the slice.
+use Prim.Native.Nat.{_≤_, _-_}
+use native.Mathlib.Omega.{arith}
+use lib.ListN.{length}
+use Rattle.tree_main.proofs.find.Statement.{statement}
+use Rattle.tree_main.proofs.find.Tie as tie
+
+abbrev Inv-loop : tie.InvT-loop
+Inv-loop s b i₀ i = i ≤ length s
+
+abbrev μ-loop : tie.MeasureT-loop
+μ-loop s b i₀ i = length s - i
+
+pub find-spec : {M : Type 1} → statement M
+find-spec =
+    tie.close
+    (tie.spec
+    Inv-loop
+    μ-loop
+    (λ c. omega arith)
+    (λ c. omega arith)
+    (λ c. omega arith)
+    (λ c. omega arith)
+    (λ c. omega arith)
+    (λ c. omega arith)
+    (λ c. omega arith))
