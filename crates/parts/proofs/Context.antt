@@ -1,0 +1,33 @@
+-- The global context: one open function with one open block.
+use Prim.Native.Nat.{ℕ, _+_, _≤_}
+use mathlib.Core.Path.{_≡_, refl}
+use mathlib.Core.Bool.{Bool, true, false, _&&_}
+use mathlib.Core.List.{List}
+use native.Mathlib.Omega.{arith}
+use lib.Dec.{eqb}
+use borrow.Author.Tests.{eqb-true, eqb-false}
+use Rattle.store.specs.declared.Scope.{Scope}
+use Rattle.store.specs.Store.{global-scope, Sound}
+
+pub record Alone (p : Scope) : Type 0 where
+  pub depth : p .depth ≡ 0
+  pub block : p .block ≡ 1
+
+first-of : (a b : Bool) → a && b ≡ true → a ≡ true
+first-of true b e = refl
+first-of false b e = e
+
+second-of : (a b : Bool) → a && b ≡ true → b ≡ true
+second-of true b e = e
+second-of false b e = absurd (let z : _≡_ {A = ℕ} 0 1 = cc in omega arith)
+
+pub alone : (p : Scope) → global-scope p ≡ true → Alone p
+alone p e = record { depth = eqb-true (p .depth) 0 (first-of _ _ e); block = eqb-true (p .block) 1 (second-of (eqb (p .depth) 0) _ e) }
+
+pub not-alone : {w : List ℕ} (p : Scope) → Sound w p → global-scope p ≡ false → 2 ≤ p .depth + p .block
+not-alone p sound e = cases (eqb (p .depth) 0) (eqb (p .block) 1) refl refl e
+  where
+    cases : (a b : Bool) → eqb (p .depth) 0 ≡ a → eqb (p .block) 1 ≡ b → a && b ≡ false → 2 ≤ p .depth + p .block
+    cases true true f g h = absurd (let z : _≡_ {A = ℕ} 0 1 = cc in omega arith)
+    cases true false f g h = let n = eqb-false (p .block) 1 g in omega (arith, sound .starts 0 (omega arith), n)
+    cases false b f g h = let n = eqb-false (p .depth) 0 f in omega (arith, sound .starts 0 (omega arith), n)

@@ -1,0 +1,142 @@
+-- What a leaf's equation tells of the step after it, while nothing is refused: its result, and how many registers the current function has then.
+use Prim.Native.Nat.{ℕ, zero, suc, _+_}
+use mathlib.Core.Path.{_≡_, refl, sym, ap, _∙_}
+use mathlib.Core.Bool.{Bool, true, false}
+use mathlib.Core.List.{List, []}
+use native.Mathlib.Omega.{arith}
+use lib.Dec.{eqb}
+use lib.ListN.{length}
+use Rattle.meaning.specs.Constant.{Constant}
+use Rattle.meaning.specs.State.{_>>=_, and-then, pure, if-then, only-if, get, next-register, allocate-register, add-constant, is-global, is-global-context, add-global}
+use Rattle.meaning.specs.Syntax.{Token}
+use Rattle.meaning.specs.Expressions.{next-registers}
+use Rattle.meaning.specs.Functions.{declare-name}
+use Rattle.meaning.specs.declared.Cause.{Cause}
+use Rattle.meaning.specs.declared.Cause.the-variants.{Registers, Constants}
+use Rattle.meaning.specs.declared.Instruction.{Instruction}
+use Rattle.meaning.specs.declared.Outcome.{Outcome}
+use Rattle.meaning.specs.declared.Outcome.the-variants.{Accepted, Refused}
+use Rattle.forward.specs.Forward.{Config, Run, stopped, going, bind, pick, on, at, fwd-by, sure, emit, put, add-none, fwd-number, fwd-unit, fwd-zero, declare}
+use Rattle.forward.proofs.ExpressionsForward.{register-none, register-forward}
+use Rattle.forward.proofs.Opened.{register-opened, allocate-opened, constant-opened, global-opened}
+use Rattle.store.specs.declared.Step.{Step}
+use Rattle.store.specs.declared.Scope.{Scope}
+use Rattle.store.specs.Layout.{registers}
+use Rattle.store.specs.Store.{open-at, state-of, config-of, goes-on}
+use Rattle.store.specs.Promise.{Cost, Leaf, a-parameter}
+use Rattle.store.proofs.Runs.{run-going}
+
+going-is : (o : Outcome) → goes-on o → (x : ℕ) × (o ≡ Accepted x)
+going-is (Accepted x) g = (x, refl)
+going-is (Refused k n) g = absurd g
+
+abbrev count : Config → ℕ
+count c = c .state .current .registers
+
+-- of an operation: the result and the count before, the result and the count after
+abbrev Always : (Config → Run) → ((result count result' count' : ℕ) → Type 0) → Type 0
+Always op P = (c d : Config) → op c ≡ going d → P (c .result) (count c) (d .result) (count d)
+
+-- THE LAW: what always holds of an operation holds of a leaf that does it
+tells : {w w' : List ℕ} {p q : Scope} {s r : Step} {u : Cost} {op : Config → Run} (P : (result count result' count' : ℕ) → Type 0) → Always op P → Leaf w p s w' q r u op → goes-on (r .outcome) → P (s .result) (registers w (p .depth)) (r .result) (registers w' (q .depth))
+unfolding bind config-of state-of open-at
+tells {w} {w'} {p} {q} {s} {r} {u} {op} P h l g =
+    let e = going-is (r .outcome) g in
+    let f = going-is (s .outcome) (l .moves .back g) in
+    let before = run-going w p s [] (f .0) (f .1) in
+    let after = run-going w' q r [] (e .0) (e .1) in
+    h (config-of w p s []) (config-of w' q r []) (sym (ap (λ (x : Run). bind x op) before) ∙ sym (l .runs []) ∙ after)
+
+-- ---- from an operation that goes on to its parts
+
+un-going : {c d : Config} → going c ≡ going d → c ≡ d
+un-going e = cc
+
+un-bind : (r : Run) (K : Config → Run) (d : Config) → bind r K ≡ going d → (y : Config) × (r ≡ going y) × (K y ≡ going d)
+unfolding bind
+un-bind (stopped k n) K d e = absurd (let z : _≡_ {A = ℕ} 0 1 = cc in omega arith)
+un-bind (going y) K d e = (y, refl, e)
+
+un-pick : (b : Bool) (k : Cause) (n : ℕ) (x d : Config) → pick b (stopped k n) (going x) ≡ going d → x ≡ d
+unfolding pick
+un-pick true k n x d e = absurd (let z : _≡_ {A = ℕ} 0 1 = cc in omega arith)
+un-pick false k n x d e = cc
+
+-- ---- steps that take no register
+
+pub record Keeps (x n x' n' : ℕ) : Type 0 where
+  pub result : x' ≡ x
+  pub counted : n' ≡ n
+
+keeps-by : {c d : Config} → c ≡ d → Keeps (c .result) (count c) (d .result) (count d)
+keeps-by e = record { result = sym (ap (λ (y : Config). y .result) e); counted = sym (ap (λ (y : Config). count y) e) }
+
+pub emit-keeps : {w w' : List ℕ} {p q : Scope} {s r : Step} {u : Cost} (i : Instruction) → Leaf w p s w' q r u (sure (emit i)) → goes-on (r .outcome) → Keeps (s .result) (registers w (p .depth)) (r .result) (registers w' (q .depth))
+emit-keeps i = tells Keeps (λ c d e. keeps-by {c = emit i c} (un-going e))
+
+pub put-keeps : {w w' : List ℕ} {p q : Scope} {s r : Step} {u : Cost} (v : ℕ) (i : Instruction) → Leaf w p s w' q r u (sure (put v i)) → goes-on (r .outcome) → Keeps v (registers w (p .depth)) (r .result) (registers w' (q .depth))
+put-keeps v i = tells (λ x n x' n'. Keeps v n x' n') (λ c d e. keeps-by {c = put v i c} (un-going e))
+
+pub constant-keeps : {w w' : List ℕ} {p q : Scope} {s r : Step} {u : Cost} (node : ℕ) (v : Constant) → Leaf w p s w' q r u (fwd-number (add-constant node v)) → goes-on (r .outcome) → registers w' (q .depth) ≡ registers w (p .depth)
+constant-keeps node v = tells (λ x n x' n'. n' ≡ n) (λ c d e. sym (ap (λ (y : Config). count y) (un-pick (eqb (length (c .state .constants)) 1024) Constants node _ d (sym (constant-opened node v c) ∙ e))))
+
+pub global-keeps : {w w' : List ℕ} {p q : Scope} {s r : Step} {u : Cost} (name : ℕ) → Leaf w p s w' q r u (fwd-unit (add-global name)) → goes-on (r .outcome) → Keeps (s .result) (registers w (p .depth)) (r .result) (registers w' (q .depth))
+global-keeps name = tells Keeps (λ c d e. keeps-by (un-going (sym (global-opened name c) ∙ e)))
+
+-- a global's name, where the context is global
+name-by : (b : Bool) (name : ℕ) (c d : Config) → on (only-if b (add-global name) (c .state)) (λ a t. going (add-none a (at t c))) ≡ going d → Keeps (c .result) (count c) (d .result) (count d)
+unfolding on only-if if-then add-global pure
+name-by true name c d e = keeps-by (un-going e)
+name-by false name c d e = keeps-by (un-going e)
+
+name-keeps : (x : Token) → Always (fwd-unit (declare-name x)) Keeps
+unfolding fwd-by declare-name is-global-context _>>=_ and-then get
+name-keeps x c d e = name-by (is-global (c .state .current) (c .state .outer)) (x .name) c d e
+
+-- ---- steps that take one: it is the count, and one more is counted
+
+pub record Takes (n x' n' : ℕ) : Type 0 where
+  pub result : x' ≡ n
+  pub counted : n' ≡ n + 1
+
+takes-keeps : {n x' n' x'' n'' : ℕ} → Takes n x' n' → Keeps x' n' x'' n'' → Takes n x'' n''
+takes-keeps t k = record { result = k .result ∙ t .result; counted = k .counted ∙ t .counted }
+
+register-takes : (node : ℕ) → Always (fwd-number (next-register node)) (λ x n x' n'. Takes n x' n')
+register-takes node c d e =
+    let f = un-pick (eqb (count c) 255) Registers node _ d (sym (register-opened node c) ∙ e) in
+    record { result = sym (ap (λ (y : Config). y .result) f); counted = sym (ap (λ (y : Config). count y) f) }
+
+pub takes : {w w' : List ℕ} {p q : Scope} {s r : Step} {u : Cost} (node : ℕ) → Leaf w p s w' q r u (fwd-number (next-register node)) → goes-on (r .outcome) → Takes (registers w (p .depth)) (r .result) (registers w' (q .depth))
+takes node = tells (λ x n x' n'. Takes n x' n') (register-takes node)
+
+-- with a name that is known from here on
+declared : (node : ℕ) (x : Token) → Always (declare node x) (λ y n y' n'. Takes n y' n')
+unfolding declare
+declared node x c d e =
+    let f = un-bind (fwd-number (next-register node) c) _ d e in
+    takes-keeps (register-takes node c (f .0) (f .1)) (name-keeps x (f .0) d (f .2))
+
+pub declare-takes : {w w' : List ℕ} {p q : Scope} {s r : Step} {u : Cost} (node : ℕ) (x : Token) → Leaf w p s w' q r u (declare node x) → goes-on (r .outcome) → Takes (registers w (p .depth)) (r .result) (registers w' (q .depth))
+declare-takes node x = tells (λ y n y' n'. Takes n y' n') (declared node x)
+
+-- with a local that names it
+parameter-takes : (node name : ℕ) → Always (a-parameter node name) (λ x n x' n'. Takes n x' n')
+parameter-takes node name c d e =
+    let f = un-bind (fwd-number (next-register node) c) _ d e in
+    takes-keeps (register-takes node c (f .0) (f .1)) (keeps-by (un-going (sym (allocate-opened name (f .0 .result) (f .0)) ∙ f .2)))
+
+pub named-takes : {w w' : List ℕ} {p q : Scope} {s r : Step} {u : Cost} (node name : ℕ) → Leaf w p s w' q r u (a-parameter node name) → goes-on (r .outcome) → Takes (registers w (p .depth)) (r .result) (registers w' (q .depth))
+named-takes node name = tells (λ x n x' n'. Takes n x' n') (parameter-takes node name)
+
+-- several
+registers-take : (node n : ℕ) → Always (fwd-zero (next-registers node n)) (λ x m x' m'. m' ≡ m + n)
+registers-take node zero c d e = let f = keeps-by (un-going (register-none node c ∙ e)) in f .counted ∙ omega arith
+registers-take node (suc n) c d e =
+    let f = un-bind (fwd-number (next-register node) c) _ d (register-forward node n c ∙ e) in
+    let t = register-takes node c (f .0) (f .1) in
+    let h = registers-take node n (f .0) d (f .2) in
+    omega (arith, t .counted, h)
+
+pub many-taken : {w w' : List ℕ} {p q : Scope} {s r : Step} {u : Cost} (node n : ℕ) → Leaf w p s w' q r u (fwd-zero (next-registers node n)) → goes-on (r .outcome) → registers w' (q .depth) ≡ registers w (p .depth) + n
+many-taken node n = tells (λ x m x' m'. m' ≡ m + n) (registers-take node n)

@@ -1,0 +1,64 @@
+-- The loops over the pairs of a payload (parameters, names of a for-in): each turn takes a register and a local. What is left to do after k turns, done, makes the
+-- whole; the line so far is one of k turns.
+use Prim.Native.Nat.{ℕ, suc, _+_, _-_, _*_, _≤_, _<_}
+use mathlib.Core.Path.{_≡_, refl, sym, ap, _∙_}
+use mathlib.Core.List.{List, [], _∷_}
+use native.Mathlib.Omega.{arith}
+use native.Mathlib.Numerals.{add-one}
+use lib.ListN.{length}
+use Rattle.meaning.specs.Fields.{words}
+use Rattle.meaning.specs.Read.{at, token}
+use Rattle.meaning.specs.Syntax.{Token}
+use Rattle.meaning.specs.State.{Proto}
+use Rattle.forward.specs.Forward.{Config, Run, bind}
+use Rattle.store.specs.declared.Step.{Step}
+use Rattle.store.specs.declared.Scope.{Scope}
+use Rattle.store.specs.Layout.{registers}
+use Rattle.store.specs.Store.{run, goes-on, Fine}
+use Rattle.store.specs.Promise.{Cost, uses, some-registers, both, nothing, Room, Moves}
+use Rattle.store.proofs.Compose.{moves-by}
+use Rattle.parts.specs.Parts.{tokens-from}
+use Rattle.parts.proofs.Line.{Line, Within, from as line-from}
+use Rattle.parts.proofs.Tokens.{left, left-all, left-none, left-more}
+
+-- the cost of k turns, of a words each
+abbrev pub turns : (a k : ℕ) → Cost
+turns a k = both (some-registers k) (uses (a * k) k 0)
+
+-- after k of n turns; `op k` does what is left of the list
+pub record Turned (op : ℕ → List Token → Config → Run) (l : List ℕ) (from n a : ℕ) (w₀ : List ℕ) (p : Scope) (s₀ : Step) (w : List ℕ) (s : Step) (k : ℕ) : Type 0 where
+  pub most : k ≤ n
+  pub line : Line w₀ p s₀ 0 0 0 w s (turns a k)
+  pub counted : goes-on (s .outcome) → registers w (p .depth) ≡ registers w₀ (p .depth) + k
+  pub rest : (ps : List Proto) (x : Run) → x ≡ bind (run w p s ps) (op k (left l from n k)) → x ≡ bind (run w₀ p s₀ ps) (op 0 (tokens-from l from n))
+
+-- the same line, its cost said with other numbers
+pub costing : {w w' : List ℕ} {p : Scope} {s r : Step} {a b e : ℕ} {u : Cost} (v : Cost) → Within u v → Line w p s a b e w' r u → Line w p s a b e w' r v
+costing v k x = record { owing = x .owing; moves = moves-by v (k .words) (k .locals) (k .names) (k .still) (x .moves); image = x .image }
+
+module _ {op : ℕ → List Token → Config → Run} {l : List ℕ} {from n a : ℕ} {w₀ : List ℕ} {p : Scope} {s₀ : Step} where
+  -- no turn yet
+  pub no-turn : Fine w₀ p s₀ → Room w₀ p s₀ 0 0 0 → Turned op l from n a w₀ p s₀ w₀ s₀ 0
+  no-turn h r =
+      record {
+        most = omega arith;
+        line = costing (turns a 0) (record { words = omega arith; locals = omega arith; names = omega arith; still = λ z. z }) (line-from h r);
+        counted = λ g. omega arith;
+        rest = λ ps x e. e ∙ ap (λ t. bind (run w₀ p s₀ ps) (op 0 t)) (left-all l from n);
+      }
+
+  -- one turn more, of which x = the k-th pair
+  pub one-turn : {w w' : List ℕ} {s s' : Step} {k : ℕ} → Turned op l from n a w₀ p s₀ w s k → from + 2 * n ≤ length (words l) → k < n → Line w₀ p s₀ 0 0 0 w' s' (turns a (k + 1)) → (goes-on (s' .outcome) → registers w' (p .depth) ≡ registers w₀ (p .depth) + (k + 1))
+      → ((ps : List Proto) (x : Run) → x ≡ bind (run w' p s' ps) (op (suc k) (left l from n (k + 1))) → x ≡ bind (run w p s ps) (op k (token (at (words l) (from + 2 * k)) (at (words l) (from + 2 * k + 1)) ∷ left l from n (k + 1))))
+      → Turned op l from n a w₀ p s₀ w' s' (k + 1)
+  one-turn {w} {w'} {s} {s'} {k} v inside less line counted turn =
+      record {
+        most = omega arith;
+        line = line;
+        counted = counted;
+        rest = λ ps x e. v .rest ps x (rw (left-more l from n k inside less) (turn ps x (rw (← (add-one k)) e)));
+      }
+
+  -- no turn left
+  pub all-turned : {w : List ℕ} {s : Step} {k : ℕ} → Turned op l from n a w₀ p s₀ w s k → n ≤ k → (ps : List Proto) (x : Run) → x ≡ bind (run w p s ps) (op k []) → x ≡ bind (run w₀ p s₀ ps) (op 0 (tokens-from l from n))
+  all-turned {w} {s} {k} v done ps x e = v .rest ps x (rw (left-none l from n k done) e)

@@ -1,0 +1,266 @@
+ghost use mathlib.Core.Path.{_≡_};
+ghost use Prim.Native.Nat.{ℕ, _+_, _-_, _<_};
+ghost use Rattle.meaning.specs.Read.{token};
+ghost use Rattle.meaning.specs.Statements.{new-global};
+ghost use Rattle.forward.specs.Forward.{fwd-number, open-call, end-call, declare, name-result, open-for-in, open-catch, open-class, add-method, end-class};
+ghost use Rattle.store.specs.Store.{while-going, Fine};
+ghost use Rattle.store.specs.Promise.{uses, nothing, a-register, some-registers, both, Room, Leaf};
+ghost use Rattle.parts.specs.Parts.{Small, a-name, a-name-back, Owing};
+use meaning::Cause;
+use meaning::Literal;
+use meaning::Outcome;
+use store::Scope;
+use store::Step;
+
+// The lowering between two children, by the calls that the Rust makes there: the parts of the `visit_` routines that are straight lines of steps.
+
+const MOVE: u32 = 0;
+
+const LOAD_K: u32 = 1;
+
+const CALL: u32 = 19;
+
+const SET_GLOBAL: u32 = 45;
+
+const DEREGISTER_TRY_CATCH: u32 = 49;
+
+const GET_EXCEPT: u32 = 50;
+
+const NO_MARK: u32 = 65535;
+
+// ---- calls
+
+// How many there are in `1..n`.
+fn after_first(n: usize) -> usize
+    ensures { λ r. ⌜ r ≡ n - 1 ⌝ }
+{
+    if n == 0 { 0 } else { n - 1 }
+}
+
+// visit_call_expr after the callee: a register for the function, and one for each of n arguments.
+pub fn open_call(
+    work: &mut [u32],
+    step: Step,
+    scope: Scope,
+    node: usize,
+    n: usize,
+    mark: u32,
+) -> Step
+    requires { ⌜ Fine (now work) scope step × Room (now work) scope step 0 2 0 × (n < 65536) × while-going (step .outcome) (step .result < 256) ⌝ }
+    ensures { λ r. ⌜ Leaf (now (work .entry)) scope step (now (work .exit)) scope r (both (some-registers (2 + (n - 1))) (uses 2 0 0)) (open-call node n mark) × while-going (r .outcome) (r .result + n < 255) ⌝ }
+{
+    let function = store::next_register(work, step, scope, node);
+    let moved = code::emit(
+        work,
+        function,
+        scope,
+        MOVE,
+        function.result,
+        step.result,
+        0,
+        mark,
+    );
+    let argument = store::next_register(work, moved, scope, node);
+    let others = store::next_registers(work, argument, scope, node, after_first(n));
+    store::settle(others, function.result)
+}
+
+// visit_call_expr after the arguments.
+pub fn end_call(
+    work: &mut [u32],
+    step: Step,
+    scope: Scope,
+    node: usize,
+    n: usize,
+    function: u32,
+    mark: u32,
+) -> Step
+    requires { ⌜ Fine (now work) scope step × Room (now work) scope step 0 2 0 × while-going (step .outcome) ((n < 255) × (function < 256)) ⌝ }
+    ensures { λ r. ⌜ Leaf (now (work .entry)) scope step (now (work .exit)) scope r (both a-register (uses 2 0 0)) (end-call node n function mark) × Small r ⌝ }
+{
+    let o = step.outcome;
+    let Outcome::Accepted(_) = o else {
+        return step;
+    };
+    let result = store::next_register(work, step, scope, node);
+    code::emit(
+        work,
+        result,
+        scope,
+        CALL,
+        function,
+        n as u32 + 1,
+        result.result + 1,
+        mark,
+    )
+}
+
+// ---- names of functions and classes
+
+// The register of a function or a class, whose name is known from here on where it is a global's.
+pub fn declare(work: &mut [u32], step: Step, scope: Scope, node: usize, name: usize) -> Step
+    requires { ⌜ Fine (now work) scope step × Room (now work) scope step 0 0 0 × (name < 65536) ⌝ }
+    ensures { λ r. ⌜ ((mark : ℕ) → Leaf (now (work .entry)) scope step (now (work .exit)) scope r (both a-register (a-name scope)) (declare node (token name mark))) × Small r ⌝ }
+{
+    let register = store::next_register(work, step, scope, node);
+    if store::is_global_context(scope) {
+        store::add_global(work, register, scope, name)
+    } else {
+        register
+    }
+}
+
+// The result gets its name: SetGlobal, or a local.
+fn name_result(
+    work: &mut [u32],
+    step: Step,
+    scope: Scope,
+    node: usize,
+    name: usize,
+    mark: u32,
+) -> Step
+    requires { ⌜ Fine (now work) scope step × Owing (now work) scope step 2 1 (2 - (scope .depth + scope .block)) × Small step × (name < 65536) ⌝ }
+    ensures { λ r. ⌜ Leaf (now (work .entry)) scope step (now (work .exit)) scope r (both (uses 2 1 0) (a-name-back scope)) (name-result node (token name mark)) × Small r ⌝ }
+{
+    if store::is_global_context(scope) {
+        let k = store::add_name(work, step, scope, name, node);
+        code::put_wide(
+            work,
+            k,
+            scope,
+            SET_GLOBAL,
+            step.result,
+            k.result,
+            mark,
+            step.result,
+        )
+    } else {
+        store::allocate_register(work, step, scope, name, step.result);
+        step
+    }
+}
+
+// visit_let_stmt, the name of a global: 10 Redefined.
+pub fn new_global(work: &mut [u32], step: Step, scope: Scope, node: usize, name: usize) -> Step
+    requires { ⌜ Fine (now work) scope step × Room (now work) scope step 0 0 0 × (scope .block ≡ 1) × (name < 65536) ⌝ }
+    ensures { λ r. ⌜ ((mark : ℕ) → Leaf (now (work .entry)) scope step (now (work .exit)) scope r nothing (fwd-number (new-global node (token name mark)))) ⌝ }
+{
+    if store::is_global_var(work, step, scope, name) {
+        return store::refuse(step, Cause::Redefined, node);
+    }
+    let noted = store::add_global(work, step, scope, name);
+    store::add_name(work, noted, scope, name, node)
+}
+
+// ---- for-in
+
+// visit_enhanced_for_stmt before the collection: registers of counter, size, condition and element; the counter is 0.
+pub fn open_for_in(work: &mut [u32], step: Step, scope: Scope, node: usize, mark: u32) -> Step
+    requires { ⌜ Fine (now work) scope step × Room (now work) scope step 0 0 0 ⌝ }
+    ensures { λ r. ⌜ Leaf (now (work .entry)) scope step (now (work .exit)) scope r (both (some-registers 4) (uses 2 0 0)) (open-for-in node mark) × while-going (r .outcome) (r .result + 3 < 255) ⌝ }
+{
+    let counter = store::next_register(work, step, scope, node);
+    let size = store::next_register(work, counter, scope, node);
+    let condition = store::next_register(work, size, scope, node);
+    let element = store::next_register(work, condition, scope, node);
+    let zero = store::add_constant(work, element, scope, Literal::Number(0.0), node);
+    code::put_wide(
+        work,
+        zero,
+        scope,
+        LOAD_K,
+        counter.result,
+        zero.result,
+        mark,
+        counter.result,
+    )
+}
+
+// ---- try
+
+// visit_try_catch_stmt before the catch part's body.
+pub fn open_catch(
+    work: &mut [u32],
+    step: Step,
+    scope: Scope,
+    node: usize,
+    name: usize,
+    mark: u32,
+) -> Step
+    requires { ⌜ Fine (now work) scope step × Room (now work) scope step 0 2 0 × (name < 65536) ⌝ }
+    ensures { λ r. ⌜ Leaf (now (work .entry)) scope step (now (work .exit)) scope r (both a-register (uses 5 1 0)) (open-catch node (token name mark)) ⌝ }
+{
+    let caught = store::declare_parameter(work, step, scope, name, node);
+    let gotten = code::emit(work, caught, scope, GET_EXCEPT, caught.result, 0, 0, mark);
+    code::emit(work, gotten, scope, DEREGISTER_TRY_CATCH, 0, 0, 0, NO_MARK)
+}
+
+// ---- classes
+
+// visit_class_stmt before the superclass: the class's register, and that of names, with the class's own.
+pub fn open_class(
+    work: &mut [u32],
+    step: Step,
+    scope: Scope,
+    node: usize,
+    name: usize,
+    mark: u32,
+) -> Step
+    requires { ⌜ Fine (now work) scope step × Room (now work) scope step 0 0 0 × (name < 65536) ⌝ }
+    ensures { λ r. ⌜ Leaf (now (work .entry)) scope step (now (work .exit)) scope r (both (some-registers 2) (uses 2 0 0)) (open-class node (token name mark)) × while-going (r .outcome) (r .result + 1 < 255) ⌝ }
+{
+    let class = declare(work, step, scope, node, name);
+    let tmp = store::next_register(work, class, scope, node);
+    let k = store::add_name(work, tmp, scope, name, node);
+    code::put_wide(
+        work,
+        k,
+        scope,
+        LOAD_K,
+        tmp.result,
+        k.result,
+        mark,
+        class.result,
+    )
+}
+
+// A method that is the result; `op` is ClassMeth or ClassStMeth.
+pub fn add_method(
+    work: &mut [u32],
+    step: Step,
+    scope: Scope,
+    node: usize,
+    mark: u32,
+    op: u32,
+    class: u32,
+    tmp: u32,
+    name: usize,
+) -> Step
+    requires { ⌜ Fine (now work) scope step × Room (now work) scope step 0 4 0 × (name < 65536) × while-going (step .outcome) ((op < 256) × (class < 256) × (tmp < 256) × (step .result < 256)) ⌝ }
+    ensures { λ r. ⌜ Leaf (now (work .entry)) scope step (now (work .exit)) scope r (uses 4 0 0) (add-method node mark op class tmp name) ⌝ }
+{
+    let k = store::add_name(work, step, scope, name, node);
+    let loaded = code::emit_wide(work, k, scope, LOAD_K, tmp, k.result, mark);
+    code::emit(work, loaded, scope, op, class, tmp, step.result, mark)
+}
+
+// visit_class_stmt after the methods.
+pub fn end_class(
+    work: &mut [u32],
+    step: Step,
+    scope: Scope,
+    node: usize,
+    name: usize,
+    mark: u32,
+    class: u32,
+) -> Step
+    requires { ⌜ Fine (now work) scope step × Room (now work) scope step 0 2 1 × (name < 65536) × while-going (step .outcome) (class < 255) ⌝ }
+    ensures { λ r. ⌜ Leaf (now (work .entry)) scope step (now (work .exit)) scope r (uses 2 1 0) (end-class node (token name mark) class) × Small r ⌝ }
+{
+    let o = step.outcome;
+    let Outcome::Accepted(_) = o else {
+        return step;
+    };
+    let made = store::settle(step, class);
+    name_result(work, made, scope, node, name, mark)
+}
