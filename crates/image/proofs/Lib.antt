@@ -1,0 +1,3 @@
+-- Laws of the bytes of an image.
+pub mod Splicing
+pub mod Bytes

@@ -1,0 +1,74 @@
+-- `image::put_captures` meets its contract: capture by capture. Assumes nothing.
+use mathlib.Core.Path.{_≡_, sym, ap}
+use Prim.Native.Nat.{ℕ, _-_, _≤_}
+use native.Mathlib.Omega.{arith}
+use denote.Ref.{now}
+use Rattle.image.proofs.Splicing.{spliced-none, spliced-then, spliced-as, spliced-length}
+use Rattle.store.specs.Table.{tab}
+use Rattle.store.specs.Layout.{capture-at}
+use Rattle.store.proofs.Tables.{tab-length, tab-none}
+use Rattle.meaning.specs.Image.{capture-bytes}
+use Rattle.image.specs.Output.{Spliced}
+use Rattle.image.proofs.Bytes.{captures-more, captures-size}
+use Rattle.image.proofs.put_captures.Statement.{statement}
+use Rattle.image.proofs.put_captures.Tie as tie
+
+abbrev Inv-loop : tie.InvT-loop
+Inv-loop work out₀ at j count i₀ out i = (i ≤ count) × Spliced out₀ at (capture-bytes (tab (capture-at work j) i)) out
+
+abbrev μ-loop : tie.MeasureT-loop
+μ-loop work out₀ at j count i₀ out i = count - i
+
+loop-holds : tie.Need-loop-holds Inv-loop μ-loop
+loop-holds c =
+    let start = c .before .before in
+    let a = start .args in
+    (omega arith, spliced-as (sym (ap capture-bytes (tab-none (capture-at (now (a .work)) (a .j))))) (spliced-none (now (a .out)) (a .at) (omega (arith, start .pre .3))))
+
+capture-at-requires : tie.Need-capture-at-requires Inv-loop μ-loop
+capture-at-requires c κs =
+    let start = c .before .before .before .before .before in
+    (start .pre .0, start .pre .1, omega (arith, (c .before .loop-test) .taken, start .pre .2))
+
+put-capture-requires : tie.Need-put-capture-requires Inv-loop μ-loop
+put-capture-requires c κs =
+    let start = c .before .before .before .before .before .before in
+    (omega (arith, (c .before .before .loop-test) .taken, start .pre .3, spliced-length ((c .before .before .before .loop) .inv .1)), omega (arith, (c .capture-at) .ensures))
+
+loop-again : tie.Need-loop-again Inv-loop μ-loop
+loop-again c =
+    let start = c .before .before .before .before .before .before .before .before .before in
+    let turn = c .before .before .before .before .before .before .loop in
+    let test = c .before .before .before .before .before .loop-test in
+    let a = start .args in
+    let f = capture-at (now (a .work)) (a .j) in
+    let i : ℕ = turn .i in
+    let one = rw ((c .before .before .before .capture-at) .ensures) at ((c .before .before .put-capture) .ensures) in
+    (omega (arith, test .taken), spliced-as (sym (captures-more f i)) (spliced-then (turn .inv .1) one (omega (arith, captures-size (tab f i), tab-length f i))))
+
+same-length : tie.Need-same-length Inv-loop μ-loop
+same-length c = spliced-length ((c .before .loop) .inv .1)
+
+returns : tie.Need-returns Inv-loop μ-loop
+returns c =
+    let start = c .before .before .before .before in
+    let v = (c .before .loop) .inv in
+    let e : (c .before .loop) .i ≡ start .args .count = omega (arith, v .0, (c .loop-test) .left) in
+    rw e at (v .1)
+
+pub put-captures-spec : {M : Type 1} → statement M
+put-captures-spec =
+    tie.close
+    (tie.spec
+    Inv-loop
+    μ-loop
+    loop-holds
+    (λ c. omega (arith, (c .before .loop-test) .taken, (c .before .before .before .before .before) .pre .2))
+    (λ c. omega (arith, (c .before .loop-test) .taken, (c .before .before .before .before .before) .pre .3))
+    capture-at-requires
+    put-capture-requires
+    (λ c. omega (arith, (c .before .before .before .before .before .loop-test) .taken))
+    (λ c. omega (arith, (c .before .before .before .before .before .loop-test) .taken))
+    loop-again
+    same-length
+    returns)

@@ -1,0 +1,2 @@
+-- What is promised of the bytes of an image.
+pub mod Output

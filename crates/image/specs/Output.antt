@@ -1,0 +1,32 @@
+-- The output: bytes written at a place, and the prototype whose bytes they are.
+use Prim.Native.Nat.{ℕ, _+_, _<_, _≤_}
+use mathlib.Core.Path.{_≡_}
+use mathlib.Core.List.{List, [], _∷_, _++_}
+use lib.ListN.{length, take, drop}
+use Rattle.store.specs.Table.{tab}
+use Rattle.store.specs.Layout.{name-of, registers, held, capture-at, inst-at}
+use Rattle.meaning.specs.Opcode.{inst, Return, no-mark}
+use Rattle.meaning.specs.State.{Proto}
+
+-- the bytes stand at `at`, all others are as they were
+pub record Spliced (o : List ℕ) (at : ℕ) (bytes o' : List ℕ) : Type 0 where
+  pub fits : at + length bytes ≤ length o
+  pub is : o' ≡ take at o ++ (bytes ++ drop (at + length bytes) o)
+
+-- the same where they fit, else nothing; where they end
+pub record Placed (o : List ℕ) (at : ℕ) (bytes o' : List ℕ) (end : ℕ) : Type 0 where
+  pub ends : end ≡ at + length bytes
+  pub same : length o' ≡ length o
+  pub fits : end ≤ length o → Spliced o at bytes o'
+  pub beyond : length o < end → o' ≡ o
+
+-- the prototype of function j, whose code are the k instructions from `first` on and the last Return
+abbrev pub proto-of : List ℕ → (n j first k params : ℕ) → Proto
+proto-of w n j first k params =
+    record {
+      name = name-of w j;
+      params = params;
+      registers = registers w j;
+      captures = tab (capture-at w j) (held w j);
+      code = tab (λ i. inst-at w n (first + i)) k ++ inst Return 0 0 0 no-mark ∷ [];
+    }
