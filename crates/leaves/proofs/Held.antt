@@ -1,0 +1,99 @@
+-- What a node of a lawful tree holds, for the functions that read it. Reading (of meaning) has it, tag by tag.
+use Prim.Native.Nat.{ℕ, zero, suc, _+_, _*_, _<_, _≤_}
+use mathlib.Core.Path.{_≡_, refl, sym, ap, _∙_}
+use mathlib.Core.Bool.{true}
+use mathlib.Core.List.{List}
+use mathlib.Core.Logic.{_⊎_, inl, inr}
+use mathlib.Core.Option.{Option, none, some}
+use native.Mathlib.Omega.{arith}
+use native.Mathlib.Decide.{ℕ-discrete}
+use lib.ListN.{length, getD}
+use borrow.Author.Tests.{eq-eqb, ne-eqb}
+use Rattle.meaning.specs.Fields.{Field, fields}
+use Rattle.meaning.specs.Syntax.{literal, Super, no-super, super, small-operand}
+use Rattle.meaning.specs.Read.{Readers, token, read-expr, readers, words-at}
+use Rattle.meaning.specs.At.{tag-of, word-of, count-of, expr-at, variable-at, super-at}
+use Rattle.meaning.proofs.Reading.{number-node, text-node, other-node, break-node, continue-node}
+use Rattle.values.specs.declared.literal.Immediate.the-variants.{Is, Not}
+use Rattle.values.specs.Literals.{constant-at, small-as}
+use denote.Enum.Declared.{tagOf}
+use Rattle.store.specs.declared.Found.{Found}
+use Rattle.store.specs.declared.Found.the-variants.{At, Nothing, Full}
+use Rattle.store.specs.Search.{option-of, in-byte}
+use Rattle.store.proofs.Found.{the-type}
+use Rattle.nodes.specs.Offsets.{Readable}
+use Rattle.leaves.specs.Node.{Lawful}
+
+module _ {t w : List ℕ} {n i : ℕ} (h : Lawful t w n) (l : i < n) where
+  pub inside : i < length (fields t)
+  inside = omega (arith, h .nodes)
+
+  pub readable : Readable t w (12288 + 15 * n) i
+  readable = record { offsets = h .offsets; known = inside }
+
+  -- what a literal stands for
+  pub literal-is : 0x01 ≤ tag-of (fields t) i → tag-of (fields t) i ≤ 0x03 → expr-at (fields t) i ≡ literal i (constant-at (tag-of (fields t) i) (words-at (fields t) i))
+  unfolding constant-at
+  literal-is a b = by (ℕ-discrete (tag-of (fields t) i) 0x01) (ℕ-discrete (tag-of (fields t) i) 0x02)
+    where
+      by : Dec (tag-of (fields t) i ≡ 0x01) → Dec (tag-of (fields t) i ≡ 0x02) → expr-at (fields t) i ≡ literal i (constant-at (tag-of (fields t) i) (words-at (fields t) i))
+      by (yes e) d = number-node (fields t) (h .shapes) i inside e .is ∙ rw (eq-eqb _ 0x01 e)
+      by (no e) (yes d) = text-node (fields t) (h .shapes) i inside d .is ∙ rw (ne-eqb _ 0x01 e, eq-eqb _ 0x02 d)
+      by (no e) (no d) = other-node (fields t) (h .shapes) i inside (omega arith) .is ∙ rw (ne-eqb _ 0x01 e, ne-eqb _ 0x02 d)
+
+  -- a break and a continue have a mark each
+  pub jump-size : 0x16 ≤ tag-of (fields t) i → tag-of (fields t) i ≤ 0x17 → count-of (fields t) i ≡ 1
+  jump-size a b = by (ℕ-discrete (tag-of (fields t) i) 0x16)
+    where
+      by : Dec (tag-of (fields t) i ≡ 0x16) → count-of (fields t) i ≡ 1
+      by (yes e) = break-node (fields t) (h .shapes) i inside e .size
+      by (no e) = continue-node (fields t) (h .shapes) i inside (omega arith) .size
+
+-- ---- the superclass
+
+pub super-none : (fs : List Field) (c : ℕ) → c ≡ 65535 → super-at fs c ≡ no-super
+unfolding super-at
+super-none fs c e = rw (eq-eqb c 65535 e)
+
+pub super-some : (fs : List Field) (c : ℕ) → (c ≡ 65535 → ⊥) → super-at fs c ≡ super c (token (word-of fs c 0) (word-of fs c 1))
+unfolding super-at variable-at readers
+super-some fs c e = rw (ne-eqb c 65535 e)
+
+-- ---- an operand that is no number
+
+plain : (r : Readers) (i : ℕ) (ws : List ℕ) (tag : ℕ) → (tag ≡ 0x01 → ⊥) → small-operand (read-expr r i tag ws) ≡ none
+unfolding small-operand
+plain r i ws zero h = refl
+plain r i ws (suc zero) h = absurd (h refl)
+plain r i ws (suc (suc zero)) h = refl
+plain r i ws (suc (suc (suc zero))) h = refl
+plain r i ws (suc (suc (suc (suc zero)))) h = refl
+plain r i ws (suc (suc (suc (suc (suc zero))))) h = refl
+plain r i ws (suc (suc (suc (suc (suc (suc zero)))))) h = refl
+plain r i ws (suc (suc (suc (suc (suc (suc (suc zero))))))) h = refl
+plain r i ws (suc (suc (suc (suc (suc (suc (suc (suc zero)))))))) h = refl
+plain r i ws (suc (suc (suc (suc (suc (suc (suc (suc (suc zero))))))))) h = refl
+plain r i ws (suc (suc (suc (suc (suc (suc (suc (suc (suc (suc n)))))))))) h = refl
+
+pub plain-operand : (fs : List Field) (i : ℕ) → (tag-of fs i ≡ 0x01 → ⊥) → small-operand (expr-at fs i) ≡ none
+unfolding expr-at readers
+plain-operand fs i h = plain (readers fs i) i (words-at fs i) (tag-of fs i) h
+
+-- ---- what was found, by its case
+
+pub not-small : (o : Option ℕ) → Not ≡ small-as o → o ≡ none
+not-small none e = refl
+not-small (some k) e = absurd (let z : _≡_ {A = ℕ} 0 1 = cc in omega arith)
+
+pub is-small : (o : Option ℕ) (k : ℕ) → Is k ≡ small-as o → o ≡ some k
+is-small none k e = absurd (let z : _≡_ {A = ℕ} 0 1 = cc in omega arith)
+is-small (some j) k e = let z : k ≡ j = cc in ap some (sym z)
+
+pub not-found : (f : Found) → (tagOf the-type f ≡ 1) ⊎ (tagOf the-type f ≡ 2) → option-of f ≡ none
+not-found (At j) (inl e) = absurd (omega arith)
+not-found (At j) (inr e) = absurd (omega arith)
+not-found Nothing h = refl
+not-found Full h = refl
+
+pub found-small : {f : Found} {i : ℕ} → f ≡ At i → in-byte f → i < 255
+found-small e h = rw e at h

@@ -1,0 +1,3 @@
+-- Laws of nodes without children.
+pub mod Line
+pub mod Held

@@ -1,0 +1,77 @@
+-- A number's literal, by its test; no other node is a number.
+use borrow.Author.Needs.{needs}
+use mathlib.Core.Path.{sym, ap, _∙_}
+use native.Mathlib.Omega.{arith}
+use denote.Ref.{now}
+use borrow.Author.Tests.{lt-ltb}
+use Rattle.meaning.specs.Fields.{fields, words}
+use Rattle.meaning.specs.Syntax.{small-operand}
+use Rattle.meaning.specs.Read.{bits}
+use Rattle.meaning.proofs.Reading.{number-node}
+use Rattle.values.specs.Literals.{number-of as literal-by, small-of as small-by}
+use Rattle.values.proofs.Numbers.{small-bits}
+use Rattle.leaves.proofs.Held.{inside, readable, plain-operand, is-small, not-small}
+use Rattle.leaves.proofs.small_operand.Statement.{statement}
+use Rattle.leaves.proofs.small_operand.Tie as tie
+
+returns : tie.Need-returns
+returns c =
+    let start = c .before .before .before .before .before in
+    let if1 = c .if1 in
+    let tag-of = c .before .tag-of in
+    plain-operand (fields (now (start .args .tree))) (start .args .node) (λ e. if1 .taken (tag-of .ensures ∙ e))
+
+payload-of-requires : tie.Need-payload-of-requires
+payload-of-requires c κs =
+    let start = c .before .before .before .before .before in
+    readable (start .pre .0) (start .pre .1)
+
+returns-2 : tie.Need-returns-2
+unfolding small-operand
+returns-2 c =
+    let start = c .before .before .before .before .before .before .before .before .before .before .before in
+    let tag-of = c .before .before .before .before .before .before .before .tag-of in
+    let if1 = c .before .before .before .before .before .before .if1 in
+    let bits-at = c .before .before .before .before .bits-at in
+    let payload-of = c .before .before .before .before .before .payload-of in
+    let small = c .before .before .small in
+    let number-of = c .before .before .before .number-of in
+    let enum-told = c .enum-told in
+    let held = number-node (fields (now (start .args .tree))) (start .pre .0 .shapes) (start .args .node) (inside (start .pre .0) (start .pre .1)) (sym (tag-of .ensures) ∙ if1 .left) in
+    let n = bits-at .ensures ∙ ap (λ p. bits (words p)) (payload-of .ensures) in
+    let found = small .ensures ∙ ap small-by (number-of .ensures .0 ∙ ap literal-by n) ∙ small-bits _ in
+    rw (held .is) (not-small _ (sym (enum-told .given .1) ∙ found))
+
+returns-3 : tie.Need-returns-3
+unfolding small-operand
+returns-3 c =
+    let start = c .before .before .before .before .before .before .before .before .before .before .before .before in
+    let tag-of = c .before .before .before .before .before .before .before .before .tag-of in
+    let if1 = c .before .before .before .before .before .before .before .if1 in
+    let bits-at = c .before .before .before .before .before .bits-at in
+    let payload-of = c .before .before .before .before .before .before .payload-of in
+    let small = c .before .before .before .small in
+    let number-of = c .before .before .before .before .number-of in
+    let found = c .before .found in
+    let held = number-node (fields (now (start .args .tree))) (start .pre .0 .shapes) (start .args .node) (inside (start .pre .0) (start .pre .1)) (sym (tag-of .ensures) ∙ if1 .left) in
+    let n = bits-at .ensures ∙ ap (λ p. bits (words p)) (payload-of .ensures) in
+    let is = small .ensures ∙ ap small-by (number-of .ensures .0 ∙ ap literal-by n) ∙ small-bits _ in
+    rw (held .is, lt-ltb (found .given .0 .0) 256 (omega arith)) (is-small _ _ (sym (found .given .1) ∙ is))
+
+pub small-operand-spec : {M : Type 1} → statement M
+small-operand-spec =
+    tie.close
+    (tie.spec
+    (λ c. search needs)
+    (λ c. search needs)
+    (λ c κs. search needs)
+    returns
+    payload-of-requires
+    (λ c κs. search needs)
+    (λ c κs. search needs)
+    (λ c κs. search needs)
+    (λ c. search needs)
+    (λ c. search needs)
+    returns-2
+    (λ c. search needs)
+    returns-3)

@@ -1,0 +1,127 @@
+-- The class node's third word: a variable's node, or none.
+use borrow.Author.Needs.{needs}
+use Prim.Native.Nat.{_<_}
+use mathlib.Core.Path.{_≡_, sym, ap, _∙_}
+use native.Mathlib.Omega.{arith}
+use lib.Dec.{lit<}
+use denote.Ref.{now}
+use Rattle.meaning.specs.Fields.{fields, words}
+use Rattle.meaning.specs.Syntax.{super}
+use Rattle.meaning.specs.Read.{at, token}
+use Rattle.meaning.specs.At.{word-of, expr-at}
+use Rattle.meaning.specs.Weight.{weight-super}
+use Rattle.meaning.specs.Lower.{lower-expr}
+use Rattle.meaning.proofs.Reading.{variable-node, class-node}
+use Rattle.forward.proofs.Chains.{super-chain, super-none-chain}
+use Rattle.store.specs.Promise.{nothing, uses}
+use Rattle.store.proofs.Compose.{known, room-by}
+use Rattle.code.specs.Words.{Bytes}
+use Rattle.leaves.proofs.Held.{inside, readable, super-none, super-some}
+use Rattle.leaves.proofs.Line.{one, _▹_, room-after, always, small-emit, gives}
+use Rattle.leaves.proofs.superclass.Statement.{statement}
+use Rattle.leaves.proofs.superclass.Tie as tie
+
+payload-of-requires : tie.Need-payload-of-requires
+payload-of-requires c κs =
+    let start = c .before .before .before .before in
+    readable (start .pre .0 .lawful) (start .pre .0 .known)
+
+word-requires : tie.Need-word-requires
+word-requires c κs =
+    let start = c .before .before .before .before .before in
+    let payload-of = c .payload-of in
+    let given = start .pre .0 in
+    let held = class-node (fields (now (start .args .tree))) (given .lawful .shapes) (start .args .node) (inside (given .lawful) (given .known)) (start .pre .1) in
+    rw (payload-of .ensures) (omega (arith, held .size))
+
+child-requires : tie.Need-child-requires
+child-requires c κs =
+    let start = c .before .before .before .before .before .before in
+    let payload-of = c .before .payload-of in
+    let given = start .pre .0 in
+    let held = class-node (fields (now (start .args .tree))) (given .lawful .shapes) (start .args .node) (inside (given .lawful) (given .known)) (start .pre .1) in
+    rw (payload-of .ensures) (omega (arith, held .size))
+
+variable-requires : tie.Need-variable-requires
+unfolding weight-super
+variable-requires c κs =
+    let start = c .before .before .before .before .before .before .before .before .before in
+    let child = c .before .before .child in
+    let payload-of = c .before .before .before .before .payload-of in
+    let if1 = c .before .if1 in
+    let given = start .pre .0 in
+    let fs = fields (now (start .args .tree)) in
+    let held = class-node fs (given .lawful .shapes) (start .args .node) (inside (given .lawful) (given .known)) (start .pre .1) in
+    let parent = child .ensures .0 ∙ ap (λ p. at (words p) 2) (payload-of .ensures) in
+    let below = held .superclass (λ e. if1 .taken (parent ∙ e)) in
+    let is = super-some fs (word-of fs (start .args .node) 2) (λ e. if1 .taken (parent ∙ e)) in
+    (record { lawful = given .lawful; fine = given .fine; room = rw is at (given .room); known = omega (arith, parent, below .below, given .known) }, rw parent (below .tag))
+
+returns : tie.Need-returns
+unfolding lower-expr weight-super
+returns c =
+    let start = c .before .before .before .before .before .before .before .before .before .before .before .before in
+    let child = c .before .before .before .before .before .child in
+    let payload-of = c .before .before .before .before .before .before .before .payload-of in
+    let if1 = c .before .before .before .before .if1 in
+    let variable = c .before .before .variable in
+    let given = start .pre .0 in
+    let fs = fields (now (start .args .tree)) in
+    let held = class-node fs (given .lawful .shapes) (start .args .node) (inside (given .lawful) (given .known)) (start .pre .1) in
+    let parent = child .ensures .0 ∙ ap (λ p. at (words p) 2) (payload-of .ensures) in
+    let some : word-of fs (start .args .node) 2 ≡ 65535 → ⊥ = λ e. if1 .taken (parent ∙ e) in
+    let below = held .superclass some in
+    let known = inside {i = word-of fs (start .args .node) 2} (given .lawful) (omega (arith, below .below, given .known)) in
+    let name = variable-node fs (given .lawful .shapes) (word-of fs (start .args .node) 2) known (below .tag) in
+    let d = variable .ensures in
+    rw (super-some fs (word-of fs (start .args .node) 2) some)
+    (gives (uses 8 0 0) (one (d .leaf)) (omega arith) (omega arith) (omega arith) (λ z. omega arith)
+    (λ ps. super-chain _ _ _ _ _ _ (rw (ap (expr-at fs) parent ∙ name .is) at (d .leaf .runs ps)))
+    (d .small))
+
+emit-requires : tie.Need-emit-requires
+emit-requires c κs =
+    let start = c .before .before .before .before .before .before .before .before .before .before .before .before .before in
+    let next-register = c .before .before .before .next-register in
+    let line = one (next-register .ensures .0) in
+    let register = next-register .result .result in
+    let small = next-register .ensures .1 in
+    let bytes : Bytes 2 register 0 0 = record { op-small = lit< tt; a-small = omega arith; b-small = lit< tt; c-small = lit< tt } in
+    (line .moves .fine, room-after 0 2 0 line (start .pre .0 .room) (omega arith) (omega arith) (omega arith), always (next-register .result .outcome) bytes)
+
+returns-2 : tie.Need-returns-2
+unfolding weight-super
+returns-2 c =
+    let start = c .before .before .before .before .before .before .before .before .before .before .before .before .before .before .before .before in
+    let payload-of = c .before .before .before .before .before .before .before .before .before .before .before .payload-of in
+    let word = c .before .before .before .before .before .before .before .before .before .before .word in
+    let child = c .before .before .before .before .before .before .before .before .before .child in
+    let if1 = c .before .before .before .before .before .before .before .before .if1 in
+    let next-register = c .before .before .before .before .before .before .next-register in
+    let emit = c .before .before .emit in
+    let fs = fields (now (start .args .tree)) in
+    let parent = child .ensures .0 ∙ ap (λ p. at (words p) 2) (payload-of .ensures) in
+    let mark = word .ensures .0 ∙ ap (λ p. at (words p) 1) (payload-of .ensures) in
+    let a = next-register .ensures .0 in
+    let d = emit .ensures in
+    rw (super-none fs (word-of fs (start .args .node) 2) (sym parent ∙ if1 .left))
+    (gives nothing (one a ▹ one d) (omega arith) (omega arith) (omega arith) (λ z. omega arith)
+    (λ ps. super-none-chain _ _ _ _ (a .runs ps) _ (known _ _ _ ps) _ (rw mark at (d .runs ps)))
+    (small-emit d (next-register .ensures .1)))
+
+pub superclass-spec : {M : Type 1} → statement M
+superclass-spec =
+    tie.close
+    (tie.spec
+    (λ c. search needs)
+    (λ c. search needs)
+    payload-of-requires
+    word-requires
+    child-requires
+    variable-requires
+    (λ c. search needs)
+    returns
+    (λ c κs. search needs)
+    emit-requires
+    (λ c. search needs)
+    returns-2)

@@ -1,0 +1,70 @@
+-- Two words: the name and its mark.
+use borrow.Author.Needs.{needs}
+use mathlib.Core.Path.{ap, _∙_}
+use native.Mathlib.Omega.{arith}
+use denote.Ref.{now}
+use Rattle.meaning.specs.Fields.{fields, words}
+use Rattle.meaning.specs.Read.{at}
+use Rattle.meaning.specs.Lower.{lower-expr}
+use Rattle.meaning.proofs.Reading.{variable-node}
+use Rattle.store.specs.Promise.{uses}
+use Rattle.store.proofs.Compose.{room-by}
+use Rattle.leaves.proofs.Held.{inside, readable}
+use Rattle.leaves.proofs.Line.{one, gives}
+use Rattle.leaves.proofs.variable.Statement.{statement}
+use Rattle.leaves.proofs.variable.Tie as tie
+
+payload-of-requires : tie.Need-payload-of-requires
+payload-of-requires c κs =
+    let start = c .before .before .before .before in
+    readable (start .pre .0 .lawful) (start .pre .0 .known)
+
+child-requires : tie.Need-child-requires
+child-requires c κs =
+    let start = c .before .before .before .before .before in
+    let payload-of = c .payload-of in
+    let given = start .pre .0 in
+    let held = variable-node (fields (now (start .args .tree))) (given .lawful .shapes) (start .args .node) (inside (given .lawful) (given .known)) (start .pre .1) in
+    rw (payload-of .ensures) (omega (arith, held .size))
+
+word-requires : tie.Need-word-requires
+word-requires c κs =
+    let start = c .before .before .before .before .before .before in
+    let payload-of = c .before .payload-of in
+    let given = start .pre .0 in
+    let held = variable-node (fields (now (start .args .tree))) (given .lawful .shapes) (start .args .node) (inside (given .lawful) (given .known)) (start .pre .1) in
+    rw (payload-of .ensures) (omega (arith, held .size))
+
+visit-variable-expr-requires : tie.Need-visit-variable-expr-requires
+visit-variable-expr-requires c κs =
+    let start = c .before .before .before .before .before .before .before .before in
+    let child = c .before .before .child in
+    (start .pre .0 .fine, room-by 0 0 0 (omega arith) (omega arith) (start .pre .0 .room), child .ensures .1)
+
+returns : tie.Need-returns
+unfolding lower-expr
+returns c =
+    let start = c .before .before .before .before .before .before .before .before .before .before .before in
+    let child = c .before .before .before .before .before .child in
+    let payload-of = c .before .before .before .before .before .before .payload-of in
+    let word = c .before .before .before .before .word in
+    let visit-variable-expr = c .before .before .visit-variable-expr in
+    let given = start .pre .0 in
+    let held = variable-node (fields (now (start .args .tree))) (given .lawful .shapes) (start .args .node) (inside (given .lawful) (given .known)) (start .pre .1) in
+    let name = child .ensures .0 ∙ ap (λ p. at (words p) 0) (payload-of .ensures) in
+    let mark = word .ensures .0 ∙ ap (λ p. at (words p) 1) (payload-of .ensures) in
+    let d = visit-variable-expr .ensures in
+    gives (uses 8 0 0) (one (d .leaf)) (omega arith) (omega arith) (omega arith) (λ z. omega arith) (λ ps. rw (held .is) (rw (name, mark) at (d .leaf .runs ps))) (d .small)
+
+pub variable-spec : {M : Type 1} → statement M
+variable-spec =
+    tie.close
+    (tie.spec
+    (λ c. search needs)
+    (λ c. search needs)
+    payload-of-requires
+    child-requires
+    word-requires
+    visit-variable-expr-requires
+    (λ c. search needs)
+    returns)
