@@ -1,0 +1,197 @@
+-- A function's code becomes a prototype: its bytes follow those of the earlier ones, where they fit, and are counted always. Assumes nothing.
+use mathlib.Core.Path.{_≡_, refl, sym, ap, _∙_}
+use mathlib.Core.List.{List, [], _∷_, _++_}
+use Prim.Native.Nat.{ℕ, _+_, _*_, _-_, _≤_, _<_}
+use native.Mathlib.Omega.{arith}
+use lib.ListN.{length, getD, take, drop, length-append}
+use borrow.Author.Tests.{lt-ltb, le-ltb, eq-eqb, ne-eqb}
+use Rattle.store.specs.declared.Step.{Step}
+use Rattle.store.specs.declared.Scope.{Scope}
+use Rattle.store.specs.Table.{tab}
+use Rattle.store.specs.Layout.{inst-at}
+use Rattle.store.specs.Store.{open-at, state-of, config-of, run, refused-step, Written, image-by, written-by, Image, Fine}
+use Rattle.store.specs.Promise.{nothing}
+use Rattle.store.proofs.Tables.{tab-length, tab-take, tab-drop}
+use Rattle.store.proofs.Regions.{below-256}
+use Rattle.store.proofs.Runs.{goes, none-due, run-stopped, stays, image-none}
+use Rattle.store.proofs.Steps.{refused-outcome, refused-moves, refused-small, stopped-small, shallow}
+use Rattle.meaning.specs.Image.{proto-bytes}
+use Rattle.meaning.specs.State.{State, Proto, refuse, if-then, add-prototype}
+use Rattle.meaning.specs.declared.Cause.{Cause}
+use Rattle.meaning.specs.declared.Cause.the-variants.{Long, Prototypes}
+use Rattle.meaning.specs.declared.Instruction.{Instruction}
+use Rattle.meaning.specs.declared.Outcome.{Outcome}
+use Rattle.meaning.specs.declared.Outcome.the-variants.{Accepted, Refused}
+use Rattle.forward.specs.Forward.{Config, config, Run, stopped, bind, on, fwd-by}
+use Rattle.image.specs.Output.{Placed, proto-of}
+use Rattle.code.specs.Cuts.{adding, Adds}
+use Rattle.image.proofs.Bytes.{protos-append, proto-size}
+use Rattle.image.proofs.Splicing.{spliced-take}
+
+-- ---- what the definition does with the code from `first` on, of which there are k instructions
+
+module _ (f : ℕ → Instruction) (first k node params r : ℕ) (t : State) where
+  abbrev before : Config
+  before = config (tab f (first + k)) r t
+
+  size : length (drop first (tab f (first + k))) ≡ k
+  size = ap length (tab-drop f first k) ∙ tab-length (λ i. f (first + i)) k
+
+  pub too-long : 32766 < k → stopped Long node ≡ adding first node params before
+  unfolding fwd-by add-prototype if-then refuse on
+  too-long h = rw (size, lt-ltb 32767 (k + 1) (omega arith))
+
+  pub too-many : k ≤ 32766 → length (t .prototypes) ≡ 256 → stopped Prototypes node ≡ adding first node params before
+  unfolding fwd-by add-prototype if-then refuse on
+  too-many h e = rw (size, le-ltb 32767 (k + 1) (omega arith), eq-eqb (length (t .prototypes)) 256 e)
+
+-- what is written while nothing is refused
+pub was-written : {x : ℕ} (o : List ℕ) (s : Step) (ps : List Proto) → s .outcome ≡ Accepted x → Image o s ps → Written o x (s .functions) ps
+was-written {x} o s ps e i = by (s .outcome) e i
+  where
+    by : (y : Outcome) → y ≡ Accepted x → image-by y o (s .functions) ps → Written o x (s .functions) ps
+    by y k h = rw k at h
+
+-- ---- the step, where a prototype is added
+
+abbrev pub added-step : Step → (first end : ℕ) → Step
+added-step s first end = record { outcome = Accepted end; code = first; constants = s .constants; globals = s .globals; functions = s .functions + 1; result = s .functions }
+
+module _ {w : List ℕ} {p : Scope} {s : Step} {x : ℕ} (first node params : ℕ) (fine : Fine w p s) (on : s .outcome ≡ Accepted x) (le : first ≤ s .code) where
+  abbrev count : ℕ
+  count = s .code - first
+
+  abbrev f : ℕ → Instruction
+  f = inst-at w (p .nodes)
+
+  whole : first + (s .code - first) ≡ s .code
+  whole = omega arith
+
+  taken-code : take first (tab f (s .code)) ≡ tab f first
+  taken-code = ap (λ k. take first (tab f k)) (sym whole) ∙ tab-take f first count
+
+  dropped-code : drop first (tab f (s .code)) ≡ tab (λ i. f (first + i)) (s .code - first)
+  dropped-code = ap (λ k. drop first (tab f k)) (sym whole) ∙ tab-drop f first count
+
+  opened : (ps : List Proto) (op : Config → Run) → bind (run w p s ps) op ≡ op (config-of w p s ps)
+  unfolding run bind
+  opened ps op = rw on
+
+  refused-runs : (cause : Cause) (ps : List Proto) → stopped cause node ≡ adding first node params (config-of w p s ps) → run w p (refused-step s cause node) ps ≡ bind (run w p s ps) (adding first node params)
+  refused-runs cause ps h = run-stopped w p (refused-step s cause node) ps cause node (refused-outcome s cause node on) ∙ h ∙ sym (opened ps (adding first node params))
+
+  pub long-runs : 32766 < s .code - first → (ps : List Proto) → run w p (refused-step s Long node) ps ≡ bind (run w p s ps) (adding first node params)
+  unfolding config-of
+  long-runs h ps = refused-runs Long ps (too-long f first count node params (s .result) (state-of w p s ps) h ∙ ap (λ k. adding first node params (config (tab f k) (s .result) (state-of w p s ps))) whole)
+
+  pub many-runs : s .code - first ≤ 32766 → (ps : List Proto) → length ps ≡ 256 → run w p (refused-step s Prototypes node) ps ≡ bind (run w p s ps) (adding first node params)
+  unfolding config-of state-of
+  many-runs h ps e = refused-runs Prototypes ps (too-many f first count node params (s .result) (state-of w p s ps) h e ∙ ap (λ k. adding first node params (config (tab f k) (s .result) (state-of w p s ps))) whole)
+
+  pub added-runs : (end : ℕ) → s .code - first ≤ 32766 → ¬ (s .functions ≡ 256) → (ps : List Proto) → s .functions ≡ length ps
+      → run w p (added-step s first end) (ps ++ proto-of w (p .nodes) (p .depth) first (s .code - first) params ∷ []) ≡ bind (run w p s ps) (adding first node params)
+  unfolding run config-of state-of open-at fwd-by add-prototype if-then on
+  added-runs end h ne ps e =
+      let n : length (tab (λ i. f (first + i)) (s .code - first)) ≡ s .code - first = tab-length (λ i. f (first + i)) (s .code - first) in
+      sym (opened ps (adding first node params) ∙ rw (dropped-code, taken-code, n, le-ltb 32767 (s .code - first + 1) (omega arith), ne-eqb (length ps) 256 (rw e at ne), sym e))
+
+  abbrev bytes : List ℕ
+  bytes = proto-bytes (proto-of w (p .nodes) (p .depth) first (s .code - first) params ∷ [])
+
+  -- written where it fits
+  pub added-image : {o o' : List ℕ} {end : ℕ} → Placed o x bytes o' end → (ps : List Proto) → Image o s ps → Image o' (added-step s first end) (ps ++ proto-of w (p .nodes) (p .depth) first (s .code - first) params ∷ [])
+  added-image {o} {o'} {end} placed ps i = by-written (was-written o s ps on i)
+    where
+      all : proto-bytes (ps ++ proto-of w (p .nodes) (p .depth) first (s .code - first) params ∷ []) ≡ proto-bytes ps ++ bytes
+      all = protos-append ps (proto-of w (p .nodes) (p .depth) first (s .code - first) params ∷ [])
+
+      by-written : Written o x (s .functions) ps → Written o' end (s .functions + 1) (ps ++ proto-of w (p .nodes) (p .depth) first (s .code - first) params ∷ [])
+      by-written h =
+          record {
+            counted = omega (arith, h .counted, length-append ps (proto-of w (p .nodes) (p .depth) first (s .code - first) params ∷ []));
+            sized = omega (arith, placed .ends, h .sized, length-append (proto-bytes ps) bytes) ∙ sym (ap length all);
+            bytes = λ fits.
+                let z = placed .fits (omega (arith, placed .same)) in
+                ap (λ k. take k o') (placed .ends) ∙ spliced-take z ∙ ap (λ l. l ++ bytes) (h .bytes (omega (arith, z .fits))) ∙ sym all;
+          }
+
+  pub added-fine : {o o' : List ℕ} {end : ℕ} → Placed o x bytes o' end → s .code - first ≤ 32766 → ¬ (s .functions ≡ 256) → Fine w p (added-step s first end)
+  added-fine placed h ne =
+      let wr : x ≤ 300000 * s .functions = rw on at (fine .written) in
+      let n = proto-size w (p .nodes) (p .depth) first (s .code - first) params in
+      let small = below-256 (getD w (3074 + 8 * p .depth) 0) in
+      record {
+        sound = fine .sound;
+        nested = shallow s fine on;
+        room = omega (arith, fine .room);
+        constants = fine .constants;
+        globals = fine .globals;
+        functions = omega (arith, fine .functions);
+        written = omega (arith, wr, n, small, placed .ends);
+        result = omega (arith, fine .functions);
+      }
+
+pub written-few : {w : List ℕ} {p : Scope} (s : Step) {x : ℕ} → Fine w p s → s .outcome ≡ Accepted x → x ≤ 300000 * s .functions
+written-few s {x} fine e = by (s .outcome) e (fine .written)
+  where
+    by : (y : Outcome) → y ≡ Accepted x → written-by y ≤ 300000 * s .functions → x ≤ 300000 * s .functions
+    by y k h = rw k at h
+
+-- ---- the promise, in each case
+
+pub adds-absorbed : {w o : List ℕ} {p : Scope} {s : Step} {cause : Cause} {place : ℕ} (first node params : ℕ) → Fine w p s → s .outcome ≡ Refused cause place → Adds first w o p s o s node params
+adds-absorbed {w} {o} {p} {s} {cause} {place} first node params fine off =
+    record {
+      fine = fine;
+      same = refl;
+      back = λ g. g;
+      code = none-due _ off;
+      longer = λ h. h;
+      constants = refl;
+      globals = refl;
+      index = omega (arith, stopped-small s fine off);
+      does = λ ps i. record { protos = ps; image = i; runs = stays w w p p s s (adding first node params) cause place off off ps };
+    }
+
+module _ {w o : List ℕ} {p : Scope} {s : Step} {x : ℕ} (first node params : ℕ) (fine : Fine w p s) (on : s .outcome ≡ Accepted x) (le : first ≤ s .code) where
+  adds-refused : (cause : Cause) → ((ps : List Proto) → Image o s ps → run w p (refused-step s cause node) ps ≡ bind (run w p s ps) (adding first node params)) → Adds first w o p s o (refused-step s cause node) node params
+  adds-refused cause runs =
+      let m = refused-moves {w = w} {p = p} s cause node nothing fine on in
+      let off = refused-outcome s cause node on in
+      record {
+        fine = m .fine;
+        same = refl;
+        back = m .back;
+        code = none-due _ off;
+        longer = λ h. h;
+        constants = refl;
+        globals = refl;
+        index = omega (arith, refused-small s cause node fine);
+        does = λ ps i. record { protos = ps; image = image-none s (refused-step s cause node) off o ps i; runs = runs ps i };
+      }
+
+  pub adds-long : 32766 < s .code - first → Adds first w o p s o (refused-step s Long node) node params
+  adds-long h = adds-refused Long (λ ps i. long-runs first node params fine on le h ps)
+
+  pub adds-many : s .code - first ≤ 32766 → s .functions ≡ 256 → Adds first w o p s o (refused-step s Prototypes node) node params
+  adds-many h e = adds-refused Prototypes (λ ps i. many-runs first node params fine on le h ps (sym (was-written o s ps on i .counted) ∙ e))
+
+  pub adds-done : {o' : List ℕ} {end : ℕ} → s .code - first ≤ 32766 → ¬ (s .functions ≡ 256) → Placed o x (proto-bytes (proto-of w (p .nodes) (p .depth) first (s .code - first) params ∷ [])) o' end
+      → Adds first w o p s o' (added-step s first end) node params
+  adds-done {o'} {end} h ne placed =
+      record {
+        fine = added-fine first node params fine on le placed h ne;
+        same = placed .same;
+        back = λ g. goes on;
+        code = refl;
+        longer = λ z. omega arith;
+        constants = refl;
+        globals = refl;
+        index = omega (arith, fine .functions);
+        does = λ ps i.
+            record {
+              protos = ps ++ proto-of w (p .nodes) (p .depth) first (s .code - first) params ∷ [];
+              image = added-image first node params fine on le placed ps i;
+              runs = added-runs first node params fine on le end h ne ps (was-written o s ps on i .counted);
+            };
+      }
