@@ -1,3 +1,5 @@
 -- Laws of the bytes of an image.
 pub mod Splicing
 pub mod Bytes
+pub mod ConstantBytes
+pub mod Finishing

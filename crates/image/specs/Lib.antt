@@ -1,2 +1,3 @@
 -- What is promised of the bytes of an image.
 pub mod Output
+pub mod Finish

@@ -1,5 +1,7 @@
 // The bytes of an image (document 01, "Image file"), each part written at its place in the output. Who calls has seen that it fits.
+mod constants;
 
+pub use constants::finish;
 ghost use Prim.Native.Nat.{ℕ, _+_, _*_, _%_, _<_, _≤_};
 ghost use mathlib.Core.Path.{_≡_};
 ghost use mathlib.Core.List.{[], _∷_, _++_};

@@ -1,0 +1,46 @@
+-- The end of a call, once the main function is left: refused, or the image of the state, for which there is room or not.
+use Prim.Native.Nat.{ℕ, _<_, _≤_}
+use mathlib.Core.Path.{_≡_}
+use mathlib.Core.List.{List, []}
+use lib.ListN.{length, take}
+use Rattle.meaning.specs.State.{Proto}
+use Rattle.meaning.specs.Image.{image}
+use Rattle.meaning.specs.Answer.{Finished, imaged, stopped, fitted, outcome}
+use Rattle.meaning.specs.declared.Outcome.{Outcome}
+use Rattle.meaning.specs.declared.Outcome.the-variants.{Accepted, Refused}
+use Rattle.store.specs.declared.Step.{Step}
+use Rattle.store.specs.declared.Scope.{Scope}
+use Rattle.store.specs.Store.{run, written-by, Image}
+use Rattle.forward.specs.Forward as forward
+
+-- what a run ends with
+abbrev pub ended : (room last : ℕ) → forward.Run → Finished
+ended room last (forward.stopped cause node) = stopped cause node
+ended room last (forward.going c) = fitted room last (image (c .state))
+
+-- the image, none where it is refused
+abbrev pub image-of : Finished → List ℕ
+image-of (imaged bytes) = bytes
+image-of (stopped cause node) = []
+
+-- an outcome's length
+abbrev pub length-of : Outcome → ℕ
+length-of (Accepted n) = n
+length-of (Refused cause node) = 0
+
+-- the outcome r of what a call ends with, and the output o, at whose front the image stands
+pub record Ending (x : Finished) (o : List ℕ) (r : Outcome) : Type 0 where
+  pub told : r ≡ outcome x
+  pub fits : length-of r ≤ length o
+  pub front : take (length-of r) o ≡ image-of x
+
+-- what `finish` goes by: the constants are there, and no sum is too large; every fine step has it
+pub record Finishable (w : List ℕ) (s : Step) : Type 0 where
+  pub long : 3072 ≤ length w
+  pub constants : s .constants ≤ 1024
+  pub written : written-by (s .outcome) < 4294967296
+
+-- whatever prototypes the output holds, and in every scope
+pub record Finishes (w o : List ℕ) (s : Step) (last : ℕ) (o' : List ℕ) (r : Outcome) : Type 0 where
+  pub same : length o' ≡ length o
+  pub ends : (p : Scope) (ps : List Proto) → Image o s ps → Ending (ended (length o) last (run w p s ps)) o' r
