@@ -9,16 +9,21 @@ use lib.ListN.{length}
 use Rattle.meaning.specs.Fields.{words}
 use Rattle.meaning.specs.Read.{at, token}
 use Rattle.meaning.specs.Syntax.{Token}
+use Rattle.meaning.specs.Functions.{parameters}
+use Rattle.meaning.specs.Opcode.{inst, GetIteri}
 use Rattle.meaning.specs.State.{Proto}
-use Rattle.forward.specs.Forward.{Config, Run, bind}
+use Rattle.meaning.specs.Statements.{iterate-each}
+use Rattle.forward.specs.Forward.{Config, Run, bind, sure, emit, fwd-code, fwd-zero}
 use Rattle.store.specs.declared.Step.{Step}
 use Rattle.store.specs.declared.Scope.{Scope}
 use Rattle.store.specs.Layout.{registers}
 use Rattle.store.specs.Store.{run, goes-on, Fine}
-use Rattle.store.specs.Promise.{Cost, uses, some-registers, both, nothing, Room, Moves}
-use Rattle.store.proofs.Compose.{moves-by}
+use Rattle.store.specs.Promise.{Cost, uses, a-register, a-local, a-parameter, some-registers, both, nothing, Room, Moves, Leaf}
+use Rattle.store.proofs.Compose.{moves-by, known}
 use Rattle.parts.specs.Parts.{tokens-from}
-use Rattle.parts.proofs.Line.{Line, Within, from as line-from}
+use Rattle.parts.proofs.Line.{Line, Within, _▹_, from as line-from}
+use Rattle.parts.proofs.Counts.{named-takes, emit-keeps}
+use Rattle.parts.proofs.Named.{parameter-chain, iterate-each-chain}
 use Rattle.parts.proofs.Tokens.{left, left-all, left-none, left-more}
 
 -- the cost of k turns, of a words each
@@ -62,3 +67,34 @@ module _ {op : ℕ → List Token → Config → Run} {l : List ℕ} {from n a :
   -- no turn left
   pub all-turned : {w : List ℕ} {s : Step} {k : ℕ} → Turned op l from n a w₀ p s₀ w s k → n ≤ k → (ps : List Proto) (x : Run) → x ≡ bind (run w p s ps) (op k []) → x ≡ bind (run w₀ p s₀ ps) (op 0 (tokens-from l from n))
   all-turned {w} {s} {k} v done ps x e = v .rest ps x (rw (left-none l from n k done) e)
+
+-- ---- one turn of each loop
+
+-- what is left of the parameters, from the i-th on; of the names of a for-in
+abbrev pub all-parameters : (node : ℕ) → ℕ → List Token → Config → Run
+all-parameters node i ts = fwd-zero (parameters node ts)
+
+abbrev pub all-names : (node mark element : ℕ) → ℕ → List Token → Config → Run
+all-names node mark element i ts = fwd-code (iterate-each node mark element i ts)
+
+module _ (node name : ℕ) {l : List ℕ} {from n k : ℕ} {w₀ w w' : List ℕ} {p : Scope} {s₀ s s' : Step} where
+  pub parameter-turn : Turned (all-parameters node) l from n 1 w₀ p s₀ w s k → from + 2 * n ≤ length (words l) → k < n → name ≡ at (words l) (from + 2 * k)
+      → Leaf w p s w' p s' (both a-register a-local) (a-parameter node name) → Turned (all-parameters node) l from n 1 w₀ p s₀ w' s' (k + 1)
+  parameter-turn v inside less e m =
+      one-turn v inside less (costing (turns 1 (k + 1)) (record { words = omega arith; locals = omega arith; names = omega arith; still = λ z. omega arith }) (v .line ▹ m))
+      (λ g. omega (arith, named-takes node name m g .counted, v .counted (m .moves .back g)))
+      (λ ps x h. parameter-chain node (token (at (words l) (from + 2 * k)) (at (words l) (from + 2 * k + 1))) _ _ _ (rw (← e) (m .runs ps)) _ (known _ _ _ ps) x h)
+
+module _ (node mark element name : ℕ) {l : List ℕ} {from n k : ℕ} {w₀ w w1 w' : List ℕ} {p : Scope} {s₀ s s1 s' : Step} where
+  pub name-turn : Turned (all-names node mark element) l from n 3 w₀ p s₀ w s k → from + 2 * n ≤ length (words l) → k < n → name ≡ at (words l) (from + 2 * k)
+      → Leaf w p s w1 p s1 (both a-register a-local) (a-parameter node name) → Leaf w1 p s1 w' p s' (uses 2 0 0) (sure (emit (inst GetIteri (s1 .result) element k mark)))
+      → Turned (all-names node mark element) l from n 3 w₀ p s₀ w' s' (k + 1)
+  name-turn v inside less e m i =
+      one-turn v inside less (costing (turns 3 (k + 1)) (record { words = omega arith; locals = omega arith; names = omega arith; still = λ z. omega arith }) (v .line ▹ m ▹ i))
+      (λ g. omega (arith, emit-keeps _ i g .counted, named-takes node name m (i .moves .back g) .counted, v .counted (m .moves .back (i .moves .back g))))
+      (λ ps x h. iterate-each-chain node mark element k (token (at (words l) (from + 2 * k)) (at (words l) (from + 2 * k + 1))) _ _ _ (rw (← e) (m .runs ps)) _ (known _ _ _ ps) _ (i .runs ps) x h)
+
+-- each turn took a register, so k is a byte
+pub name-byte : (node mark element name : ℕ) {l : List ℕ} {from n k : ℕ} {w₀ w w1 : List ℕ} {p : Scope} {s₀ s s1 : Step} → Turned (all-names node mark element) l from n 3 w₀ p s₀ w s k → Leaf w p s w1 p s1 (both a-register a-local) (a-parameter node name)
+    → s1 .result < 255 → goes-on (s1 .outcome) → k < 256
+name-byte node mark element name v m small g = omega (arith, named-takes node name m g .result, v .counted (m .moves .back g))

@@ -26,9 +26,12 @@ left-all l from n = ap₂ (λ i m. tokens-from l i m) e f
 empty : (from m : ℕ) (l : List ℕ) → m ≡ 0 → slice from (from + 2 * m) l ≡ []
 empty from m l h = let e : from + 2 * m ≡ from = omega arith in rw e (slice-empty from l)
 
-pub left-none : (l : List ℕ) (from n k : ℕ) → n ≤ k → left l from n k ≡ []
+none-left : (l : List ℕ) (from n : ℕ) → n ≡ 0 → tokens-from l from n ≡ []
 unfolding tokens-from
-left-none l from n k h = ap tokens (empty (from + 2 * k) (n - k) (words l) (omega arith))
+none-left l from n h = ap tokens (empty from n (words l) h)
+
+pub left-none : (l : List ℕ) (from n k : ℕ) → n ≤ k → left l from n k ≡ []
+left-none l from n k h = none-left l (from + 2 * k) (n - k) (omega arith)
 
 two : (i j m : ℕ) (l : List ℕ) → i + 1 < m → m ≤ length l → j ≡ i + 2 → slice i m l ≡ getD l i 0 ∷ getD l (i + 1) 0 ∷ slice j m l
 two i j m l h k e =
@@ -42,3 +45,17 @@ left-more l from n k h less =
     let e : from + 2 * k + 2 * (n - k) ≡ from + 2 * n = omega arith in
     let f : from + 2 * (k + 1) + 2 * (n - (k + 1)) ≡ from + 2 * n = omega arith in
     rw (e, f) (ap tokens (two (from + 2 * k) (from + 2 * (k + 1)) (from + 2 * n) (words l) (omega arith) h (omega arith)))
+
+-- ---- the first pair, and the only one
+
+pub first-token : (l : List ℕ) (from n : ℕ) → from + 2 * n ≤ length (words l) → 1 ≤ n → tokens-from l from n ≡ token (at (words l) from) (at (words l) (from + 1)) ∷ tokens-from l (from + 2) (n - 1)
+unfolding tokens-from
+first-token l from n h some =
+    let e : from + 2 + 2 * (n - 1) ≡ from + 2 * n = omega arith in
+    rw e (ap tokens (two from (from + 2) (from + 2 * n) (words l) (omega arith) h (omega arith)))
+
+pub one-token : (l : List ℕ) (from n : ℕ) → from + 2 * n ≤ length (words l) → n ≡ 1 → tokens-from l from n ≡ token (at (words l) from) (at (words l) (from + 1)) ∷ []
+one-token l from n h one = first-token l from n h (omega arith) ∙ ap (λ ts. token (at (words l) from) (at (words l) (from + 1)) ∷ ts) (none-left l (from + 2) (n - 1) (omega arith))
+
+pub two-tokens : (l : List ℕ) (from n : ℕ) → from + 2 * n ≤ length (words l) → 2 ≤ n → 2 ≤ length (tokens-from l from n)
+two-tokens l from n h two = rw (first-token l from n h (omega arith), first-token l (from + 2) (n - 1) (omega arith) (omega arith)) (omega arith)

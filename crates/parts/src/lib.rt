@@ -1,11 +1,14 @@
 ghost use mathlib.Core.Path.{_≡_};
-ghost use Prim.Native.Nat.{ℕ, _+_, _-_, _<_};
+ghost use Prim.Native.Nat.{ℕ, _+_, _-_, _*_, _<_, _≤_};
+ghost use lib.ListN.{length};
+ghost use Rattle.meaning.specs.Fields.{words};
 ghost use Rattle.meaning.specs.Read.{token};
-ghost use Rattle.meaning.specs.Statements.{new-global};
-ghost use Rattle.forward.specs.Forward.{fwd-number, open-call, end-call, declare, name-result, open-for-in, open-catch, open-class, add-method, end-class};
+ghost use Rattle.meaning.specs.Functions.{parameters};
+ghost use Rattle.meaning.specs.Statements.{new-global, iterate-each, iterate};
+ghost use Rattle.forward.specs.Forward.{fwd-code, fwd-number, fwd-zero, open-call, end-call, open-function, open-fun, declare, name-result, open-for-in, head-for-in, open-catch, open-class, add-method, end-class};
 ghost use Rattle.store.specs.Store.{while-going, Fine};
 ghost use Rattle.store.specs.Promise.{uses, nothing, a-register, some-registers, both, Room, Leaf};
-ghost use Rattle.parts.specs.Parts.{Small, a-name, a-name-back, Owing};
+ghost use Rattle.parts.specs.Parts.{Small, tokens-from, a-name, a-name-back, Owing};
 use meaning::Cause;
 use meaning::Literal;
 use meaning::Outcome;
@@ -18,9 +21,21 @@ const MOVE: u32 = 0;
 
 const LOAD_K: u32 = 1;
 
+const LT: u32 = 11;
+
 const CALL: u32 = 19;
 
+const GET_ITER: u32 = 38;
+
+const GET_ITERK: u32 = 39;
+
+const GET_ITERI: u32 = 40;
+
+const LENGTH: u32 = 41;
+
 const SET_GLOBAL: u32 = 45;
+
+const GET_CURRENT_FUNC: u32 = 46;
 
 const DEREGISTER_TRY_CATCH: u32 = 49;
 
@@ -93,6 +108,68 @@ pub fn end_call(
         result.result + 1,
         mark,
     )
+}
+
+// ---- functions
+
+// A register and a local for each of the n parameters from word `from` of the payload on.
+fn parameters(
+    payload: &[u8],
+    work: &mut [u32],
+    step: Step,
+    scope: Scope,
+    node: usize,
+    from: usize,
+    n: usize,
+) -> Step
+    requires { ⌜ Fine (now work) scope step × Room (now work) scope step 0 0 0 × (from + 2 * n ≤ length (words (now payload))) ⌝ }
+    ensures { λ r. ⌜ Leaf (now (work .entry)) scope step (now (work .exit)) scope r (both (some-registers n) (uses n n 0)) (fwd-zero (parameters node (tokens-from (now (payload .entry)) from n))) × (r .result < 255) ⌝ }
+{
+    let mut last = step;
+    let mut k: usize = 0;
+    while k < n {
+        let name = nodes::child(payload, from + 2 * k);
+        last = store::declare_parameter(work, last, scope, name, node);
+        k += 1;
+    }
+    store::settle(last, 0)
+}
+
+// visit_function_expr after enter_function.
+pub fn open_function(
+    payload: &[u8],
+    work: &mut [u32],
+    step: Step,
+    scope: Scope,
+    node: usize,
+    from: usize,
+    n: usize,
+) -> Step
+    requires { ⌜ Fine (now work) scope step × Room (now work) scope step 0 0 0 × (from + 2 * n ≤ length (words (now payload))) ⌝ }
+    ensures { λ r. ⌜ Leaf (now (work .entry)) scope step (now (work .exit)) scope r (both (some-registers (1 + n)) (uses n n 0)) (open-function node (tokens-from (now (payload .entry)) from n)) × Small r ⌝ }
+{
+    let own = store::next_register(work, step, scope, node);
+    parameters(payload, work, own, scope, node, from, n)
+}
+
+// visit_fn_stmt after enter_function: the function is a local of its own.
+pub fn open_fun(
+    payload: &[u8],
+    work: &mut [u32],
+    step: Step,
+    scope: Scope,
+    node: usize,
+    name: usize,
+    mark: u32,
+    from: usize,
+    n: usize,
+) -> Step
+    requires { ⌜ Fine (now work) scope step × Room (now work) scope step 0 0 0 × (name < 65536) × (from + 2 * n ≤ length (words (now payload))) ⌝ }
+    ensures { λ r. ⌜ Leaf (now (work .entry)) scope step (now (work .exit)) scope r (both (some-registers (1 + n)) (uses (3 + n) (1 + n) 0)) (open-fun node (token name mark) (tokens-from (now (payload .entry)) from n)) × Small r ⌝ }
+{
+    let own = store::declare_parameter(work, step, scope, name, node);
+    let last = parameters(payload, work, own, scope, node, from, n);
+    code::emit(work, last, scope, GET_CURRENT_FUNC, own.result, 0, 0, mark)
 }
 
 // ---- names of functions and classes
@@ -173,6 +250,142 @@ pub fn open_for_in(work: &mut [u32], step: Step, scope: Scope, node: usize, mark
         zero.result,
         mark,
         counter.result,
+    )
+}
+
+// A register, a local and a GetIteri for each of the n names from word `from` of the payload on.
+fn iterate_each(
+    payload: &[u8],
+    work: &mut [u32],
+    step: Step,
+    scope: Scope,
+    node: usize,
+    from: usize,
+    n: usize,
+    element: u32,
+    mark: u32,
+) -> Step
+    requires { ⌜ Fine (now work) scope step × Room (now work) scope step 0 0 0 × (from + 2 * n ≤ length (words (now payload))) × (n < 65536) × while-going (step .outcome) (element < 256) ⌝ }
+    ensures { λ r. ⌜ Leaf (now (work .entry)) scope step (now (work .exit)) scope r (both (some-registers n) (uses (3 * n) n 0)) (fwd-code (iterate-each node mark element 0 (tokens-from (now (payload .entry)) from n))) ⌝ }
+{
+    let mut last = step;
+    let mut k: usize = 0;
+    while k < n {
+        let name = nodes::child(payload, from + 2 * k);
+        let next = store::declare_parameter(work, last, scope, name, node);
+        last = code::emit(
+            work,
+            next,
+            scope,
+            GET_ITERI,
+            next.result,
+            element,
+            k as u32,
+            mark,
+        );
+        k += 1;
+    }
+    store::settle(last, 0)
+}
+
+// One name names the element, several its parts.
+fn iterate(
+    payload: &[u8],
+    work: &mut [u32],
+    step: Step,
+    scope: Scope,
+    node: usize,
+    from: usize,
+    n: usize,
+    collection: u32,
+    counter: u32,
+    mark: u32,
+) -> Step
+    requires { ⌜ Fine (now work) scope step × Room (now work) scope step 0 3 1 × (1 ≤ n) × (from + 2 * n ≤ length (words (now payload))) × (n < 65536) × (counter + 3 < 255) × (collection < 256) ⌝ }
+    ensures { λ r. ⌜ Leaf (now (work .entry)) scope step (now (work .exit)) scope r (uses 3 1 0) (fwd-code (iterate node mark (counter + 3) collection counter (tokens-from (now (payload .entry)) from n))) ⌝ }
+{
+    if n == 1 {
+        let name = nodes::child(payload, from);
+        store::allocate_register(work, step, scope, name, counter + 3);
+        code::put(
+            work,
+            step,
+            scope,
+            GET_ITERK,
+            counter + 3,
+            collection,
+            counter,
+            mark,
+            0,
+        )
+    } else {
+        let gotten = code::emit(
+            work,
+            step,
+            scope,
+            GET_ITER,
+            counter + 3,
+            collection,
+            counter,
+            mark,
+        );
+        iterate_each(
+            payload,
+            work,
+            gotten,
+            scope,
+            node,
+            from,
+            n,
+            counter + 3,
+            mark,
+        )
+    }
+}
+
+// visit_enhanced_for_stmt after the collection: the condition, then the names' registers.
+pub fn head_for_in(
+    payload: &[u8],
+    work: &mut [u32],
+    step: Step,
+    scope: Scope,
+    node: usize,
+    from: usize,
+    n: usize,
+    counter: u32,
+    mark: u32,
+) -> Step
+    requires { ⌜ Fine (now work) scope step × Room (now work) scope step 0 11 1 × (1 ≤ n) × (from + 2 * n ≤ length (words (now payload))) × (n < 65536) × while-going (step .outcome) ((counter + 3 < 255) × (step .result < 256)) ⌝ }
+    ensures { λ r. ⌜ Leaf (now (work .entry)) scope step (now (work .exit)) scope r (uses 11 1 0) (head-for-in node (tokens-from (now (payload .entry)) from n) counter mark) ⌝ }
+{
+    let o = step.outcome;
+    let Outcome::Accepted(_) = o else {
+        return step;
+    };
+    let sized = code::emit(work, step, scope, LENGTH, counter + 1, step.result, 0, mark);
+    let compared = code::put(
+        work,
+        sized,
+        scope,
+        LT,
+        counter + 2,
+        counter,
+        counter + 1,
+        mark,
+        counter + 2,
+    );
+    let tested = code::test_and_jump(work, compared, scope, 0, mark);
+    iterate(
+        payload,
+        work,
+        tested,
+        scope,
+        node,
+        from,
+        n,
+        step.result,
+        counter,
+        mark,
     )
 }
 
