@@ -2,17 +2,18 @@
 use mathlib.Core.Path.{_≡_, refl, sym, ap, _∙_}
 use mathlib.Core.Bool.{Bool, true, false}
 use mathlib.Core.List.{List}
-use Prim.Native.Nat.{ℕ, zero, suc, _+_, _-_, _*_, _<_, _≤_}
+use Prim.Native.Nat.{ℕ, zero, suc, _+_, _-_, _*_, _/_, _<_, _≤_}
 use native.Mathlib.Nat.{add-zero}
 use native.Mathlib.Numerals.{add-one}
 use native.Mathlib.Omega.{arith}
-use lib.ListN.{length, getD, take, drop, set, length-drop, length-set}
+use lib.ListN.{length, getD, take, drop, set, length-take, length-drop, length-set}
 use lib.Seq.{drop-drop, getD-drop, getD-set-same, getD-set-other}
 use borrow.Author.Count.{below-more}
 use Rattle.meaning.specs.Fields.{word-at, span, whole, Field, front, rest, fields, field-at}
-use Rattle.meaning.specs.At.{tag-of}
+use Rattle.meaning.specs.At.{tag-of, count-of}
 use Rattle.meaning.proofs.Lists.{tail-part}
 use Rattle.meaning.proofs.FieldLaws.{whole-true, fields-whole, fields-cut}
+use Rattle.nodes.proofs.Words.{words-count}
 use Rattle.nodes.specs.Offsets.{header, Offsets, Readable, Filled}
 
 -- where there is a field, a whole one stands at the front
@@ -72,6 +73,12 @@ module _ {tree work : List ℕ} {base node : ℕ} (h : Readable tree work base n
 
     pub payload-is : take (word-at tree (start + 1)) (drop (start + 3) tree) ≡ field-at (fields tree) node .payload
     payload-is = rw (here .1, size-drop tree start, drop-drop 3 start tree)
+
+    pub count-is : word-at tree (start + 1) / 2 ≡ count-of (fields tree) node
+    count-is =
+        let n = simp (length-take, length-drop) at (ap length payload-is) in
+        let h = words-count (field-at (fields tree) node .payload) in
+        ap (λ n. n / 2) (omega (arith, n, field-inside)) ∙ sym h
 
 -- ---- the table
 

@@ -106,10 +106,10 @@ pub fn word(payload: &[u8], k: usize) -> u32
 // How many words a node has.
 pub fn count_of(tree: &[u8], work: &[u32], base: usize, node: usize) -> usize
     requires { ⌜ Readable (now tree) (now work) base node ⌝ }
-    ensures { λ r. ⌜ r ≡ count-of (fields (now (tree .entry))) node ⌝ }
+    ensures { λ r. ⌜ (r ≡ count-of (fields (now (tree .entry))) node) × (r < 65536) ⌝ }
 {
-    let p = payload_of(tree, work, base, node);
-    count(p)
+    let start = start_of(work, base, node);
+    word_at(tree, start + 1) / 2
 }
 
 // Word k of a node of which no other word is read.

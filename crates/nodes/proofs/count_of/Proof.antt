@@ -1,15 +1,24 @@
--- `nodes::count_of` meets its contract.
+-- `nodes::count_of` meets its contract: half of the length that the header says.
+use native.Mathlib.Omega.{arith}
+use mathlib.Core.Path.{ap, _∙_}
+use Prim.Native.Nat.{_/_}
+use Rattle.nodes.proofs.Headers.{entry-inside, field-inside, count-is}
 use Rattle.nodes.proofs.count_of.Statement.{statement}
 use Rattle.nodes.proofs.count_of.Tie as tie
 
-payload-of-requires : tie.Need-payload-of-requires
-payload-of-requires c κs = c .before .before .pre
+start-of-requires : tie.Need-start-of-requires
+start-of-requires c κs = entry-inside (c .before .before .pre)
 
-count-requires : tie.Need-count-requires
-count-requires c κs = tt
+add-word-at : tie.Need-add-word-at
+add-word-at c = omega (arith, field-inside (c .before .before .before .pre) _ (c .start-of .ensures))
+
+word-at-requires : tie.Need-word-at-requires
+word-at-requires c κs = omega (arith, field-inside (c .before .before .before .pre) _ (c .start-of .ensures))
 
 returns : tie.Need-returns
-returns c = rw (c .before .payload-of .ensures) at (c .count .ensures)
+returns c =
+    let e = c .word-at .ensures in
+    (ap (λ n. n / 2) (e .0) ∙ count-is (c .before .before .before .before .pre) _ (c .before .start-of .ensures), omega arith)
 
 pub count-of-spec : {M : Type 1} → statement M
-count-of-spec = tie.close (tie.spec payload-of-requires count-requires returns)
+count-of-spec = tie.close (tie.spec start-of-requires add-word-at word-at-requires returns)
