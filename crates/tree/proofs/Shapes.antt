@@ -1,8 +1,9 @@
--- The loop over the fields of s: below node i every tag is entered, every shape is right, and what is still to be entered from here on is
--- what was to be entered at the start.
+-- The loop over the fields of s: until a wrong node is met, below node i every tag is entered, every shape is right, and what is still to be
+-- entered from here on is what was to be entered at the start.
 use mathlib.Core.Path.{_≡_, refl, sym, ap, subst, fun-ext, _∙_}
 use mathlib.Core.Bool.{Bool, true, false, _&&_, cond}
 use mathlib.Core.List.{List}
+use mathlib.Core.Logic.{_⊎_, inl, inr}
 use Prim.Native.Nat.{ℕ, suc, _+_, _%_, _<_, _≤_}
 use native.Mathlib.Nat.{not-suc-le-zero}
 use native.Mathlib.Numerals.{add-one}
@@ -58,91 +59,107 @@ is-last s i = eqb (i + 1) (length (fields s))
 
 -- ---- the loop: l₀ is the scratch at the start, l as it is now, t the rest of the file from node i on
 
-pub record Shaped (s l₀ l t : List ℕ) (i : ℕ) : Type 0 where
+pub record Passed (s l₀ l t : List ℕ) (i : ℕ) : Type 0 where
   pub walk : Walk s i t
   pub beyond : Beyond i l₀ l
+
+-- no node so far is wrong
+pub record Shaped (s l₀ l t : List ℕ) (i : ℕ) : Type 0 where
   pub known : (k : ℕ) → k < i → getD (tags-in l) k 0 ≡ getD (tags-of (fields s)) k 0
   pub good : (k : ℕ) → k < i → shape-at (fields s) k ≡ true
   pub entered : enter-all l₀ 0 (fields s) ≡ enter-all l i (fields t)
 
-pub shaped-start : (s l₀ : List ℕ) → Shaped s l₀ l₀ s 0
-shaped-start s l₀ = record {
-  walk = walk-start s;
-  beyond = beyond-refl 0 l₀;
-  known = λ k h. absurd (not-suc-le-zero h);
-  good = λ k h. absurd (not-suc-le-zero h);
-  entered = refl;
+-- w is the lowest wrong node of the n, or n while there is none
+pub record Judged (s l₀ l t : List ℕ) (n i w : ℕ) : Type 0 where
+  pub passed : Passed s l₀ l t i
+  pub most : w ≤ n
+  pub so-far : ((w ≡ n) × Shaped s l₀ l t i) ⊎ ((w < i) × (w ≡ lowest (shape-at (fields s)) n))
+
+pub judged-start : (s l₀ : List ℕ) (n : ℕ) → Judged s l₀ l₀ s n 0 n
+judged-start s l₀ n = record {
+  passed = record { walk = walk-start s; beyond = beyond-refl 0 l₀ };
+  most = omega arith;
+  so-far = inl (refl, record { known = λ k h. absurd (not-suc-le-zero h); good = λ k h. absurd (not-suc-le-zero h); entered = refl });
 }
 
-module _ (s l₀ l t : List ℕ) (i : ℕ) (v : Shaped s l₀ l t i) where
-  -- after the last field
-  pub shaped-end : (n : ℕ) → n ≡ length (fields s) → n ≤ i → l ≡ enter-all l₀ 0 (fields s)
-  unfolding enter-all
-  shaped-end n en h = sym (v .entered ∙ rw (walk-done s i t (v .walk) (omega arith)))
+-- before a wrong node all are right
+pub shaped-yet : {s l₀ l t : List ℕ} {n i w : ℕ} → Judged s l₀ l t n i w → i < w → (w ≡ n) × Shaped s l₀ l t i
+shaped-yet {s} {l₀} {l} {t} {n} {i} {w} j h = go (j .so-far)
+  where
+    go : ((w ≡ n) × Shaped s l₀ l t i) ⊎ ((w < i) × (w ≡ lowest (shape-at (fields s)) n)) → (w ≡ n) × Shaped s l₀ l t i
+    go (inl x) = x
+    go (inr x) = absurd (omega (arith, x .0))
 
-  pub shaped-all : (n : ℕ) → n ≡ length (fields s) → n ≤ i → n ≡ lowest (shape-at (fields s)) n
-  shaped-all n en h = sym (lowest-none (shape-at (fields s)) n (λ j q. v .good j (omega arith)))
+module _ (s l₀ l t : List ℕ) (i : ℕ) (m : Passed s l₀ l t i) where
+  -- whatever the payload, only words below i have changed
+  noted-beyond : (first : ℕ) (p l′ : List ℕ) → l′ ≡ note-row (lawful (tags-in l) i) l i first 0 p → Beyond i l l′
+  noted-beyond first p l′ el = subst (Beyond i l) (sym el) (row-beyond (tags-in l) i l first 0 p)
 
-  module _ (w : whole t ≡ true) where
-    here : field-at (fields s) i ≡ front t
-    here = walk-at s i t no-field (v .walk) w
+  pub passed-more : whole t ≡ true → (first : ℕ) (p l′ : List ℕ) (k : ℕ) → l′ ≡ note-row (lawful (tags-in l) i) l i first 0 p → k ≡ span t → Passed s l₀ (set l′ i (getD t 0 0)) (from k t) (i + 1)
+  passed-more w first p l′ k el ek = record {
+    walk = walk-part s i t k (m .walk) w ek;
+    beyond = beyond-then (i + 1) l₀ l′ (set l′ i (getD t 0 0))
+        (beyond-more i (i + 1) l₀ l′ (omega arith) (beyond-then i l₀ l l′ (m .beyond) (noted-beyond first p l′ el)))
+        (beyond-set (i + 1) l′ i (getD t 0 0) (omega arith));
+  }
 
-    tag-here : getD (tags-of (fields s)) i 0 ≡ getD t 0 0
-    tag-here = List·getD-map (λ (f : Field). f .tag) (fields s) i no-field ∙ ap (λ (f : Field). f .tag) here
+  module _ (v : Shaped s l₀ l t i) where
+    -- after the last field
+    pub shaped-end : (n : ℕ) → n ≡ length (fields s) → n ≤ i → l ≡ enter-all l₀ 0 (fields s)
+    unfolding enter-all
+    shaped-end n en h = sym (v .entered ∙ rw (walk-done s i t (m .walk) (omega arith)))
 
-    -- a payload that is tested is that of node i
-    module _ (n first : ℕ) (p : List ℕ) (en : n ≡ length (fields s)) (ef : first ≡ start-of (getD t 0 0) (eqb (i + 1) n)) (ep : p ≡ payload-of t) where
-      first-is : first ≡ start-of (getD t 0 0) (is-last s i)
-      first-is = rw (← en) ef
+    pub shaped-all : (n : ℕ) → n ≡ length (fields s) → n ≤ i → n ≡ lowest (shape-at (fields s)) n
+    shaped-all n en h = sym (lowest-none (shape-at (fields s)) n (λ j q. v .good j (omega arith)))
 
-      pub shaped-test : fits-row (lawful (tags-in l) i) first 0 p ≡ shape-at (fields s) i
-      unfolding shape-at
-      shaped-test =
-          rw (first-is, ep)
-          (sym (fits-rows (lawful (tags-in l) i) (getD t 0 0) (is-last s i) (payload-of t))
-          ∙ fits-same (tags-in l) (tags-of (fields s)) i (v .known) (items-for (getD t 0 0) (is-last s i)) (payload-of t)
-          ∙ rw here)
+    module _ (w : whole t ≡ true) where
+      here : field-at (fields s) i ≡ front t
+      here = walk-at s i t no-field (m .walk) w
 
-      -- the lowest node that is wrong
-      pub shaped-stop : i < n → false ≡ fits-row (lawful (tags-in l) i) first 0 p → i ≡ lowest (shape-at (fields s)) n
-      shaped-stop h e = sym (lowest-found (shape-at (fields s)) n i h (v .good) (sym shaped-test ∙ sym e))
+      tag-here : getD (tags-of (fields s)) i 0 ≡ getD t 0 0
+      tag-here = List·getD-map (λ (f : Field). f .tag) (fields s) i no-field ∙ ap (λ (f : Field). f .tag) here
 
-      module _ (e : true ≡ fits-row (lawful (tags-in l) i) first 0 p) where
-        -- its children are noted
-        noted-here : note-row (lawful (tags-in l) i) l i first 0 p ≡ note-all l i (kids-of (front t))
-        unfolding kids-of
-        noted-here =
-            row-kids (lawful (tags-in l) i) l i first 0 p (sym e)
-            ∙ ap (note-all l i)
-            (rw (first-is, ep)
-            (sym (kids-rows (getD t 0 0) (is-last s i) (payload-of t))
-            ∙ kids-tag (tags-in l) i (getD t 0 0) (is-last s i) (payload-of t) (fits-rows (lawful (tags-in l) i) (getD t 0 0) (is-last s i) (payload-of t) ∙ rw (← first-is, ← ep) (sym e))))
+      -- a payload that is tested is that of node i
+      module _ (n first : ℕ) (p : List ℕ) (en : n ≡ length (fields s)) (ef : first ≡ start-of (getD t 0 0) (eqb (i + 1) n)) (ep : p ≡ payload-of t) where
+        first-is : first ≡ start-of (getD t 0 0) (is-last s i)
+        first-is = rw (← en) ef
 
-        pub shaped-more : (l′ : List ℕ) (k : ℕ) → l′ ≡ note-row (lawful (tags-in l) i) l i first 0 p → k ≡ span t → getD t 0 0 < 256 → i < length l₀
-            → Shaped s l₀ (set l′ i (getD t 0 0)) (from k t) (i + 1)
-        unfolding enter-all
-        shaped-more l′ k el ek small room = record {
-          walk = walk-part s i t k (v .walk) w ek;
-          beyond = beyond-then (i + 1) l₀ l′ (set l′ i (getD t 0 0))
-              (beyond-more i (i + 1) l₀ l′ (omega arith) (beyond-then i l₀ l l′ (v .beyond) noted-beyond))
-              (beyond-set (i + 1) l′ i (getD t 0 0) (omega arith));
-          known = below-more (λ j. getD (tags-in (set l′ i (getD t 0 0))) j 0 ≡ getD (tags-of (fields s)) j 0) i
-              (λ j h. tag-at (set l′ i (getD t 0 0)) j ∙ ap (λ (x : ℕ). x % 256) (getD-set-other l′ i j (getD t 0 0) 0 (λ q. omega arith)) ∙ sym (tag-at l′ j) ∙ same-tag j ∙ v .known j h)
-              (tag-at (set l′ i (getD t 0 0)) i ∙ ap (λ (x : ℕ). x % 256) (getD-set-same l′ i (getD t 0 0) 0 (omega (arith, noted-beyond .size, v .beyond .size))) ∙ whole-tag ∙ sym tag-here);
-          good = below-more (λ j. shape-at (fields s) j ≡ true) i (v .good) (sym shaped-test ∙ sym e);
-          entered = v .entered ∙ rw (fields-whole t w) (simp (tail-part, ek, el ∙ noted-here, add-one));
-        }
-          where
-            noted-beyond : Beyond i l l′
-            noted-beyond = subst (Beyond i l) (sym el) (row-beyond (tags-in l) i l first 0 p)
+        pub shaped-test : fits-row (lawful (tags-in l) i) first 0 p ≡ shape-at (fields s) i
+        unfolding shape-at
+        shaped-test =
+            rw (first-is, ep)
+            (sym (fits-rows (lawful (tags-in l) i) (getD t 0 0) (is-last s i) (payload-of t))
+            ∙ fits-same (tags-in l) (tags-of (fields s)) i (v .known) (items-for (getD t 0 0) (is-last s i)) (payload-of t)
+            ∙ rw here)
 
-            same-tag : (j : ℕ) → getD (tags-in l′) j 0 ≡ getD (tags-in l) j 0
-            same-tag j = ap (λ (ts : List ℕ). getD ts j 0) (ap tags-in (el ∙ noted-here) ∙ all-tags l i (kids-of (front t)))
+        -- the lowest node that is wrong
+        pub shaped-stop : i < n → false ≡ fits-row (lawful (tags-in l) i) first 0 p → i ≡ lowest (shape-at (fields s)) n
+        shaped-stop h e = sym (lowest-found (shape-at (fields s)) n i h (v .good) (sym shaped-test ∙ sym e))
 
-            whole-tag : getD t 0 0 % 256 ≡ getD t 0 0
-            whole-tag = omega arith
+        module _ (e : true ≡ fits-row (lawful (tags-in l) i) first 0 p) where
+          -- its children are noted
+          noted-here : note-row (lawful (tags-in l) i) l i first 0 p ≡ note-all l i (kids-of (front t))
+          unfolding kids-of
+          noted-here =
+              row-kids (lawful (tags-in l) i) l i first 0 p (sym e)
+              ∙ ap (note-all l i)
+              (rw (first-is, ep)
+              (sym (kids-rows (getD t 0 0) (is-last s i) (payload-of t))
+              ∙ kids-tag (tags-in l) i (getD t 0 0) (is-last s i) (payload-of t) (fits-rows (lawful (tags-in l) i) (getD t 0 0) (is-last s i) (payload-of t) ∙ rw (← first-is, ← ep) (sym e))))
 
-  -- whatever the payload, only words below n have changed
-  pub shaped-beyond : (n first : ℕ) (p l′ : List ℕ) → i < n → l′ ≡ note-row (lawful (tags-in l) i) l i first 0 p → Beyond n l₀ l′
-  shaped-beyond n first p l′ h el =
-      beyond-more i n l₀ l′ (omega arith) (beyond-then i l₀ l l′ (v .beyond) (subst (Beyond i l) (sym el) (row-beyond (tags-in l) i l first 0 p)))
+          pub shaped-more : (l′ : List ℕ) (k : ℕ) → l′ ≡ note-row (lawful (tags-in l) i) l i first 0 p → k ≡ span t → getD t 0 0 < 256 → i < length l₀
+              → Shaped s l₀ (set l′ i (getD t 0 0)) (from k t) (i + 1)
+          unfolding enter-all
+          shaped-more l′ k el ek small room = record {
+            known = below-more (λ j. getD (tags-in (set l′ i (getD t 0 0))) j 0 ≡ getD (tags-of (fields s)) j 0) i
+                (λ j h. tag-at (set l′ i (getD t 0 0)) j ∙ ap (λ (x : ℕ). x % 256) (getD-set-other l′ i j (getD t 0 0) 0 (λ q. omega arith)) ∙ sym (tag-at l′ j) ∙ same-tag j ∙ v .known j h)
+                (tag-at (set l′ i (getD t 0 0)) i ∙ ap (λ (x : ℕ). x % 256) (getD-set-same l′ i (getD t 0 0) 0 (omega (arith, noted-beyond first p l′ el .size, m .beyond .size))) ∙ whole-tag ∙ sym tag-here);
+            good = below-more (λ j. shape-at (fields s) j ≡ true) i (v .good) (sym shaped-test ∙ sym e);
+            entered = v .entered ∙ rw (fields-whole t w) (simp (tail-part, ek, el ∙ noted-here, add-one));
+          }
+            where
+              same-tag : (j : ℕ) → getD (tags-in l′) j 0 ≡ getD (tags-in l) j 0
+              same-tag j = ap (λ (ts : List ℕ). getD ts j 0) (ap tags-in (el ∙ noted-here) ∙ all-tags l i (kids-of (front t)))
+
+              whole-tag : getD t 0 0 % 256 ≡ getD t 0 0
+              whole-tag = omega arith

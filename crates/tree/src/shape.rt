@@ -105,20 +105,21 @@ fn first_wrong(
     ensures beyond { λ _. ⌜ Beyond n (now (scratch .entry)) (now (scratch .exit)) ⌝ }
 {
     let mut t = tree;
+    let mut wrong = n;
     let mut i: usize = 0;
-    while i < n {
+    // the walk ends with the first wrong node: later ones would be reported over it
+    while i < wrong {
         let tag = t[0];
         let first = start_of(starts, tag, i + 1 == n);
-        if fits_from(scratch, rows, limits, i, first, payload(t)) {
-            scratch[i] = tag as u32;
-            let k = span_of(t);
-            t = &t[k..];
-            i = i + 1;
-        } else {
-            return i;
+        if !fits_from(scratch, rows, limits, i, first, payload(t)) {
+            wrong = i;
         }
+        scratch[i] = tag as u32;
+        let k = span_of(t);
+        t = &t[k..];
+        i = i + 1;
     }
-    n
+    wrong
 }
 
 // The same. The tables are copied here once: a constant that a function indexes is copied at each of its calls.
