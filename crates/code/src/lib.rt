@@ -665,10 +665,10 @@ fn add_prototype(
         return step;
     };
     let count = step.code - first;
+    let index = step.functions;
     if 32766 < count {
         return store::refuse(step, Cause::Long, node);
     }
-    let index = step.functions;
     if index == 256 {
         return store::refuse(step, Cause::Prototypes, node);
     }
