@@ -5,3 +5,4 @@ pub mod Named
 pub mod Context
 pub mod Tokens
 pub mod Loop
+pub mod Ended

@@ -58,12 +58,11 @@ pub record Left (a b e : ℕ) (u : Cost) (a' b' e' : ℕ) : Type 0 where
   pub locals : b' + u .locals ≤ b + u .locals-back
   pub names : e + u .names ≤ e' + u .names-back
 
+pub spare-after : {w w' : List ℕ} {p : Scope} {s r : Step} {a b e a' b' e' : ℕ} {u : Cost} → Left a b e u a' b' e' → Used w p s w' p r u → Spare w p s a b e → Spare w' p r a' b' e'
+spare-after l i j = record { words = omega (arith, i .words, j .words, l .words); locals = omega (arith, i .locals, j .locals, l .locals); globals = omega (arith, i .names, j .globals, l .names) }
+
 pub owes : {w w' : List ℕ} {p : Scope} {s r : Step} {a b e : ℕ} {u : Cost} (a' b' e' : ℕ) → Line w p s a b e w' r u → Left a b e u a' b' e' → Owing w' p r a' b' e'
-owes {w} {w'} {p} {s} {r} {a} {b} {e} {u} a' b' e' x l =
-    record { spare = promised (r .outcome) (λ g. after (due (r .outcome) (x .moves .used) g) (due (s .outcome) (x .owing .spare) (x .moves .back g))) }
-  where
-    after : Used w p s w' p r u → Spare w p s a b e → Spare w' p r a' b' e'
-    after i j = record { words = omega (arith, i .words, j .words, l .words); locals = omega (arith, i .locals, j .locals, l .locals); globals = omega (arith, i .names, j .globals, l .names) }
+owes {s = s} {r = r} a' b' e' x l = record { spare = promised (r .outcome) (λ g. spare-after l (due (r .outcome) (x .moves .used) g) (due (s .outcome) (x .owing .spare) (x .moves .back g))) }
 
 pub spared : {w : List ℕ} {p : Scope} {s : Step} {a b e : ℕ} → Owing w p s a b e → goes-on (s .outcome) → Spare w p s a b e
 spared {s = s} o g = due (s .outcome) (o .spare) g

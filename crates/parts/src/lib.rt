@@ -5,9 +5,11 @@ ghost use Rattle.meaning.specs.Fields.{words};
 ghost use Rattle.meaning.specs.Read.{token};
 ghost use Rattle.meaning.specs.Functions.{parameters};
 ghost use Rattle.meaning.specs.Statements.{new-global, iterate-each, iterate};
-ghost use Rattle.forward.specs.Forward.{fwd-code, fwd-number, fwd-zero, open-call, end-call, open-function, open-fun, declare, name-result, open-for-in, head-for-in, open-catch, open-class, add-method, end-class};
-ghost use Rattle.store.specs.Store.{while-going, Fine};
+ghost use Rattle.forward.specs.Forward.{fwd-code, fwd-number, fwd-zero, open-call, end-call, open-function, open-fun, end-function, declare, name-result, end-fun, open-for-in, head-for-in, open-catch, open-class, add-method, end-class};
+ghost use Rattle.store.specs.Store.{while-going, Fine, inner};
 ghost use Rattle.store.specs.Promise.{uses, nothing, a-register, some-registers, both, Room, Leaf};
+ghost use Rattle.store.specs.Opening.{Leavable};
+ghost use Rattle.code.specs.Cuts.{cut-step, Ends};
 ghost use Rattle.parts.specs.Parts.{Small, tokens-from, a-name, a-name-back, Owing};
 use meaning::Cause;
 use meaning::Literal;
@@ -172,6 +174,25 @@ pub fn open_fun(
     code::emit(work, last, scope, GET_CURRENT_FUNC, own.result, 0, 0, mark)
 }
 
+// visit_function_expr after its body; `scope` is the scope around the function.
+pub fn end_function(
+    work: &mut [u32],
+    out: &mut [u8],
+    step: Step,
+    scope: Scope,
+    first: usize,
+    node: usize,
+    params: usize,
+    register: u32,
+    mark: u32,
+) -> Step
+    requires { ⌜ Fine (now work) (inner scope) step × Leavable (now work) scope × Room (now work) scope (cut-step step first) 0 2 0 × while-going (step .outcome) ((first ≤ step .code) × (register < 255)) × (params < 65536) ⌝ }
+    ensures { λ r. ⌜ Ends first (now (work .entry)) (now (out .entry)) scope step (now (work .exit)) (now (out .exit)) r (uses 2 0 0) (end-function first node params register mark) × Small r ⌝ }
+{
+    let left = code::leave_function(work, out, step, scope, first, node, params);
+    code::closure(work, left, scope, register, mark)
+}
+
 // ---- names of functions and classes
 
 // The register of a function or a class, whose name is known from here on where it is a global's.
@@ -215,6 +236,27 @@ fn name_result(
         store::allocate_register(work, step, scope, name, step.result);
         step
     }
+}
+
+// visit_fn_stmt after its body; `scope` is the scope around the function.
+pub fn end_fun(
+    work: &mut [u32],
+    out: &mut [u8],
+    step: Step,
+    scope: Scope,
+    first: usize,
+    node: usize,
+    name: usize,
+    mark: u32,
+    params: usize,
+    register: u32,
+) -> Step
+    requires { ⌜ Fine (now work) (inner scope) step × Leavable (now work) scope × Owing (now work) scope (cut-step step first) 4 1 (2 - (scope .depth + scope .block)) × while-going (step .outcome) ((first ≤ step .code) × (register < 255)) × (params < 65536) × (name < 65536) ⌝ }
+    ensures { λ r. ⌜ Ends first (now (work .entry)) (now (out .entry)) scope step (now (work .exit)) (now (out .exit)) r (both (uses 4 1 0) (a-name-back scope)) (end-fun first node (token name mark) params register) × Small r ⌝ }
+{
+    let left = code::leave_function(work, out, step, scope, first, node, params);
+    let made = code::closure(work, left, scope, register, mark);
+    name_result(work, made, scope, node, name, mark)
 }
 
 // visit_let_stmt, the name of a global: 10 Redefined.
