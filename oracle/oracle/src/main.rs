@@ -25,6 +25,7 @@ fn run(words: &[&str]) -> Done {
         ["answer", tree, work, room, image] => tell(tree, work, room, Some(image)),
         ["show", image] => show(&load(image)?),
         ["rust", tree] => rust(&load(tree)?),
+        ["rust", tree, image] => rust_image(&load(tree)?, image),
         ["generate", kind, rest @ ..] => generate(kind, &Options::read(rest)?),
         ["sample", path] => save(path, &packed::write(&sample::sample(sample::SEED))),
         ["export", rest @ ..] => {
@@ -98,6 +99,12 @@ fn show(bytes: &[u8]) -> Done {
 fn rust(tree: &[u8]) -> Done {
     judge::check(tree, u64::MAX).map_err(|r| format!("refusal {} at {}: not for the source", r.number, r.place))?;
     print(&format!("{}\n", compare::in_child(tree)))
+}
+
+/// The image that the unchanged source gives, also where the port refuses; it may end this process.
+fn rust_image(tree: &[u8], path: &str) -> Done {
+    let nodes = judge::check(tree, u64::MAX).map_err(|r| format!("refusal {} at {}: not for the source", r.number, r.place))?;
+    save(path, &unchanged::attempt(&nodes)?.to_bytes())
 }
 
 fn generate(kind: &str, o: &Options) -> Done {
