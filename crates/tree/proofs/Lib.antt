@@ -6,3 +6,4 @@ pub mod Shapes
 pub mod Depths
 pub mod Parents
 pub mod Answers
+pub mod Determined
