@@ -1,0 +1,149 @@
+//! The clock: each call by itself, summed over the scripts of a size, in rounds that go over all sizes and all three programs.
+use crate::scripts::Script;
+use std::hint::black_box;
+use std::time::Instant;
+
+extern "C" {
+    fn yengrazul_lower(
+        tree: *const u8,
+        tree_len: usize,
+        work: *mut u32,
+        work_len: usize,
+        out: *mut u8,
+        out_len: usize,
+        answer: *mut u64,
+    );
+    fn yengrazul_check(tree: *const u8, tree_len: usize, work_len: usize, answer: *mut u64);
+}
+
+/// Nanoseconds a node, over all rounds.
+#[derive(Clone, Copy)]
+pub struct Times {
+    pub median: f64,
+    pub least: f64,
+}
+
+/// One size.
+pub struct Row {
+    /// Nodes a script.
+    pub nodes: usize,
+    pub scripts: usize,
+    pub whole: Times,
+    pub check: Times,
+    pub rust: Times,
+}
+
+impl Row {
+    /// How many times as long the Rust takes as the whole call.
+    pub fn ratio(&self) -> f64 {
+        self.rust.median / self.whole.median
+    }
+}
+
+/// The work area and the output that all calls are lent a part of.
+struct Lent {
+    work: Vec<u32>,
+    out: Vec<u8>,
+}
+
+/// A row for each size. The first round is not counted: it warms up.
+pub fn measure(bundles: &[Vec<Script>], rounds: usize) -> Vec<Row> {
+    let most = |of: fn(&Script) -> usize| bundles.iter().flatten().map(of).max().expect("a script");
+    let mut lent = Lent { work: vec![0; most(words)], out: vec![0; most(room)] };
+    bundles.iter().flatten().for_each(|script| same_image(script, &mut lent));
+    let mut times = vec![[const { Vec::new() }; 3]; bundles.len()];
+    for round in 0..=rounds {
+        for (bundle, times) in bundles.iter().zip(&mut times) {
+            let taken = [rust(bundle), whole(bundle, &mut lent), check(bundle)];
+            if round > 0 {
+                times.iter_mut().zip(taken).for_each(|(times, taken)| times.push(taken));
+            }
+        }
+    }
+    bundles.iter().zip(times).map(|(bundle, times)| row(bundle, times)).collect()
+}
+
+fn row(bundle: &[Script], times: [Vec<f64>; 3]) -> Row {
+    let all: usize = bundle.iter().map(|script| script.nodes).sum();
+    let [rust, whole, check] = times.map(|times| summary(times, all as f64));
+    Row { nodes: all / bundle.len(), scripts: bundle.len(), whole, check, rust }
+}
+
+fn summary(mut times: Vec<f64>, nodes: f64) -> Times {
+    times.sort_by(f64::total_cmp);
+    Times { median: times[times.len() / 2] / nodes, least: times[0] / nodes }
+}
+
+/// As many words as a call needs, no more: all of them are cleared.
+fn words(script: &Script) -> usize {
+    12_288 + 16 * script.nodes
+}
+
+fn room(script: &Script) -> usize {
+    script.image.len() + 64
+}
+
+fn nanoseconds(work: impl FnOnce()) -> f64 {
+    let start = Instant::now();
+    work();
+    start.elapsed().as_nanos() as f64
+}
+
+/// `compile` and `leave_function` from ready syntax trees. What they give is dropped when the clock stands.
+fn rust(bundle: &[Script]) -> f64 {
+    let ready: Vec<_> = bundle.iter().map(|script| script.program.clone()).collect();
+    let one = |program| {
+        let mut made = None;
+        let taken = nanoseconds(|| made = Some(black_box(unchanged::compile(black_box(program)))));
+        drop(made);
+        taken
+    };
+    ready.into_iter().map(one).sum()
+}
+
+/// The whole call, from bytes: checks, lowering, image, clearing.
+fn whole(bundle: &[Script], lent: &mut Lent) -> f64 {
+    let mut one = |script: &Script| {
+        let mut answer = [9u64; 3];
+        let taken = nanoseconds(|| answer = lower(black_box(script), lent));
+        assert_eq!(answer, [0, 0, script.image.len() as u64], "the script is accepted");
+        taken
+    };
+    bundle.iter().map(&mut one).sum()
+}
+
+/// Refusals 1 to 6 alone.
+fn check(bundle: &[Script]) -> f64 {
+    let one = |script: &Script| {
+        let mut answer = [9u64; 3];
+        let tree = black_box(&script.tree);
+        let call = || unsafe { yengrazul_check(tree.as_ptr(), tree.len(), words(script), answer.as_mut_ptr()) };
+        let taken = nanoseconds(call);
+        assert_eq!(answer, [0, 0, script.nodes as u64], "the script is accepted");
+        taken
+    };
+    bundle.iter().map(one).sum()
+}
+
+fn lower(script: &Script, lent: &mut Lent) -> [u64; 3] {
+    let (work, out, mut answer) = (&mut lent.work[..words(script)], &mut lent.out[..room(script)], [9u64; 3]);
+    unsafe {
+        yengrazul_lower(
+            script.tree.as_ptr(),
+            script.tree.len(),
+            work.as_mut_ptr(),
+            work.len(),
+            out.as_mut_ptr(),
+            out.len(),
+            answer.as_mut_ptr(),
+        );
+    }
+    answer
+}
+
+/// Both give the same image, or there is nothing to compare.
+fn same_image(script: &Script, lent: &mut Lent) {
+    let length = script.image.len();
+    assert_eq!(lower(script, lent), [0, 0, length as u64], "number, place and length");
+    assert!(lent.out[..length] == script.image, "the image is the Rust's");
+}

@@ -1,0 +1,66 @@
+//! The table, and the page that docs/ keeps.
+use crate::machine::{processor, says};
+use crate::measure::{Row, Times};
+
+/// A row for each size, and how much a node of the largest costs more than one of the smallest.
+pub fn table(rows: &[Row]) -> String {
+    let mut text = String::from(
+        "| nodes a script | scripts | whole call | check alone | Rust compile | Rust / whole call |\n|---|---|---|---|---|---|\n",
+    );
+    for row in rows {
+        let [whole, check, rust] = [row.whole, row.check, row.rust].map(both);
+        text += &format!(
+            "| {} | {} | {whole} | {check} | {rust} | {:.1} |\n",
+            with_commas(row.nodes),
+            row.scripts,
+            row.ratio()
+        );
+    }
+    let columns: [fn(&Row) -> Times; 3] = [|row| row.whole, |row| row.check, |row| row.rust];
+    let [whole, check, rust] = columns.map(|of| growth(rows, of));
+    text + &format!("| growth | | {whole} | {check} | {rust} | |\n")
+}
+
+fn both(times: Times) -> String {
+    format!("{:.1} ({:.1})", times.median, times.least)
+}
+
+fn growth(rows: &[Row], of: fn(&Row) -> Times) -> String {
+    let [first, .., last] = rows else { return String::new() };
+    format!("{:+.0} %", 100.0 * (of(last).median / of(first).median - 1.0))
+}
+
+fn with_commas(n: usize) -> String {
+    if n < 1000 {
+        return n.to_string();
+    }
+    format!("{},{:03}", n / 1000, n % 1000)
+}
+
+/// docs/BENCHMARK.md.
+pub fn page(rows: &[Row], rounds: usize, date: &str) -> String {
+    let (processor, rustc, kit) = (processor(), says("rustc", "--version"), says("rt", "version"));
+    let table = table(rows);
+    format!(
+        "# Benchmark
+
+Written by `bench/run` on {date}. Processor: {processor}. Rust: {rustc}, for release. Rattle: {kit}.
+
+Nanoseconds a node: the median of {rounds} rounds, and the least in brackets. Ratios and growth are of the medians, from this one run.
+
+{table}
+![nanoseconds a node against nodes](benchmark.svg)
+
+- Whole call: `yengrazul_lower` from bytes to bytes. It checks the tree, lowers it, writes the image, and clears the work area and the output.
+- Check alone: `yengrazul_check`, refusals 1 to 6.
+- Rust compile: `compile` and `leave_function` of the unchanged source from a ready syntax tree. It reads no bytes, checks nothing, and writes no
+  image; what it gives is dropped while the clock stands.
+
+How it is measured. One process lowers generated scripts: functions with ordinary bodies, always accepted; before the clock starts each image is compared with
+the Rust's, byte for byte. For each size there are as many different scripts as make about 30,000 nodes in all, and a round goes over all of them: a small
+script that is repeated is learnt by the branch predictor and looks faster than it is. Each round goes over all sizes, and in each over the three
+programs, so that a disturbance meets all. The work area has 12,288 words and 16 for each node, the output 64 bytes more than the image. Growth is from the
+smallest size to the largest.
+"
+    )
+}

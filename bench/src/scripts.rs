@@ -1,0 +1,38 @@
+//! What is lowered: for each size as many different scripts as make the same number of nodes in all. One small script, lowered
+//! again and again, would be learnt by the branch predictor and fit the caches; so every size meets them with as much text.
+use files::tree::fields;
+use oracle::rng::Rng;
+use oracle::trees::order::{file, Order};
+use oracle::trees::script::script;
+use unchanged::stmt::Stmt;
+
+/// About so many nodes a script.
+pub const SIZES: [usize; 4] = [1_000, 3_000, 10_000, 30_000];
+
+/// About so many nodes in all the scripts of a size.
+const NODES: usize = 30_000;
+
+/// The first script's seed; the others have the next ones.
+const SEED: u64 = 7;
+
+pub struct Script {
+    pub tree: Vec<u8>,
+    pub nodes: usize,
+    /// The Rust's own image.
+    pub image: Vec<u8>,
+    /// The Rust's syntax tree.
+    pub program: Vec<Stmt>,
+}
+
+/// Scripts of about so many nodes.
+pub fn bundle(about: usize) -> Vec<Script> {
+    (0..NODES / about).map(|k| one(SEED + k as u64, about)).collect()
+}
+
+fn one(seed: u64, about: usize) -> Script {
+    let tree = file(&script(&mut Rng::new(seed), about), Order::Post);
+    let fields = fields(&tree).expect("whole fields");
+    let (nodes, image, program) =
+        (fields.len(), unchanged::lower(&fields).to_bytes(), unchanged::read::program(&fields));
+    Script { tree, nodes, image, program }
+}

@@ -1,0 +1,125 @@
+/* Lowers a tree file to an image file (document 01). Link target/staticlib/liblower.a, which `rt staticlib lower` writes (x86-64, Linux). */
+#ifndef YENGRAZUL_H
+#define YENGRAZUL_H
+
+#include <stddef.h>
+#include <stdint.h>
+
+#ifdef __cplusplus
+extern "C" {
+#endif
+
+/*
+ * The whole call. It reads tree[0..tree_len), writes all of work, out and answer, and touches nothing else.
+ *
+ *   answer[0]  number: 0 accepted, else a refusal of enum yengrazul_refusal
+ *   answer[1]  place: the node at fault, counted from 0 in the order of the fields (of 1, the whole fields before it); 0 where accepted
+ *   answer[2]  length: how many bytes of out are the image; 0 where refused
+ *
+ * Buffers. They may hold anything before the call. Afterwards work is all zero, out is the image and then zeros, or all zero where
+ * refused, and tree is as it was. work has YENGRAZUL_WORDS(nodes) words or more (else 6), out has room for the image (else 18).
+ * All of work and out is cleared in every call, so larger ones cost time. Nothing is allocated and nothing outlives the call.
+ *
+ * The caller's part. The four areas do not overlap, are aligned as their types are, and no pointer is NULL, not even one whose length is 0.
+ * Any bytes may be asked about, none at all included: what is no tree is refused.
+ *
+ * Threads. There is no state outside the areas that are lent: calls on distinct work, out and answer may run at the same time, on one tree too.
+ *
+ * Stack. A call takes less than YENGRAZUL_STACK_BYTES of the calling thread's stack, whatever the tree.
+ */
+void yengrazul_lower(const uint8_t *tree, size_t tree_len, uint32_t *work, size_t work_len, uint8_t *out, size_t out_len,
+                     uint64_t answer[3]);
+
+/* Refusals 1 to 6 alone, for a work area of work_len words; where there is none the length is the number of nodes. This one is in libtree.a. */
+void yengrazul_check(const uint8_t *tree, size_t tree_len, size_t work_len, uint64_t answer[3]);
+
+/* STACK_BYTES: an upper bound; tests/parts/45-worst measures what the worst tree takes. */
+#define YENGRAZUL_STACK_BYTES 1048576
+
+/* A tree of more nodes is refused (2). */
+#define YENGRAZUL_NODES_MOST 32768
+
+/* The words of 32 bits that the work area needs for so many nodes. */
+#define YENGRAZUL_WORDS(nodes) ((size_t)12288 + (size_t)16 * (size_t)(nodes))
+
+/* No image is longer: 256 prototypes of 255 captures and 32,767 instructions, 1,024 constants. Most are some 8 bytes for each node. */
+#define YENGRAZUL_IMAGE_MOST ((size_t)256 * (13 + 255 * 5 + 32767 * 9) + (size_t)1024 * 11)
+
+/* answer[0], and when it is given. 1 to 6 are about the whole input, in that order; 7 to 17 are the first met as the tree is lowered; 18 comes last. */
+enum yengrazul_refusal {
+    YENGRAZUL_ACCEPTED = 0,
+    YENGRAZUL_FRAME = 1,
+    YENGRAZUL_MANY = 2,
+    YENGRAZUL_SHAPE = 3,
+    YENGRAZUL_TREE = 4,
+    YENGRAZUL_DEPTH = 5,
+    YENGRAZUL_WORK = 6,
+    YENGRAZUL_REGISTERS = 7,
+    YENGRAZUL_CAPTURES = 8,
+    YENGRAZUL_UNDEFINED = 9,
+    YENGRAZUL_REDEFINED = 10,
+    YENGRAZUL_STRAY = 11,
+    YENGRAZUL_EMPTY = 12,
+    YENGRAZUL_RETURN = 13,
+    YENGRAZUL_CONSTANTS = 14,
+    YENGRAZUL_PROTOTYPES = 15,
+    YENGRAZUL_NESTING = 16,
+    YENGRAZUL_LONG = 17,
+    YENGRAZUL_ROOM = 18
+};
+
+/* The name of a number, as document 01's table has it: "Registers" for 7. */
+static inline const char *yengrazul_name(uint64_t number)
+{
+    static const char *const names[] = {
+        "Accepted",  "Frame", "Many",  "Shape",  "Tree",      "Depth",      "Work",    "Registers", "Captures", "Undefined",
+        "Redefined", "Stray", "Empty", "Return", "Constants", "Prototypes", "Nesting", "Long",      "Room",
+    };
+    return number < sizeof names / sizeof *names ? names[number] : "Unknown";
+}
+
+/* The cause of a refusal in words, for a line such as "refused 7 Registers at node 412: a function may take 255 registers". */
+static inline const char *yengrazul_cause(uint64_t number)
+{
+    static const char *const causes[] = {
+        "accepted",
+        "a header or a payload runs past the end, or there is no field at all",
+        "a tree may have 32,768 nodes",
+        "a tag, a payload, an operator, a name or a child is not lawful here",
+        "each node but the last must be a child exactly once",
+        "a node may be 128 deep, the program being 1",
+        "the work area needs 12,288 words and 16 more for each node",
+        "a function may take 255 registers",
+        "a function may have 255 captures",
+        "the variable is found nowhere: no local, capture, builtin or global has its name",
+        "this global is known already",
+        "break and continue must stand in a loop of their own function",
+        "a function body of one statement must give an instruction",
+        "a return can give back registers 0 to 253, and its value is in register 254",
+        "a program may have 1,024 constants",
+        "a program may have 256 prototypes, the main one counted",
+        "8 functions may be open at once, the main one counted",
+        "a function may have 32,767 instructions, its last Return counted",
+        "the image is longer than the output",
+    };
+    return number < sizeof causes / sizeof *causes ? causes[number] : "no refusal has this number";
+}
+
+/* How many whole fields stand at the front of a tree, counted no further than YENGRAZUL_NODES_MOST: for YENGRAZUL_WORDS. */
+static inline size_t yengrazul_nodes(const uint8_t *tree, size_t tree_len)
+{
+    size_t nodes = 0, at = 0;
+    while (nodes < YENGRAZUL_NODES_MOST && tree_len - at >= 3) {
+        size_t payload = (size_t)tree[at + 1] << 8 | tree[at + 2];
+        if (tree_len - at - 3 < payload) break;
+        at += 3 + payload;
+        nodes++;
+    }
+    return nodes;
+}
+
+#ifdef __cplusplus
+}
+#endif
+
+#endif

@@ -1,0 +1,21 @@
+//! Links liblower.a, which `rt staticlib lower` writes to target/staticlib of the project; YENGRAZUL_LIB may name another folder.
+use std::path::Path;
+
+fn main() {
+    println!("cargo::rerun-if-changed=build.rs");
+    println!("cargo::rerun-if-env-changed=YENGRAZUL_LIB");
+    let root = Path::new(env!("CARGO_MANIFEST_DIR")).join("..");
+    // a relative folder is meant from the project's root
+    let folder = root.join(std::env::var_os("YENGRAZUL_LIB").unwrap_or("target/staticlib".into()));
+    let archive = folder.join("liblower.a");
+    println!("cargo::rerun-if-changed={}", archive.display());
+    if archive.exists() {
+        println!("cargo::rustc-link-search=native={}", folder.display());
+        println!("cargo::rustc-link-lib=static=lower");
+    } else {
+        println!(
+            "cargo::error={} is missing: run `rt staticlib lower` in the project, or set YENGRAZUL_LIB to the folder of liblower.a",
+            archive.display()
+        );
+    }
+}

@@ -1,0 +1,62 @@
+//! Lowers Grotsky syntax trees to register bytecode: a tree file goes in, an image file comes out, or a refusal with its
+//! cause and the node at fault. The work is done by `yengrazul_lower`, a function of Rattle that is proved to give document
+//! 01's answer for every byte string; this crate lends it buffers and puts its answer into types.
+//!
+//! ```
+//! // the empty program: one field, tag 1E, without payload
+//! let image = yengrazul::lower(&[0x1E, 0, 0])?;
+//! assert_eq!(image.as_bytes().len(), 22);
+//!
+//! // a break that stands in no loop
+//! let refusal = yengrazul::lower(&[0x16, 0, 2, 0, 5, 0x1E, 0, 2, 0, 0]).unwrap_err();
+//! assert_eq!(refusal.cause, yengrazul::Cause::Stray);
+//! assert_eq!(
+//!     refusal.to_string(),
+//!     "refused 11 Stray at node 0: break and continue must stand in a loop of their own function"
+//! );
+//! # Ok::<(), yengrazul::Refusal>(())
+//! ```
+//!
+//! To build it, `rt staticlib lower` must have written `target/staticlib/liblower.a` in the project; `YENGRAZUL_LIB` may name
+//! another folder that holds `liblower.a`.
+#![deny(missing_docs, unsafe_op_in_unsafe_fn)]
+
+mod lowerer;
+mod refusal;
+
+pub use lowerer::{Lowerer, LARGEST_IMAGE, MOST_NODES, STACK_BYTES};
+pub use refusal::{Cause, Refusal};
+
+/// The image of a tree file, or the refusal. Any bytes may be asked about.
+///
+/// The call runs on a thread of its own, whose stack is large enough for every tree, so it may be made from any thread.
+/// [`Lowerer`] does the same and keeps its buffers for the next call.
+///
+/// # Panics
+///
+/// Where the system gives no thread.
+pub fn lower(tree: &[u8]) -> Result<Image, Refusal> {
+    Lowerer::new().lower(tree)
+}
+
+/// An image file: prototypes, the main one last, then constants, as document 01 lays them out.
+#[derive(Clone, Debug, PartialEq, Eq, Hash)]
+pub struct Image(Vec<u8>);
+
+impl Image {
+    /// The bytes of the file.
+    pub fn as_bytes(&self) -> &[u8] {
+        &self.0
+    }
+
+    /// The bytes of the file, owned.
+    pub fn into_bytes(self) -> Vec<u8> {
+        self.0
+    }
+}
+
+impl AsRef<[u8]> for Image {
+    fn as_ref(&self) -> &[u8] {
+        &self.0
+    }
+}

@@ -1,0 +1,102 @@
+//! Refusals: document 01's numbers with their names, and the cause in words.
+use std::error::Error;
+use std::fmt::{Display, Formatter};
+
+macro_rules! causes {
+    ($($number:literal $variant:ident $name:literal $text:literal,)*) => {
+        /// Why a tree was refused; the numbers and names are those of document 01.
+        #[derive(Clone, Copy, Debug, PartialEq, Eq, PartialOrd, Ord, Hash)]
+        #[repr(u8)]
+        pub enum Cause {
+            $(#[doc = concat!($number, ": ", $text, ".")] $variant = $number,)*
+        }
+
+        impl Cause {
+            /// All of them, by their numbers.
+            pub const ALL: [Cause; 18] = [$(Cause::$variant),*];
+
+            /// The name in document 01.
+            pub fn name(self) -> &'static str {
+                match self {
+                    $(Cause::$variant => $name,)*
+                }
+            }
+
+            /// The cause in words.
+            pub fn text(self) -> &'static str {
+                match self {
+                    $(Cause::$variant => $text,)*
+                }
+            }
+        }
+    };
+}
+
+// include/yengrazul.h and crates/lower_main/src/words.rt have the same words; tests/same_words.rs compares them.
+causes! {
+    1 Frame "Frame" "a header or a payload runs past the end, or there is no field at all",
+    2 Many "Many" "a tree may have 32,768 nodes",
+    3 Shape "Shape" "a tag, a payload, an operator, a name or a child is not lawful here",
+    4 Tree "Tree" "each node but the last must be a child exactly once",
+    5 Depth "Depth" "a node may be 128 deep, the program being 1",
+    6 Work "Work" "the work area needs 12,288 words and 16 more for each node",
+    7 Registers "Registers" "a function may take 255 registers",
+    8 Captures "Captures" "a function may have 255 captures",
+    9 Undefined "Undefined" "the variable is found nowhere: no local, capture, builtin or global has its name",
+    10 Redefined "Redefined" "this global is known already",
+    11 Stray "Stray" "break and continue must stand in a loop of their own function",
+    12 Empty "Empty" "a function body of one statement must give an instruction",
+    13 Return "Return" "a return can give back registers 0 to 253, and its value is in register 254",
+    14 Constants "Constants" "a program may have 1,024 constants",
+    15 Prototypes "Prototypes" "a program may have 256 prototypes, the main one counted",
+    16 Nesting "Nesting" "8 functions may be open at once, the main one counted",
+    17 Long "Long" "a function may have 32,767 instructions, its last Return counted",
+    18 Room "Room" "the image is longer than the output",
+}
+
+impl Cause {
+    /// The number in document 01, 1 to 18.
+    pub fn number(self) -> u64 {
+        self as u64
+    }
+
+    /// The cause that has this number.
+    pub fn from_number(number: u64) -> Option<Cause> {
+        let index = usize::try_from(number.checked_sub(1)?).ok()?;
+        Cause::ALL.get(index).copied()
+    }
+}
+
+/// As in `7 Registers`.
+impl Display for Cause {
+    fn fmt(&self, f: &mut Formatter) -> std::fmt::Result {
+        write!(f, "{} {}", self.number(), self.name())
+    }
+}
+
+/// What a refused tree is told.
+///
+/// ```
+/// use yengrazul::{Cause, Refusal};
+/// let refusal = Refusal { cause: Cause::Registers, node: 412 };
+/// assert_eq!(refusal.to_string(), "refused 7 Registers at node 412: a function may take 255 registers");
+/// ```
+#[derive(Clone, Copy, Debug, PartialEq, Eq, Hash)]
+pub struct Refusal {
+    /// Why.
+    pub cause: Cause,
+    /// Where: nodes are counted from 0, in the order of their fields. Of [`Cause::Frame`], the whole fields before it.
+    pub node: u64,
+}
+
+impl Display for Refusal {
+    fn fmt(&self, f: &mut Formatter) -> std::fmt::Result {
+        let (cause, node) = (self.cause, self.node);
+        match cause {
+            Cause::Frame => write!(f, "refused {cause} after {node} whole fields: {}", cause.text()),
+            _ => write!(f, "refused {cause} at node {node}: {}", cause.text()),
+        }
+    }
+}
+
+impl Error for Refusal {}

@@ -1,0 +1,57 @@
+//! One wording for one cause: the crate, the C header and the command line say the same; and the crate and the header the same sizes.
+use yengrazul::{Cause, Refusal, LARGEST_IMAGE, MOST_NODES, STACK_BYTES};
+
+fn text_of(path: &str) -> String {
+    let path = format!("{}/../{path}", env!("CARGO_MANIFEST_DIR"));
+    std::fs::read_to_string(&path).unwrap_or_else(|problem| panic!("{path}: {problem}"))
+}
+
+/// The quoted words of a text, in their order.
+fn quoted(text: &str) -> Vec<&str> {
+    text.split('"').skip(1).step_by(2).collect()
+}
+
+/// The names stand in their order in a text, and so do the texts.
+fn same_words(path: &str) {
+    let text = text_of(path);
+    let quoted = quoted(&text);
+    let stands = |words: [&str; 18]| quoted.windows(18).any(|window| window == words);
+    assert!(stands(Cause::ALL.map(Cause::name)), "{path} has the names of the causes in other words");
+    assert!(stands(Cause::ALL.map(Cause::text)), "{path} has the causes in other words");
+}
+
+#[test]
+fn of_the_header() {
+    same_words("include/yengrazul.h");
+}
+
+#[test]
+fn sizes_of_the_header() {
+    let header = text_of("include/yengrazul.h");
+    let defined = |name: &str| {
+        let line = header.lines().find_map(|line| line.strip_prefix(&format!("#define {name} ")));
+        line.unwrap_or_else(|| panic!("{name} is defined")).to_string()
+    };
+    assert_eq!(defined("YENGRAZUL_STACK_BYTES"), STACK_BYTES.to_string());
+    assert_eq!(defined("YENGRAZUL_NODES_MOST"), MOST_NODES.to_string());
+    // tests/c/lower.c holds the header's sum to the same number
+    assert_eq!(LARGEST_IMAGE, 75_836_160);
+}
+
+#[test]
+fn numbers_are_those_of_document_01() {
+    for (index, cause) in Cause::ALL.into_iter().enumerate() {
+        assert_eq!(cause.number(), index as u64 + 1);
+        assert_eq!(Cause::from_number(cause.number()), Some(cause));
+    }
+    assert_eq!([0, 19, u64::MAX].map(Cause::from_number), [None; 3]);
+}
+
+#[test]
+fn a_refusal_as_a_line() {
+    let refusal = Refusal { cause: Cause::Return, node: 509 };
+    assert_eq!(
+        refusal.to_string(),
+        "refused 13 Return at node 509: a return can give back registers 0 to 253, and its value is in register 254"
+    );
+}

@@ -1,0 +1,91 @@
+/* The header and the static library from C: reference programs 9 and 10, no bytes at all, short buffers, and buffers full of noise before each call. */
+#include "yengrazul.h"
+
+#include <inttypes.h>
+#include <stdio.h>
+#include <string.h>
+
+/* 9: global function f (name 9), parameter x (name 10), body minus x. */
+static const uint8_t minus_x[] = {
+    0x04, 0, 4, 0, 10, 0, 9,                            /* 0: variable x */
+    0x05, 0, 6, 0, 2, 0, 10, 0, 0,                      /* 1: unary Minus of 0 */
+    0x10, 0, 2, 0, 1,                                   /* 2: expression 1 */
+    0x1C, 0, 12, 0, 9, 0, 11, 0, 1, 0, 10, 0, 12, 0, 2, /* 3: function statement f, one parameter, body 2 */
+    0x1E, 0, 2, 0, 3,                                   /* 4: program */
+};
+
+static const uint8_t minus_x_image[] = {
+    0x41, 0, 10, 0, 9, 0, 1, 0, 2, 0, 0, 0, 4,       /* f: one parameter, two registers, no capture, four instructions */
+    0x43, 0, 6, 46, 0, 0, 0, 0, 11,                  /* GetCurrentFunc 0 0 0 */
+    0x43, 0, 6, 18, 1, 1, 0, 0, 10,                  /* Neg 1 1 0 */
+    0x43, 0, 6, 20, 1, 3, 0, 0, 10,                  /* Return 1 3 0 */
+    0x43, 0, 6, 20, 0, 0, 0, 255, 255,               /* Return 0 0 0, no mark */
+    0x41, 0, 10, 255, 255, 0, 0, 0, 1, 0, 0, 0, 3,   /* main */
+    0x43, 0, 6, 23, 0, 0, 0, 0, 11,                  /* Closure 0 0 0 */
+    0x43, 0, 6, 45, 0, 0, 0, 0, 11,                  /* SetGlobal 0 0 0 */
+    0x43, 0, 6, 20, 0, 0, 0, 255, 255,               /* Return 0 0 0 */
+    0x45, 0, 2, 0, 9,                                /* constant 0: text f */
+};
+
+/* 10: the same with body x alone. */
+static const uint8_t x_alone[] = {
+    0x04, 0, 4, 0, 10, 0, 9,                            /* 0: variable x */
+    0x10, 0, 2, 0, 0,                                   /* 1: expression 0 */
+    0x1C, 0, 12, 0, 9, 0, 11, 0, 1, 0, 10, 0, 12, 0, 1, /* 2: function statement f */
+    0x1E, 0, 2, 0, 2,                                   /* 3: program */
+};
+
+static uint32_t work[YENGRAZUL_WORDS(5)];
+static uint8_t out[200];
+static int failures;
+
+static void expect(int holds, const char *program, const char *what)
+{
+    if (holds) return;
+    printf("FAILED: %s: %s\n", program, what);
+    failures++;
+}
+
+/* One call on buffers full of noise, held to a number and a place, and to an image where it is accepted. */
+static void call(const char *program, const uint8_t *tree, size_t tree_len, size_t words, size_t room, uint64_t number, uint64_t place,
+                 const uint8_t *image, size_t length)
+{
+    uint64_t answer[3] = {7, 7, 7};
+    memset(work, 0xA5, sizeof work);
+    memset(out, 0x5A, sizeof out);
+    yengrazul_lower(tree, tree_len, work, words, out, room, answer);
+    expect(answer[0] == number && answer[1] == place && answer[2] == length, program, "number, place or length is wrong");
+    expect(length == 0 || memcmp(out, image, length) == 0, program, "the image is wrong");
+    for (size_t i = 0; i < sizeof work / sizeof *work; i++)
+        expect(work[i] == (i < words ? 0 : 0xA5A5A5A5), program, "the work area is not zero, or was left");
+    for (size_t i = length; i < sizeof out; i++)
+        expect(out[i] == (i < room ? 0 : 0x5A), program, "the output behind the image is not zero, or was left");
+    if (number == YENGRAZUL_ACCEPTED)
+        printf("%s: accepted, %" PRIu64 " bytes\n", program, answer[2]);
+    else
+        printf("%s: refused %" PRIu64 " %s at %" PRIu64 ": %s\n", program, answer[0], yengrazul_name(answer[0]), answer[1],
+               yengrazul_cause(answer[0]));
+}
+
+int main(void)
+{
+    const size_t words = YENGRAZUL_WORDS(5), length = sizeof minus_x_image;
+    expect(yengrazul_nodes(minus_x, sizeof minus_x) == 5, "nodes", "program 9 has five");
+    expect(yengrazul_nodes(minus_x, sizeof minus_x - 1) == 4, "nodes", "a field that is cut is none");
+    expect(yengrazul_nodes(minus_x, 0) == 0, "nodes", "no bytes have none");
+    expect(YENGRAZUL_IMAGE_MOST == 75836160, "sizes", "the longest image");
+    expect(strcmp(yengrazul_name(19), "Unknown") == 0, "names", "19 is none");
+
+    call("program 9", minus_x, sizeof minus_x, words, sizeof out, YENGRAZUL_ACCEPTED, 0, minus_x_image, length);
+    call("program 9 in just its room", minus_x, sizeof minus_x, words, length, YENGRAZUL_ACCEPTED, 0, minus_x_image, length);
+    call("program 9 in a byte less", minus_x, sizeof minus_x, words, length - 1, YENGRAZUL_ROOM, 4, NULL, 0);
+    call("program 9 with a word less", minus_x, sizeof minus_x, words - 1, sizeof out, YENGRAZUL_WORK, 0, NULL, 0);
+    call("program 9 with no work area", minus_x, sizeof minus_x, 0, sizeof out, YENGRAZUL_WORK, 0, NULL, 0);
+    call("program 9 cut", minus_x, sizeof minus_x - 1, words, sizeof out, YENGRAZUL_FRAME, 4, NULL, 0);
+    call("program 10", x_alone, sizeof x_alone, words, sizeof out, YENGRAZUL_EMPTY, 2, NULL, 0);
+    call("no bytes", minus_x, 0, words, sizeof out, YENGRAZUL_FRAME, 0, NULL, 0);
+    call("no bytes, no buffers", minus_x, 0, 0, 0, YENGRAZUL_FRAME, 0, NULL, 0);
+    call("program 9 again", minus_x, sizeof minus_x, words, sizeof out, YENGRAZUL_ACCEPTED, 0, minus_x_image, length);
+    printf("%d failures\n", failures);
+    return failures != 0;
+}
