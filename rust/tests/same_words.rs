@@ -11,18 +11,28 @@ fn quoted(text: &str) -> Vec<&str> {
     text.split('"').skip(1).step_by(2).collect()
 }
 
-/// The names stand in their order in a text, and so do the texts.
-fn same_words(path: &str) {
-    let text = text_of(path);
-    let quoted = quoted(&text);
-    let stands = |words: [&str; 18]| quoted.windows(18).any(|window| window == words);
-    assert!(stands(Cause::ALL.map(Cause::name)), "{path} has the names of the causes in other words");
-    assert!(stands(Cause::ALL.map(Cause::text)), "{path} has the causes in other words");
+#[test]
+fn of_the_header() {
+    let header = text_of("include/yengrazul.h");
+    let stands = |words: [&str; 18]| quoted(&header).windows(18).any(|window| window == words);
+    assert!(stands(Cause::ALL.map(Cause::name)), "the names in their order");
+    assert!(stands(Cause::ALL.map(Cause::text)), "the causes in their order");
 }
 
 #[test]
-fn of_the_header() {
-    same_words("include/yengrazul.h");
+fn of_the_command_line() {
+    let words = text_of("crates/lower_main/src/words.rt");
+    let words = quoted(&words);
+    let frame = format!(" whole fields: {}", Cause::Frame.text());
+    assert!(words.contains(&"refused 1 Frame after ") && words.contains(&frame.as_str()), "{frame}");
+    // name and text of the others, by their numbers
+    let others: Vec<&str> = Cause::ALL[1..].iter().flat_map(|cause| [cause.name(), cause.text()]).collect();
+    let from = words.iter().position(|word| *word == "Many").expect("the table");
+    assert!(words[from..].len() >= others.len(), "the whole table");
+    for (found, due) in words[from..].iter().zip(others) {
+        // the last one adds how large the output is
+        assert!(*found == due || due == Cause::Room.text() && found.starts_with(due), "{found:?} where {due:?} is due");
+    }
 }
 
 #[test]
