@@ -1,39 +1,7 @@
 //! The command line of the runner, with the libraries that were linked; README.md says what each word does.
-use differential::calls::{Check, Lower};
+use differential::linked;
 use differential::run::{run, Plan};
 use std::process::ExitCode;
-
-#[cfg(has_lower)]
-extern "C" {
-    fn yengrazul_lower(
-        tree: *const u8,
-        tree_len: usize,
-        work: *mut u32,
-        work_len: usize,
-        out: *mut u8,
-        out_len: usize,
-        answer: *mut u64,
-    );
-}
-
-#[cfg(has_check)]
-extern "C" {
-    fn yengrazul_check(tree: *const u8, tree_len: usize, work_len: usize, answer: *mut u64);
-}
-
-fn linked_lower() -> Option<Lower> {
-    #[cfg(has_lower)]
-    return Some(yengrazul_lower);
-    #[cfg(not(has_lower))]
-    None
-}
-
-fn linked_check() -> Option<Check> {
-    #[cfg(has_check)]
-    return Some(yengrazul_check);
-    #[cfg(not(has_check))]
-    None
-}
 
 fn main() -> ExitCode {
     let words: Vec<String> = std::env::args().skip(1).collect();
@@ -58,8 +26,8 @@ fn plan(words: &[String]) -> Result<Plan, String> {
         fixed: true,
         threads: std::thread::available_parallelism().map_or(1, |n| n.get()),
         announce: false,
-        lower: linked_lower(),
-        check: linked_check(),
+        lower: linked::lower(),
+        check: linked::check(),
     };
     let mut words = words.iter();
     while let Some(word) = words.next() {

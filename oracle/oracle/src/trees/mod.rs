@@ -1,5 +1,6 @@
 //! Trees to ask about: built by hand, at the limits of 01, at random, and damaged.
 pub mod build;
+pub mod chains;
 pub mod crowd;
 pub mod damage;
 pub mod order;
@@ -10,3 +11,4 @@ pub mod rule;
 pub mod scope;
 pub mod script;
 pub mod values;
+pub mod worst;

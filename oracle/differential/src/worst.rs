@@ -1,0 +1,71 @@
+//! The trees that cost most, each timed through the static library, with the stack that its call needs; README.md says what each word does.
+use differential::calls::Lower;
+use differential::lent::Lent;
+use differential::linked;
+use differential::stack::{Stack, Took};
+use oracle::judge::work_for;
+use oracle::rng::Rng;
+use oracle::trees::order::post;
+use oracle::trees::worst::{worst, Worst};
+use std::process::ExitCode;
+
+/// Seconds of the processor that a call may take.
+const LIMIT: f64 = 2.0;
+
+fn main() -> ExitCode {
+    let words: Vec<String> = std::env::args().skip(1).collect();
+    let slow = words == ["--slow", "yes"];
+    let Some(lower) = linked::lower() else {
+        eprintln!("worst: no library is linked: set YENGRAZUL_LIB to the folder of liblower.a");
+        return ExitCode::from(2);
+    };
+    if !slow && !words.is_empty() {
+        eprintln!("worst: no option {}", words.join(" "));
+        return ExitCode::from(2);
+    }
+    println!("{:44} {:>6} {:>9} {:>8}", "tree", "nodes", "ms", "stack");
+    let (mut stack, mut rng, mut faults, mut deepest) = (Stack::new(), Rng::new(1), 0, 0);
+    let trees: Vec<Worst> = worst().into_iter().filter(|w| slow || !w.slow).collect();
+    for w in &trees {
+        let (took, verdict) = call(lower, w, &mut stack, &mut rng);
+        let verdict = verdict.and(in_time(w, &took));
+        let words = verdict.as_ref().map_or_else(|fault| format!("  WRONG: {fault}"), |()| String::new());
+        println!("{:44} {:6} {:9.1} {:8}{words}", w.name, w.tree.size(), took.seconds * 1000.0, took.stack_bytes);
+        faults += usize::from(verdict.is_err());
+        deepest = deepest.max(took.stack_bytes);
+    }
+    println!("{} trees, {faults} wrong, the deepest stack {deepest} bytes", trees.len());
+    ExitCode::from(u8::from(faults > 0))
+}
+
+fn in_time(w: &Worst, took: &Took) -> Result<(), String> {
+    match took.seconds < LIMIT || w.slow {
+        true => Ok(()),
+        false => Err(format!("over {LIMIT} seconds")),
+    }
+}
+
+/// The call, on noise; then the number, the words and the bytes that must be zero, the guards.
+fn call(function: Lower, w: &Worst, stack: &mut Stack, rng: &mut Rng) -> (Took, Result<(), String>) {
+    let tree = Lent::holding(rng, &post(&w.tree));
+    let mut work: Lent<u32> = Lent::noise(rng, work_for(w.tree.size()) as usize);
+    let mut out: Lent<u8> = Lent::noise(rng, w.room);
+    let mut answer: Lent<u64> = Lent::noise(rng, 3);
+    let (t, words, bytes, told) = (tree.slice(), work.slice_mut(), out.slice_mut(), answer.slice_mut());
+    let took = stack.run(|| unsafe {
+        let (w, b) = (words.as_mut_ptr(), bytes.as_mut_ptr());
+        function(t.as_ptr(), t.len(), w, words.len(), b, bytes.len(), told.as_mut_ptr())
+    });
+    let (number, length) = (answer.slice()[0], answer.slice()[2] as usize);
+    let guarded = tree.is_guarded() && work.is_guarded() && out.is_guarded() && answer.is_guarded();
+    let verdict = match () {
+        _ if number != u64::from(w.due) => Err(format!("number {number} where {} is due", w.due)),
+        _ if !guarded => Err("a guard word was written to".into()),
+        _ if work.slice().iter().any(|word| *word != 0) => Err("the work area is not all zero".into()),
+        _ if out.slice()[length..].iter().any(|byte| *byte != 0) => {
+            Err("the output is not zero behind the image".into())
+        }
+        _ => Ok(()),
+    };
+    (took, verdict)
+}

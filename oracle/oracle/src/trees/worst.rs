@@ -1,0 +1,214 @@
+//! Trees that cost much: each aims at something that is done more than once for a node, an instruction or a local.
+use super::build::*;
+use super::chains::chains;
+
+/// As many nodes as a file may have.
+pub const MOST: usize = 32_768;
+
+/// A tree with what it is called, the bytes of output that are lent, and the number that is due: 0 where it is accepted.
+pub struct Worst {
+    pub name: &'static str,
+    pub tree: Node,
+    pub room: usize,
+    pub due: u8,
+    /// Whether it takes more than two seconds, as README.md says.
+    pub slow: bool,
+}
+
+pub(super) const M: u16 = 7;
+pub(super) const A: Pair = (20, M);
+
+pub(super) fn a() -> Node {
+    variable(A)
+}
+
+pub(super) fn of(name: &'static str, tree: Node) -> Worst {
+    Worst { name, tree, room: 400_000, due: 0, slow: false }
+}
+
+/// With an output for the code of up to 193 functions.
+fn large(name: &'static str, tree: Node) -> Worst {
+    Worst { room: 48_000_000, ..of(name, tree) }
+}
+
+pub(super) fn refused(due: u8, worst: Worst) -> Worst {
+    Worst { due, ..worst }
+}
+
+/// A program of these statements, filled up to the most nodes with empty blocks.
+pub(super) fn full(body: Vec<Node>) -> Node {
+    filled(MOST, body)
+}
+
+fn filled(nodes: usize, mut body: Vec<Node>) -> Node {
+    let size = 1 + body.iter().map(Node::size).sum::<usize>();
+    assert!(size <= nodes, "{size} nodes");
+    body.extend((size..nodes).map(|_| block(vec![])));
+    program(body)
+}
+
+fn alone(x: Node) -> Node {
+    full(vec![expression(x)])
+}
+
+/// In a block of main where a is a local.
+pub(super) fn with_a(body: Vec<Node>) -> Node {
+    full(vec![block([vec![let_(A, Some(number(1.0)))], body].concat())])
+}
+
+pub(super) fn times(n: usize, node: impl Fn() -> Node) -> Vec<Node> {
+    (0..n).map(|_| node()).collect()
+}
+
+/// A row within statements within each other, so many deep.
+pub(super) fn nested(deep: usize, body: Vec<Node>, around: &dyn Fn(Vec<Node>) -> Node) -> Vec<Node> {
+    (0..deep).fold(body, |body, _| vec![around(body)])
+}
+
+/// A row as one statement.
+pub(super) fn one(mut body: Vec<Node>) -> Node {
+    match body.len() {
+        1 => body.remove(0),
+        _ => block(body),
+    }
+}
+
+fn returns(n: usize) -> Vec<Node> {
+    times(n, || return_(M, None))
+}
+
+/// Three instructions of two nodes each, and no register.
+fn ifs(n: usize) -> Vec<Node> {
+    times(n, || if_(M, a(), vec![], vec![], vec![]))
+}
+
+/// `and` over so many uses of a name: three instructions of two nodes each, and no register where it is a local.
+fn ands(name: Pair, leaves: usize) -> Node {
+    match leaves {
+        1 => variable(name),
+        n => logical(2, M, ands(name, n / 2), ands(name, n - n / 2)),
+    }
+}
+
+pub(super) fn minuses(n: usize, x: Node) -> Node {
+    (0..n).fold(x, |x, _| binary(8, M, number(3.0), x))
+}
+
+/// A function that is lowered 64 times: all that main's registers allow of one. 65 prototypes.
+fn sixty_four(body: Vec<Node>) -> Node {
+    minuses(6, function(&[A], body))
+}
+
+/// A function that is lowered 128 times, in one that is lowered 64 times. 193 prototypes.
+fn in_two(outer: Vec<Node>, inner: Vec<Node>) -> Node {
+    alone(sixty_four([outer, vec![expression(minuses(1, function(&[A], inner)))]].concat()))
+}
+
+pub fn worst() -> Vec<Worst> {
+    [rows(), chains(), again(), names(), scans()].into_iter().flatten().collect()
+}
+
+/// Much of one kind, each lowered once.
+fn rows() -> Vec<Worst> {
+    let functions = |n: usize| times(n, || expression(function(&[], returns(99))));
+    let literals = |n: usize| times(n, || expression(number(0.5)));
+    let elifs = |n: usize| with_a(vec![if_(M, a(), vec![], times(n, || elif(a(), vec![])), vec![])]);
+    let methods = times(250, || function_statement((21, M), &[A], returns(129)));
+    let constants = times(4, || expression(function(&[], literals(254))));
+    let prototypes = [functions(127), vec![expression(function(&[], functions(127)))]].concat();
+    let arguments = times(32_760, || number(1.0));
+    vec![
+        of("empty blocks in a row", full(vec![])),
+        of("32,766 returns", program(returns(32_766))),
+        Worst { room: 0, ..refused(18, of("32,766 returns and no room", program(returns(32_766)))) },
+        refused(7, of("a call of 32,760 arguments", alone(call(number(1.0), M, arguments)))),
+        of("an if of 10,900 elifs", elifs(10_900)),
+        refused(17, of("an if of 16,000 elifs", elifs(16_000))),
+        of("256 prototypes of 100 instructions", full(prototypes)),
+        of("1,016 constants", full(constants)),
+        of("a class of 250 methods", full(vec![class(A, None, methods, vec![])])),
+    ]
+}
+
+/// What a numeral on the left of Minus has lowered again: registers, prototypes and constants bound how often.
+fn again() -> Vec<Worst> {
+    let lets = |n: usize| times(n, || let_((21, M), Some(a())));
+    let registers = |b: Vec<Node>| [vec![expression(minuses(6, number(1.0)))], b].concat();
+    let around = |b: Vec<Node>| expression(function(&[], registers(b)));
+    vec![
+        of("16,000 lets, lowered 64 times", alone(sixty_four(lets(16_000)))),
+        of("16,000 lets, lowered 128 times", in_two(vec![], lets(16_000))),
+        large("10,900 ifs, lowered 128 times", in_two(ifs(5_000), ifs(10_900))),
+        large("10,900 ands, lowered 1,024 times", ands_again(10_900)),
+        refused(17, of("16,300 ands, lowered 16 times", ands_again(16_300))),
+        of("253 registers in each of 8 functions", full(registers(nested(7, vec![], &around)))),
+        refused(7, of("120 numerals minus a function", alone(minuses(120, function(&[A], lets(15_000)))))),
+    ]
+}
+
+/// Ten levels of Minus around ands, four of them in a function: as often as constants allow.
+fn ands_again(leaves: usize) -> Node {
+    alone(sixty_four(vec![expression(minuses(4, ands(A, leaves)))]))
+}
+
+/// Names that are sought for long.
+fn names() -> Vec<Worst> {
+    let globals: Vec<Node> = (0..250).map(|k| let_((100 + k, M), None)).collect();
+    let users = |name: u16| times(3, || expression(function(&[], times(254, || expression(variable((name, M)))))));
+    let params: Vec<Pair> = (0..250).map(|k| (100 + k, M)).collect();
+    let captures: Vec<Node> = params.iter().map(|pair| expression(variable(*pair))).collect();
+    let user = || function(&[], captures.clone());
+    let through = |deep: usize, b: Vec<Node>| {
+        full(vec![expression(function(&params, nested(deep, b, &|b| expression(function(&[], b)))))])
+    };
+    vec![
+        of("762 uses of the first of 250 globals", full([globals.clone(), users(100)].concat())),
+        of("762 uses of the last of 250 globals", full([globals, users(349)].concat())),
+        of("250 captures by 64 functions, through 6", through(5, times(64, || expression(user())))),
+        large("250 captures through 6 functions, 64 times", through(5, vec![expression(minuses(6, user()))])),
+        large("a bucket of 500 locals, 1,024 times", bucket_of_lets(2_048, 500)),
+        Worst { slow: true, ..large("a bucket of 2,000 locals, 1,024 times", bucket_of_lets(8_191, 2_000)) },
+        large("captures behind a bucket of 2,000 locals", bucket_of_captures(8_191, 2_000)),
+    ]
+}
+
+/// Two names that differ by the number of buckets, 8 for each node.
+fn in_one_bucket(nodes: usize) -> (Pair, Pair) {
+    ((1, M), ((8 * nodes + 1) as u16, M))
+}
+
+/// Locals of one name, then uses of the other one, a parameter, which are lowered 1,024 times.
+fn bucket_of_lets(nodes: usize, lets: usize) -> Node {
+    let (near, far) = in_one_bucket(nodes);
+    let mut body = times(lets, || let_(far, Some(variable(near))));
+    body.push(expression(minuses(4, ands(near, (nodes - 2 * lets - 40) / 2))));
+    filled(nodes, vec![expression(minuses(6, function(&[near], body)))])
+}
+
+/// Uses of a variable six functions out, behind the locals of the innermost function.
+fn bucket_of_captures(nodes: usize, lets: usize) -> Node {
+    let (near, far) = in_one_bucket(nodes);
+    let mut body = times(lets, || let_(far, Some(a())));
+    body.extend(times(240, || expression(variable(near))));
+    let inside = vec![expression(minuses(6, function(&[A], body)))];
+    let around = nested(5, inside, &|b| expression(function(&[], b)));
+    filled(nodes, vec![expression(function(&[near], around))])
+}
+
+/// Jumps that are patched by a scan over the whole body, at each level again.
+fn scans() -> Vec<Worst> {
+    let loops = |n: usize, deep: usize| nested(deep, ifs(n), &|b| while_(M, a(), one(b)));
+    let breaks = nested(60, times(32_000, || break_(M)), &|b| while_(M, a(), block(vec![one(b), continue_(M)])));
+    let branches = |n: usize, deep: usize| nested(deep, ifs(n), &|b| if_(M, a(), b, vec![], vec![]));
+    let tries = |n: usize, deep: usize| nested(deep, ifs(n), &|b| try_(one(b), (21, M), block(vec![])));
+    vec![
+        of("120 loops around 10,700 ifs", with_a(loops(10_700, 120))),
+        refused(17, of("120 loops around 16,000 ifs", with_a(loops(16_000, 120)))),
+        of("60 loops around 32,000 breaks", with_a(breaks)),
+        of("120 ifs around 10,700 ifs", with_a(branches(10_700, 120))),
+        of("120 tries around 10,700 ifs", with_a(tries(10_700, 120))),
+        large("111 loops around 10,700 ifs, 128 times", in_two(loops(5_000, 100), loops(10_700, 111))),
+        large("111 ifs around 10,700 ifs, 128 times", in_two(branches(5_000, 100), branches(10_700, 111))),
+        large("111 tries around 10,700 ifs, 128 times", in_two(tries(5_000, 100), tries(10_700, 111))),
+    ]
+}
