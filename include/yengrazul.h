@@ -25,7 +25,14 @@ extern "C" {
  *
  * Threads. There is no state outside the areas that are lent: calls on distinct work, out and answer may run at the same time, on one tree too.
  *
- * Stack. A call takes less than YENGRAZUL_STACK_BYTES of the calling thread's stack, whatever the tree.
+ * Stack. Calls nest as deep as the tree, 128 nodes at most; a call takes less than YENGRAZUL_STACK_BYTES of the calling thread's stack.
+ *
+ *     size_t words = YENGRAZUL_WORDS(yengrazul_nodes(tree, tree_len));
+ *     uint32_t *work = malloc(words * sizeof *work);
+ *     uint64_t answer[3];
+ *     yengrazul_lower(tree, tree_len, work, words, out, out_len, answer);
+ *     if (answer[0] != YENGRAZUL_ACCEPTED)
+ *         printf("%s at node %" PRIu64 ": %s\n", yengrazul_name(answer[0]), answer[1], yengrazul_cause(answer[0]));
  */
 void yengrazul_lower(const uint8_t *tree, size_t tree_len, uint32_t *work, size_t work_len, uint8_t *out, size_t out_len,
                      uint64_t answer[3]);
@@ -33,7 +40,7 @@ void yengrazul_lower(const uint8_t *tree, size_t tree_len, uint32_t *work, size_
 /* Refusals 1 to 6 alone, for a work area of work_len words; where there is none the length is the number of nodes. This one is in libtree.a. */
 void yengrazul_check(const uint8_t *tree, size_t tree_len, size_t work_len, uint64_t answer[3]);
 
-/* STACK_BYTES: an upper bound; tests/parts/45-worst measures what the worst tree takes. */
+/* STACK_BYTES: tests/parts/45-worst measures what the worst trees take, and that it is less. */
 #define YENGRAZUL_STACK_BYTES 1048576
 
 /* A tree of more nodes is refused (2). */

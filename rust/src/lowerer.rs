@@ -3,7 +3,8 @@ use crate::{Cause, Image, Refusal};
 use std::panic::resume_unwind;
 use std::thread;
 
-/// A call takes less of its thread's stack than this, whatever the tree; `tests/parts/45-worst` of the project measures it.
+/// A call takes less of its thread's stack than this: calls nest as deep as the tree, 128 nodes at most. `tests/parts/45-worst` of
+/// the project measures what the worst trees take.
 pub const STACK_BYTES: usize = 1_048_576;
 
 /// A tree of more nodes is refused.
