@@ -1,0 +1,159 @@
+-- fn visit_function_expr: a register, then the function between enter_function and leave_function, then its Closure. What the inside takes is gone with it.
+use Prim.Native.Nat.{ℕ, _<_}
+use Rattle.cycle.proofs.body.Reads as body
+use Rattle.cycle.proofs.function.Reads as function
+use Rattle.cycle.proofs.+addi+arguments+binary+block+body+both+call+class+classic_for+elifs+enhanced_for+expr_stmt+expression+fn_stmt+function+if_stmt+let_stmt+logical+methods+minus+return_stmt+row+statement+try_catch+unary+while_loop.Lts-function as lts
+use Rattle.cycle.proofs.first_mark.Reads as first-mark-reads
+use Rattle.parts.proofs.end_function.Reads as end-function-reads
+use Rattle.parts.proofs.open_function.Reads as open-function-reads
+use Rattle.cycle.proofs.payload_of.Reads as payload-of-reads
+use Rattle.cycle.proofs.words_of.Reads as words-of-reads
+use Rattle.store.proofs.enter_function.Reads as enter-function-reads
+use Rattle.store.proofs.next_register.Reads as next-register-reads
+use Rattle.cycle.proofs.+addi+arguments+binary+block+body+both+call+class+classic_for+elifs+enhanced_for+expr_stmt+expression+fn_stmt+function+if_stmt+let_stmt+logical+methods+minus+return_stmt+row+statement+try_catch+unary+while_loop.Proof.Order.{body-below, function-at}
+use Prim.Native.Nat.{_*_, _+_, _≤_}
+use Rattle.code.specs.Cuts.{Ends, cut-step}
+use Rattle.cycle.proofs.Nested.{begun, cut-room, ended}
+use Rattle.cycle.proofs.Nodes.{a-function}
+use Rattle.cycle.proofs.Sizes.{function-size, tokens-same}
+use Rattle.cycle.proofs.Way.{_▹_, arrive, ends, from, meanwhile, next, next-leaf, readable, stand, stand-at, to}
+use Rattle.cycle.specs.Cycle.{AskBody, GivenExpr, LowersBody, LowersExpr, Ready}
+use Rattle.forward.proofs.Chains.{function-chain}
+use Rattle.forward.specs.Forward.{bind, end-function, fwd-number, open-function}
+use Rattle.meaning.proofs.Reading.{Function}
+use Rattle.meaning.proofs.Rows.{parameters-at}
+use Rattle.meaning.specs.At.{count-of, stmts-at, tokens-at, word-of}
+use Rattle.meaning.specs.Fields.{field-at, fields, words}
+use Rattle.meaning.specs.Functions.{first-mark}
+use Rattle.meaning.specs.Lower.{lower-expr}
+use Rattle.meaning.specs.State.{next-register}
+use Rattle.meaning.specs.Weight.{size-stmts}
+use Rattle.parts.specs.Parts.{Small, tokens-from}
+use Rattle.store.proofs.Compose.{known, leaf-after, moves-then}
+use Rattle.store.proofs.Inside.{leavable}
+use Rattle.store.specs.Opening.{Enters, Leavable}
+use Rattle.store.specs.Promise.{Cost, Leaf, Room, a-register, both, some-registers, uses}
+use Rattle.store.specs.Store.{Fine, inner, run, while-going}
+use Rattle.store.specs.declared.Scope.{Scope}
+use Rattle.store.specs.declared.Step.{Step}
+use lib.Dec.{lit<}
+use lib.ListN.{length}
+use mathlib.Core.List.{List}
+use mathlib.Core.Path.{_∙_, _≡_, ap, refl, sym}
+use native.Mathlib.Omega.{arith}
+
+-- the parameters as the node's, and the mark of the first
+opened : (t : List ℕ) (i n : ℕ) {payload w w' : List ℕ} {q : Scope} {s s' : Step} {u : Cost} → payload ≡ field-at (fields t) i .payload
+    → Leaf w q s w' q s' u (open-function i (tokens-from payload 1 n)) × Small s' → Leaf w q s w' q s' u (open-function i (tokens-at (fields t) i 1 (1 + 2 * n))) × Small s'
+opened t i n {payload} e d = rw (tokens-same (fields t) i payload 1 n e) at d
+
+marked : (t : List ℕ) (i n : ℕ) {payload : List ℕ} {r : ℕ} → payload ≡ field-at (fields t) i .payload → (1 + 2 * n ≤ length (words payload) → r ≡ first-mark (tokens-from payload 1 n)) → 1 + 2 * n ≤ count-of (fields t) i
+    → r ≡ first-mark (tokens-at (fields t) i 1 (1 + 2 * n))
+marked t i n {payload} e h l = h (rw e l) ∙ ap first-mark (tokens-same (fields t) i payload 1 n e)
+
+module _ {t w : List ℕ} {p : Scope} {s : Step} {i : ℕ} (g : GivenExpr t w p s i) (x : Function (fields t) i) (deep : p .depth ≤ 7) where
+  module _ {w1 : List ℕ} {s1 : Step} (d1 : Leaf w p s w1 p s1 a-register (fwd-number (next-register i)) × (s1 .result < 255)) where
+    at-enter : Fine w1 p s1 × (p .depth ≤ 7) × (p .block < p .nodes + 10) × (65535 < 65536)
+    at-enter = (d1 .0 .moves .fine, deep, omega (arith, g .ready .blocks), lit< tt)
+
+    module _ {w2 : List ℕ} {s2 : Step} (d2 : Enters w1 p s1 w2 s2 i 65535) where
+      at-open : Ready t w2 (inner p) s2 (size-stmts (stmts-at (fields t) i (1 + 2 * word-of (fields t) i 0) (count-of (fields t) i))) 8 0
+      at-open =
+          let n = function-size x in
+          stand-at _ 8 0 (to (inner p) refl (omega arith) (omega arith) (from (g .ready) ▹ d1 .0 .moves) (d2 .leaf .moves)) (omega arith) (omega arith) (omega arith) (omega (arith, g .ready .blocks)) (omega (arith, g .ready .loops))
+
+      module _ {w3 : List ℕ} {s3 : Step}
+          (d3 : Leaf w2 (inner p) s2 w3 (inner p) s3 (both (some-registers (1 + word-of (fields t) i 0)) (uses (word-of (fields t) i 0) (word-of (fields t) i 0) 0)) (open-function i (tokens-at (fields t) i 1 (1 + 2 * word-of (fields t) i 0))) × Small s3) where
+        ask-body : AskBody t w3 (inner p) s3 i (1 + 2 * word-of (fields t) i 0)
+        ask-body =
+            let n = function-size x in
+            let y = stand (size-stmts (stmts-at (fields t) i (1 + 2 * word-of (fields t) i 0) (count-of (fields t) i))) 2 0 (from at-open ▹ d3 .0 .moves) (omega arith) (omega arith) (omega arith) (omega arith) in
+            (record { ready = y; known = g .known; ends = omega arith; each = x .body }, omega (arith, g .ready .blocks), x .size, d3 .1)
+
+        module _ {o w4 o4 : List ℕ} {s4 : Step} (d4 : LowersBody t i (1 + 2 * word-of (fields t) i 0) w3 o (inner p) s3 w4 o4 s4) where
+          at-end : Fine w4 (inner p) s4 × Leavable w4 p × Room w4 p (cut-step s4 (s1 .code)) 0 2 0 × while-going (s4 .outcome) ((s1 .code ≤ s4 .code) × (s1 .result < 255))
+          at-end =
+              let n = function-size x in
+              let m = moves-then refl (omega arith) (omega arith) (d3 .0 .moves) (d4 .moves) in
+              (d4 .moves .fine, leavable (d1 .0 .moves .fine) d2 m, cut-room (d1 .0 .moves) d2 m (omega arith) 0 2 0 (g .ready) (omega arith) (omega arith) (omega arith), meanwhile (s4 .outcome) ((s1 .code ≤ s4 .code) × (s1 .result < 255)) λ e. (begun (d1 .0 .moves) d2 m (omega arith), d1 .1))
+
+          module _ {w5 o5 : List ℕ} {s5 : Step} (d5 : Ends (s1 .code) w4 o4 p s4 w5 o5 s5 (uses 2 0 0) (end-function (s1 .code) i (word-of (fields t) i 0) (s1 .result) (first-mark (tokens-at (fields t) i 1 (1 + 2 * word-of (fields t) i 0)))) × Small s5) where
+            lowers : LowersExpr t i w o p s w5 o5 s5
+            unfolding lower-expr
+            lowers =
+                let n = function-size x in
+                let m = moves-then refl (omega arith) (omega arith) (d3 .0 .moves) (d4 .moves) in
+                arrive _ _ (from (g .ready) ▹ ended (d1 .0 .moves) d2 m (omega arith) (d5 .0 .leaves)) (omega arith) (omega arith) (omega arith) (λ z. refl) (d5 .0 .same ∙ d4 .same) (d5 .1) λ ps z.
+                let a1 = leaf-after (d1 .0) o ps z in
+                let a2 = next-leaf a1 (d2 .leaf) in
+                let a3 = next-leaf a2 (d3 .0) in
+                let a4 = next a3 d4 in
+                let a5 = d5 .0 .does (a4 .protos) (a4 .image) in
+                let e = ap (λ k. bind (run w4 (inner p) s4 (a4 .protos)) (end-function (s1 .code) i k (s1 .result) (first-mark (tokens-at (fields t) i 1 (1 + 2 * word-of (fields t) i 0))))) (sym (parameters-at (fields t) i 1 (word-of (fields t) i 0) (x .size))) in
+                ends a5 (rw (x .is) (function-chain _ _ _ _ _ (a1 .runs) _ (known _ _ _ (a1 .protos)) _ (a2 .runs) _ (a3 .runs) _ (a4 .runs) _ (a5 .runs ∙ e)))
+
+-- what each function that is called asks and promises; a member of the cycle at a smaller measure
+abbrev pub claims : ℕ → lts.Claims
+claims t = (words-of-reads.Asked, words-of-reads.Learnt, payload-of-reads.Asked, payload-of-reads.Learnt, next-register-reads.Asked, next-register-reads.Learnt, enter-function-reads.Asked, enter-function-reads.Learnt, open-function-reads.Asked, open-function-reads.Learnt, body-below t, body.Post, first-mark-reads.Asked, first-mark-reads.Learnt, end-function-reads.Asked, end-function-reads.Learnt)
+
+pub words-of-requires : (t : ℕ) → lts.Need-words-of-requires (claims t) (function-at t) function.Post
+words-of-requires t c κs = readable ((c .before .before .before .before) .pre .1 .0 .ready) ((c .before .before .before .before) .pre .1 .0 .known)
+
+pub payload-of-requires : (t : ℕ) → lts.Need-payload-of-requires (claims t) (function-at t) function.Post
+payload-of-requires t c κs = readable ((c .before .before .before .before .before .before) .pre .1 .0 .ready) ((c .before .before .before .before .before .before) .pre .1 .0 .known)
+
+pub next-register-requires : (t : ℕ) → lts.Need-next-register-requires (claims t) (function-at t) function.Post
+next-register-requires t c κs = (c .before .before .before .before .before .before .before .before) .pre .1 .0 .ready .fine
+
+pub enter-function-requires : (t : ℕ) → lts.Need-enter-function-requires (claims t) (function-at t) function.Post
+enter-function-requires t c κs =
+    let g = (c .before .before .before .before .before .before .before .before .before .before .before .before) .pre .1 .0 in
+    at-enter g (a-function (g .ready .lawful) (g .known) ((c .before .before .before .before .before .before .before .before .before .before .before .before) .pre .1 .1)) ((c .before .before .before .before .before .before .before .before .before .before .before .before) .pre .1 .2) ((c .before .before .before .next-register) .ensures)
+
+pub open-function-requires : (t : ℕ) → lts.Need-open-function-requires (claims t) (function-at t) function.Post
+open-function-requires t c κs =
+    let g = (c .before .before .before .before .before .before .before .before .before .before .before .before .before .before .before .before) .pre .1 .0 in
+    let x = a-function (g .ready .lawful) (g .known) ((c .before .before .before .before .before .before .before .before .before .before .before .before .before .before .before .before) .pre .1 .1) in
+    let y = at-open g x ((c .before .before .before .before .before .before .before .before .before .before .before .before .before .before .before .before) .pre .1 .2) ((c .before .before .before .before .before .before .before .next-register) .ensures) ((c .before .before .before .enter-function) .ensures .1) in
+    let z = stand 0 0 0 (from y) (omega arith) (omega arith) (omega arith) (omega arith) in
+    rw ((c .before .before .before .enter-function) .ensures .0, (c .before .before .before .before .before .before .before .before .before .before .before .words-of) .ensures .0, (c .before .before .before .before .before .before .before .before .before .payload-of) .ensures) (z .fine, z .room, x .size)
+
+pub mul-body : (t : ℕ) → lts.Need-mul-body (claims t) (function-at t) function.Post
+mul-body t c = omega (arith, (c .before .before .before .before .before .before .before .before .before .before .before .before .before .before .before .before .before .words-of) .ensures .1)
+
+pub add-body : (t : ℕ) → lts.Need-add-body (claims t) (function-at t) function.Post
+add-body t c = omega (arith, (c .before .before .before .before .before .before .before .before .before .before .before .before .before .before .before .before .before .words-of) .ensures .1)
+
+pub body-requires : (t : ℕ) → lts.Need-body-requires (claims t) (function-at t) function.Post
+body-requires t c κs =
+    let g = (c .before .before .before .before .before .before .before .before .before .before .before .before .before .before .before .before .before .before .before .before .before .before) .pre .1 .0 in
+    let x = a-function (g .ready .lawful) (g .known) ((c .before .before .before .before .before .before .before .before .before .before .before .before .before .before .before .before .before .before .before .before .before .before) .pre .1 .1) in
+    let o = opened _ _ _ ((c .before .before .before .before .before .before .before .before .before .before .before .before .before .before .before .payload-of) .ensures) (rw ((c .before .before .before .before .before .before .before .before .before .enter-function) .ensures .0, (c .before .before .before .before .before .before .before .before .before .before .before .before .before .before .before .before .before .words-of) .ensures .0) at ((c .before .before .before .before .before .open-function) .ensures)) in
+    rw ((c .before .before .before .before .before .before .before .before .before .enter-function) .ensures .0, (c .before .before .before .before .before .before .before .before .before .before .before .before .before .before .before .before .before .words-of) .ensures .0) (omega (arith, (c .before .before .before .before .before .before .before .before .before .before .before .before .before .before .before .before .before .before .before .before .before .before) .pre .0), ask-body g x ((c .before .before .before .before .before .before .before .before .before .before .before .before .before .before .before .before .before .before .before .before .before .before) .pre .1 .2) ((c .before .before .before .before .before .before .before .before .before .before .before .before .before .next-register) .ensures) ((c .before .before .before .before .before .before .before .before .before .enter-function) .ensures .1) o)
+
+pub first-mark-requires : (t : ℕ) → lts.Need-first-mark-requires (claims t) (function-at t) function.Post
+first-mark-requires t c κs = tt
+
+pub end-function-requires : (t : ℕ) → lts.Need-end-function-requires (claims t) (function-at t) function.Post
+end-function-requires t c κs =
+    let g = (c .before .before .before .before .before .before .before .before .before .before .before .before .before .before .before .before .before .before .before .before .before .before .before .before .before .before .before .before .before .before) .pre .1 .0 in
+    let x = a-function (g .ready .lawful) (g .known) ((c .before .before .before .before .before .before .before .before .before .before .before .before .before .before .before .before .before .before .before .before .before .before .before .before .before .before .before .before .before .before) .pre .1 .1) in
+    let o = opened _ _ _ ((c .before .before .before .before .before .before .before .before .before .before .before .before .before .before .before .before .before .before .before .before .before .before .before .payload-of) .ensures) (rw ((c .before .before .before .before .before .before .before .before .before .before .before .before .before .before .before .before .before .enter-function) .ensures .0, (c .before .before .before .before .before .before .before .before .before .before .before .before .before .before .before .before .before .before .before .before .before .before .before .before .before .words-of) .ensures .0) at ((c .before .before .before .before .before .before .before .before .before .before .before .before .before .open-function) .ensures)) in
+    let b = rw ((c .before .before .before .before .before .before .before .before .before .before .before .before .before .before .before .before .before .enter-function) .ensures .0, (c .before .before .before .before .before .before .before .before .before .before .before .before .before .before .before .before .before .before .before .before .before .before .before .before .before .words-of) .ensures .0) at ((c .before .before .before .before .before .before .before .body) .ensures) in
+    let y = at-end g x ((c .before .before .before .before .before .before .before .before .before .before .before .before .before .before .before .before .before .before .before .before .before .before .before .before .before .before .before .before .before .before) .pre .1 .2) ((c .before .before .before .before .before .before .before .before .before .before .before .before .before .before .before .before .before .before .before .before .before .next-register) .ensures) ((c .before .before .before .before .before .before .before .before .before .before .before .before .before .before .before .before .before .enter-function) .ensures .1) o b in
+    (y .0, y .1, y .2, y .3, (c .before .before .before .before .before .before .before .before .before .before .before .before .before .before .before .before .before .before .before .before .before .before .before .before .before .words-of) .ensures .1)
+
+pub same-length : (t : ℕ) → lts.Need-same-length (claims t) (function-at t) function.Post
+same-length t c = (c .before .before .before .before .end-function) .ensures .0 .leaves .kept .same ∙ (c .before .before .before .before .before .before .before .before .before .before .before .before .body) .ensures .moves .kept .same ∙ (c .before .before .before .before .before .before .before .before .before .before .before .before .before .before .before .before .before .before .open-function) .ensures .0 .moves .kept .same ∙ (c .before .before .before .before .before .before .before .before .before .before .before .before .before .before .before .before .before .before .before .before .before .before .enter-function) .ensures .1 .leaf .moves .kept .same ∙ (c .before .before .before .before .before .before .before .before .before .before .before .before .before .before .before .before .before .before .before .before .before .before .before .before .before .before .next-register) .ensures .0 .moves .kept .same
+
+pub same-length-2 : (t : ℕ) → lts.Need-same-length-2 (claims t) (function-at t) function.Post
+same-length-2 t c = (c .before .before .before .before .end-function) .ensures .0 .same ∙ (c .before .before .before .before .before .before .before .before .before .before .before .before .body) .ensures .same
+
+pub returns : (t : ℕ) → lts.Need-returns (claims t) (function-at t) function.Post
+returns t c =
+    let g = (c .before .before .before .before .before .before .before .before .before .before .before .before .before .before .before .before .before .before .before .before .before .before .before .before .before .before .before .before .before .before .before .before .before .before .before) .pre .1 .0 in
+    let x = a-function (g .ready .lawful) (g .known) ((c .before .before .before .before .before .before .before .before .before .before .before .before .before .before .before .before .before .before .before .before .before .before .before .before .before .before .before .before .before .before .before .before .before .before .before) .pre .1 .1) in
+    let o = opened _ _ _ ((c .before .before .before .before .before .before .before .before .before .before .before .before .before .before .before .before .before .before .before .before .before .before .before .before .before .before .before .before .payload-of) .ensures) (rw ((c .before .before .before .before .before .before .before .before .before .before .before .before .before .before .before .before .before .before .before .before .before .before .enter-function) .ensures .0, (c .before .before .before .before .before .before .before .before .before .before .before .before .before .before .before .before .before .before .before .before .before .before .before .before .before .before .before .before .before .before .words-of) .ensures .0) at ((c .before .before .before .before .before .before .before .before .before .before .before .before .before .before .before .before .before .before .open-function) .ensures)) in
+    let b = rw ((c .before .before .before .before .before .before .before .before .before .before .before .before .before .before .before .before .before .before .before .before .before .before .enter-function) .ensures .0, (c .before .before .before .before .before .before .before .before .before .before .before .before .before .before .before .before .before .before .before .before .before .before .before .before .before .before .before .before .before .before .words-of) .ensures .0) at ((c .before .before .before .before .before .before .before .before .before .before .before .before .body) .ensures) in
+    let m = marked _ _ _ ((c .before .before .before .before .before .before .before .before .before .before .before .before .before .before .before .before .before .before .before .before .before .before .before .before .before .before .before .before .payload-of) .ensures) (rw ((c .before .before .before .before .before .before .before .before .before .before .before .before .before .before .before .before .before .before .before .before .before .before .before .before .before .before .before .before .before .before .words-of) .ensures .0) at ((c .before .before .before .before .before .first-mark) .ensures)) (x .size) in
+    lowers g x ((c .before .before .before .before .before .before .before .before .before .before .before .before .before .before .before .before .before .before .before .before .before .before .before .before .before .before .before .before .before .before .before .before .before .before .before) .pre .1 .2) ((c .before .before .before .before .before .before .before .before .before .before .before .before .before .before .before .before .before .before .before .before .before .before .before .before .before .before .next-register) .ensures) ((c .before .before .before .before .before .before .before .before .before .before .before .before .before .before .before .before .before .before .before .before .before .before .enter-function) .ensures .1) o b (rw ((c .before .before .before .before .before .before .before .before .before .before .before .before .before .before .before .before .before .before .before .before .before .before .before .before .before .before .before .before .before .before .words-of) .ensures .0, m) at ((c .before .before .before .before .end-function) .ensures))

@@ -1,0 +1,124 @@
+-- fn visit_logical_expr: the left side, a jump past the right side, the right side, which is moved to the left side's register.
+use Prim.Native.Nat.{ℕ, _<_}
+use Rattle.cycle.proofs.expression.Reads as expression
+use Rattle.cycle.proofs.logical.Reads as logical
+use Rattle.cycle.proofs.+addi+arguments+binary+block+body+both+call+class+classic_for+elifs+enhanced_for+expr_stmt+expression+fn_stmt+function+if_stmt+let_stmt+logical+methods+minus+return_stmt+row+statement+try_catch+unary+while_loop.Lts-logical as lts
+use Rattle.code.proofs.end_logical.Reads as end-logical-reads
+use Rattle.code.proofs.test_and_jump.Reads as test-and-jump-reads
+use Rattle.cycle.proofs.or_flag.Reads as or-flag-reads
+use Rattle.cycle.proofs.words_of.Reads as words-of-reads
+use Rattle.cycle.proofs.+addi+arguments+binary+block+body+both+call+class+classic_for+elifs+enhanced_for+expr_stmt+expression+fn_stmt+function+if_stmt+let_stmt+logical+methods+minus+return_stmt+row+statement+try_catch+unary+while_loop.Proof.Order.{expression-below, logical-at}
+use Prim.Native.Nat.{_+_, _≤_}
+use Rattle.cycle.proofs.Nodes.{a-logical}
+use Rattle.cycle.proofs.Sizes.{logical-size}
+use Rattle.cycle.proofs.Way.{_▹_, adds, arrive, ends, from, give-expr, meanwhile, next, next-leaf, readable, sets, stand, twice}
+use Rattle.cycle.specs.Cycle.{AskExpr, GivenExpr, LowersExpr}
+use Rattle.forward.proofs.Chains.{logical-chain}
+use Rattle.forward.specs.Forward.{end-logical, sure, test-and-jump}
+use Rattle.meaning.proofs.Reading.{Logical}
+use Rattle.meaning.specs.At.{word-of}
+use Rattle.meaning.specs.Expressions.{or-flag}
+use Rattle.meaning.specs.Fields.{fields}
+use Rattle.meaning.specs.Lower.{lower-expr}
+use Rattle.meaning.specs.Opcode.{or}
+use Rattle.store.proofs.Compose.{known}
+use Rattle.store.proofs.Runs.{due}
+use Rattle.store.specs.Promise.{Leaf, Room, uses}
+use Rattle.store.specs.Store.{Fine, while-going}
+use Rattle.store.specs.declared.Scope.{Scope}
+use Rattle.store.specs.declared.Step.{Step}
+use lib.Dec.{eqb}
+use mathlib.Core.List.{List}
+use mathlib.Core.Path.{_∙_, refl}
+use native.Mathlib.Omega.{arith}
+
+module _ {t w : List ℕ} {p : Scope} {s : Step} {i : ℕ} (g : GivenExpr t w p s i) (x : Logical (fields t) i) where
+  left : AskExpr t w p s (word-of (fields t) i 2)
+  left = let n = logical-size x in give-expr (from (g .ready)) (g .known) (x .left) (omega arith) (omega arith) (omega arith) (omega arith)
+
+  module _ {o w1 o1 : List ℕ} {s1 : Step} (d1 : LowersExpr t (word-of (fields t) i 2) w o p s w1 o1 s1) where
+    at-test : (flag : ℕ) → flag < 256 → Fine w1 p s1 × Room w1 p s1 0 4 0 × while-going (s1 .outcome) ((s1 .result < 256) × (flag < 256))
+    at-test flag h =
+        let n = logical-size x in
+        let y = stand 0 4 0 (from (g .ready) ▹ d1 .does .moves) (omega arith) (omega arith) (omega arith) (omega arith) in
+        (y .fine, y .room, meanwhile (s1 .outcome) ((s1 .result < 256) × (flag < 256)) λ e. let v = due (s1 .outcome) (d1 .small) e in (omega arith, h))
+
+    module _ {w2 : List ℕ} {s2 : Step} (d2 : Leaf w1 p s1 w2 p s2 (uses 4 0 0) (sure (test-and-jump (or-flag (eqb (word-of (fields t) i 0) or)) (word-of (fields t) i 1)))) where
+      right : AskExpr t w2 p s2 (word-of (fields t) i 3)
+      right =
+          let n = logical-size x in
+          give-expr (from (g .ready) ▹ d1 .does .moves ▹ d2 .moves) (g .known) (x .right) (omega arith) (omega arith) (omega arith) (omega arith)
+
+      module _ {w3 o3 : List ℕ} {s3 : Step} (d3 : LowersExpr t (word-of (fields t) i 3) w2 o1 p s2 w3 o3 s3) where
+        at-end : Fine w3 p s3 × Room w3 p s3 0 2 0 × while-going (s3 .outcome) ((s1 .code + 2 ≤ s3 .code) × (s1 .result < 256) × (s3 .result < 256))
+        unfolding test-and-jump
+        at-end =
+            let n = logical-size x in
+            let y = stand 0 2 0 (from (g .ready) ▹ d1 .does .moves ▹ d2 .moves ▹ d3 .does .moves) (omega arith) (omega arith) (omega arith) (omega arith) in (
+              y .fine,
+              y .room,
+              meanwhile (s3 .outcome) ((s1 .code + 2 ≤ s3 .code) × (s1 .result < 256) × (s3 .result < 256)) λ e.
+                  let e2 = d3 .does .moves .back e in
+                  let v1 = due (s1 .outcome) (d1 .small) (d2 .moves .back e2) in
+                  let v3 = due (s3 .outcome) (d3 .small) e in
+                  let l = adds d2 2 (λ c. twice (c .code) _ _) e2 in
+                  (omega (arith, d3 .does .moves .longer), omega arith, omega arith),
+            )
+
+        module _ {w4 : List ℕ} {s4 : Step} (d4 : Leaf w3 p s3 w4 p s4 (uses 2 0 0) (sure (end-logical (s1 .code) (s1 .result) (word-of (fields t) i 1)))) where
+          lowers : LowersExpr t i w o p s w4 o3 s4
+          unfolding lower-expr end-logical
+          lowers =
+              arrive _ _ (from (g .ready) ▹ d1 .does .moves ▹ d2 .moves ▹ d3 .does .moves ▹ d4 .moves) (omega (arith, logical-size x)) (omega arith) (omega arith) (λ z. refl)
+              (d3 .does .same ∙ d1 .does .same) (sets d4 (s1 .result) (λ c. refl) (λ e. due (s1 .outcome) (d1 .small) (d2 .moves .back (d3 .does .moves .back (d4 .moves .back e))))) λ ps z.
+              let a1 = d1 .does .does ps z in
+              let a2 = next-leaf a1 d2 in
+              let a3 = next a2 (d3 .does) in
+              let a4 = next-leaf a3 d4 in
+              ends a4 (rw (x .is) (logical-chain _ _ _ _ _ _ _ (a1 .runs) _ (known _ _ _ (a1 .protos)) _ (a2 .runs) _ (a3 .runs) _ (a4 .runs)))
+
+-- what each function that is called asks and promises; a member of the cycle at a smaller measure
+abbrev pub claims : ℕ → lts.Claims
+claims t = (words-of-reads.Asked, words-of-reads.Learnt, expression-below t, expression.Post, or-flag-reads.Asked, or-flag-reads.Learnt, test-and-jump-reads.Asked, test-and-jump-reads.Learnt, end-logical-reads.Asked, end-logical-reads.Learnt)
+
+pub words-of-requires : (t : ℕ) → lts.Need-words-of-requires (claims t) (logical-at t) logical.Post
+words-of-requires t c κs = readable ((c .before .before .before .before) .pre .1 .0 .ready) ((c .before .before .before .before) .pre .1 .0 .known)
+
+pub expression-requires : (t : ℕ) → lts.Need-expression-requires (claims t) (logical-at t) logical.Post
+expression-requires t c κs =
+    let g = (c .before .before .before .before .before .before .before) .pre .1 .0 in
+    let x = a-logical (g .ready .lawful) (g .known) ((c .before .before .before .before .before .before .before) .pre .1 .1) in
+    rw ((c .before .before .words-of) .ensures .0) (omega (arith, (c .before .before .before .before .before .before .before) .pre .0, x .left .below), left g x)
+
+pub or-flag-requires : (t : ℕ) → lts.Need-or-flag-requires (claims t) (logical-at t) logical.Post
+or-flag-requires t c κs = tt
+
+pub test-and-jump-requires : (t : ℕ) → lts.Need-test-and-jump-requires (claims t) (logical-at t) logical.Post
+test-and-jump-requires t c κs =
+    let g = (c .before .before .before .before .before .before .before .before .before .before .before .before .before .before) .pre .1 .0 in
+    at-test g (a-logical (g .ready .lawful) (g .known) ((c .before .before .before .before .before .before .before .before .before .before .before .before .before .before) .pre .1 .1)) (rw ((c .before .before .before .before .before .before .before .before .before .words-of) .ensures .0) at ((c .before .before .before .before .before .before .expression) .ensures)) _ ((c .or-flag) .ensures .1)
+
+pub expression-requires-2 : (t : ℕ) → lts.Need-expression-requires-2 (claims t) (logical-at t) logical.Post
+expression-requires-2 t c κs =
+    let g = (c .before .before .before .before .before .before .before .before .before .before .before .before .before .before .before .before .before .before .before) .pre .1 .0 in
+    let x = a-logical (g .ready .lawful) (g .known) ((c .before .before .before .before .before .before .before .before .before .before .before .before .before .before .before .before .before .before .before) .pre .1 .1) in
+    let e = (c .before .before .before .before .before .before .before .before .before .before .before .before .before .before .words-of) .ensures .0 in
+    rw e (omega (arith, (c .before .before .before .before .before .before .before .before .before .before .before .before .before .before .before .before .before .before .before) .pre .0, x .right .below), right g x (rw e at ((c .before .before .before .before .before .before .before .before .before .before .before .expression) .ensures)) (rw ((c .before .before .before .before .before .or-flag) .ensures .0, e) at ((c .before .before .before .before .test-and-jump) .ensures)))
+
+pub end-logical-requires : (t : ℕ) → lts.Need-end-logical-requires (claims t) (logical-at t) logical.Post
+end-logical-requires t c κs =
+    let g = (c .before .before .before .before .before .before .before .before .before .before .before .before .before .before .before .before .before .before .before .before .before .before .before .before .before) .pre .1 .0 in
+    let e = (c .before .before .before .before .before .before .before .before .before .before .before .before .before .before .before .before .before .before .before .before .words-of) .ensures .0 in
+    at-end g (a-logical (g .ready .lawful) (g .known) ((c .before .before .before .before .before .before .before .before .before .before .before .before .before .before .before .before .before .before .before .before .before .before .before .before .before) .pre .1 .1)) (rw e at ((c .before .before .before .before .before .before .before .before .before .before .before .before .before .before .before .before .before .expression) .ensures)) (rw ((c .before .before .before .before .before .before .before .before .before .before .before .or-flag) .ensures .0, e) at ((c .before .before .before .before .before .before .before .before .before .before .test-and-jump) .ensures)) (rw e at ((c .before .before .before .before .before .expression2) .ensures))
+
+pub same-length : (t : ℕ) → lts.Need-same-length (claims t) (logical-at t) logical.Post
+same-length t c = (c .before .before .end-logical) .ensures .moves .kept .same ∙ (c .before .before .before .before .before .before .before .before .expression2) .ensures .does .moves .kept .same ∙ (c .before .before .before .before .before .before .before .before .before .before .before .before .before .test-and-jump) .ensures .moves .kept .same ∙ (c .before .before .before .before .before .before .before .before .before .before .before .before .before .before .before .before .before .before .before .before .expression) .ensures .does .moves .kept .same
+
+pub same-length-2 : (t : ℕ) → lts.Need-same-length-2 (claims t) (logical-at t) logical.Post
+same-length-2 t c = (c .before .before .before .before .before .before .before .before .expression2) .ensures .does .same ∙ (c .before .before .before .before .before .before .before .before .before .before .before .before .before .before .before .before .before .before .before .before .expression) .ensures .does .same
+
+pub returns : (t : ℕ) → lts.Need-returns (claims t) (logical-at t) logical.Post
+returns t c =
+    let g = (c .before .before .before .before .before .before .before .before .before .before .before .before .before .before .before .before .before .before .before .before .before .before .before .before .before .before .before .before) .pre .1 .0 in
+    let e = (c .before .before .before .before .before .before .before .before .before .before .before .before .before .before .before .before .before .before .before .before .before .before .before .words-of) .ensures .0 in
+    lowers g (a-logical (g .ready .lawful) (g .known) ((c .before .before .before .before .before .before .before .before .before .before .before .before .before .before .before .before .before .before .before .before .before .before .before .before .before .before .before .before) .pre .1 .1)) (rw e at ((c .before .before .before .before .before .before .before .before .before .before .before .before .before .before .before .before .before .before .before .before .expression) .ensures)) (rw ((c .before .before .before .before .before .before .before .before .before .before .before .before .before .before .or-flag) .ensures .0, e) at ((c .before .before .before .before .before .before .before .before .before .before .before .before .before .test-and-jump) .ensures)) (rw e at ((c .before .before .before .before .before .before .before .before .expression2) .ensures)) (rw e at ((c .before .before .end-logical) .ensures))

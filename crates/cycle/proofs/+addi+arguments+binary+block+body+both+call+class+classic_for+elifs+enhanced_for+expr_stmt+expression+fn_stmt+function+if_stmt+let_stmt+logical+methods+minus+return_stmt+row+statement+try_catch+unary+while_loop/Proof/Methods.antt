@@ -1,0 +1,170 @@
+-- fn visit_class_stmt, its methods one after the other: the loop stands before method k; those before it are done, those from it on are pending.
+use Prim.Native.Nat.{ℕ, _<_}
+use Rattle.cycle.proofs.fn_stmt.Reads as fn-stmt
+use Rattle.cycle.proofs.methods.Reads as methods
+use Rattle.cycle.proofs.+addi+arguments+binary+block+body+both+call+class+classic_for+elifs+enhanced_for+expr_stmt+expression+fn_stmt+function+if_stmt+let_stmt+logical+methods+minus+return_stmt+row+statement+try_catch+unary+while_loop.Lts-methods as lts
+use Rattle.cycle.proofs.payload_of.Reads as payload-of-reads
+use Rattle.cycle.proofs.words_of.Reads as words-of-reads
+use Rattle.nodes.proofs.child.Reads as child-reads
+use Rattle.parts.proofs.add_method.Reads as add-method-reads
+use Rattle.store.proofs.settle.Reads as settle-reads
+use Rattle.cycle.proofs.+addi+arguments+binary+block+body+both+call+class+classic_for+elifs+enhanced_for+expr_stmt+expression+fn_stmt+function+if_stmt+let_stmt+logical+methods+minus+return_stmt+row+statement+try_catch+unary+while_loop.Proof.Order.{fn-stmt-below, methods-at}
+use Rattle.cycle.proofs.Way.{from}
+use Prim.Native.Nat.{_*_, _+_, _-_, _≤_}
+use Rattle.cycle.proofs.Nodes.{a-define}
+use Rattle.cycle.proofs.Sizes.{fun-size, funs-size, funs-size-none}
+use Rattle.cycle.proofs.Turns.{Turning, closed, none-turned, turned}
+use Rattle.cycle.proofs.Way.{_▹_, arrive, meanwhile, next-leaf, readable, small, spends, stand}
+use Rattle.cycle.specs.Cycle.{AskFun, AskMethods, LowersFun, LowersMethods}
+use Rattle.forward.proofs.Calls.{does}
+use Rattle.forward.proofs.Chains.{method-chain}
+use Rattle.forward.proofs.Steps.{last, same}
+use Rattle.forward.specs.Forward.{add-method, fwd-code}
+use Rattle.meaning.proofs.Reading.{Define}
+use Rattle.meaning.proofs.Rows.{funs-more, funs-none}
+use Rattle.meaning.specs.At.{TagBelow, fun-at, funs-at, word-of}
+use Rattle.meaning.specs.Fields.{fields}
+use Rattle.meaning.specs.Lower.{fun-name, lower-expr, lower-methods}
+use Rattle.meaning.specs.Weight.{size-fun, size-funs}
+use Rattle.store.proofs.Compose.{known, settled}
+use Rattle.store.proofs.Runs.{due}
+use Rattle.store.specs.Promise.{Leaf, Room, uses}
+use Rattle.store.specs.Store.{Fine, while-going, with-result}
+use Rattle.store.specs.declared.Scope.{Scope}
+use Rattle.store.specs.declared.Step.{Step}
+use lib.Dec.{lit<}
+use mathlib.Core.List.{List}
+use mathlib.Core.Path.{_∙_, _≡_, ap}
+use native.Mathlib.Omega.{arith}
+
+pub record Methoding (t w0 o0 : List ℕ) (p : Scope) (s0 : Step) (i from to mark op class : ℕ) (w o : List ℕ) (s : Step) (k : ℕ) : Type 0 where
+  pub low : from ≤ k
+  pub done : ℕ
+  pub size : done + size-funs (funs-at (fields t) i k to) ≡ size-funs (funs-at (fields t) i from to)
+  pub turning : Turning w0 o0 p s0 w o s (uses (8 * done) done 0) (fwd-code (lower-methods (funs-at (fields t) i from to) i mark op class (class + 1))) (fwd-code (lower-methods (funs-at (fields t) i k to) i mark op class (class + 1)))
+
+module _ {t w0 : List ℕ} {p : Scope} {s0 : Step} {i f g op class : ℕ} (r : AskMethods t w0 p s0 i f g op class) (mark : ℕ) where
+  start : {o0 : List ℕ} → Methoding t w0 o0 p s0 i f g mark op class w0 o0 s0 f
+  start = record { low = omega arith; done = 0; size = omega arith; turning = none-turned (r .0 .ready .fine) }
+
+  module _ {o0 w o : List ℕ} {s : Step} {k : ℕ} (v : Methoding t w0 o0 p s0 i f g mark op class w o s k) where
+    module _ (h : k < g) where
+      below : TagBelow (fields t) 0x1C i (word-of (fields t) i k)
+      below = r .0 .each k (v .low) h
+
+      defined : Define (fields t) (word-of (fields t) i k)
+      defined = a-define (r .0 .ready .lawful) (omega (arith, r .0 .known, below .below)) (below .tag)
+
+      child : AskFun t w p s (word-of (fields t) i k)
+      child =
+          let n = funs-size (fields t) i k g h (r .0 .ends) in
+          let m = v .size in
+          (record { ready = stand (size-fun (fun-at (fields t) (word-of (fields t) i k))) 0 0 (from (r .0 .ready) ▹ v .turning .moves) (omega arith) (omega arith) (omega arith) (omega arith); known = omega (arith, r .0 .known, below .below) }, below .tag, r .1)
+
+      module _ {w1 o1 : List ℕ} {s1 : Step} (d : LowersFun t (word-of (fields t) i k) w o p s w1 o1 s1) where
+        at-add : Fine w1 p s1 × Room w1 p s1 0 4 0 × while-going (s1 .outcome) ((op < 256) × (class < 256) × (class + 1 < 256) × (s1 .result < 256))
+        at-add =
+            let n = funs-size (fields t) i k g h (r .0 .ends) in
+            let l = fun-size defined in
+            let m = v .size in
+            let y = stand 0 4 0 (from (r .0 .ready) ▹ v .turning .moves ▹ d .does .moves) (omega arith) (omega arith) (omega arith) (omega arith) in (
+              y .fine,
+              y .room,
+              meanwhile (s1 .outcome) ((op < 256) × (class < 256) × (class + 1 < 256) × (s1 .result < 256)) λ e.
+                  let b = due (s0 .outcome) (r .4) (v .turning .moves .back (d .does .moves .back e)) in
+                  let c = due (s1 .outcome) (d .small) e in
+                  (r .2, omega arith, omega arith, omega arith),
+            )
+
+        turn : {w2 : List ℕ} {s2 : Step} → Leaf w1 p s1 w2 p s2 (uses 4 0 0) (add-method i mark op class (class + 1) (word-of (fields t) (word-of (fields t) i k) 0)) → Methoding t w0 o0 p s0 i f g mark op class w2 o1 s2 (k + 1)
+        unfolding lower-expr fun-name
+        turn d2 =
+            let z = size-fun (fun-at (fields t) (word-of (fields t) i k)) in
+            let l = fun-size defined in
+            record {
+              low = omega (arith, v .low);
+              done = v .done + z;
+              size = omega (arith, v .size, funs-size (fields t) i k g h (r .0 .ends));
+              turning =
+                  record {
+                    moves = spends (8 * (v .done + z)) (v .done + z) (omega arith) (omega arith) (omega arith) (λ e. absurd (omega arith)) (from (r .0 .ready) ▹ v .turning .moves ▹ d .does .moves ▹ d2 .moves);
+                    same = d .does .same ∙ v .turning .same;
+                    does = λ ps y.
+                        let a = v .turning .does ps y in
+                        let b = d .does .does (a .protos) (a .image) in
+                        let b2 = next-leaf b d2 in
+                        let e = ap fun-name (defined .is-fun) in
+                        turned a b2 (λ x q. rw (funs-more (fields t) i k g h (r .0 .ends), e) (method-chain _ _ _ _ _ _ _ _ _ _ (b .runs) _ (b2 .runs) x q));
+                  };
+            }
+
+    lowers : g ≤ k → LowersMethods t i f g mark op class w0 o0 p s0 w o (with-result s 0)
+    unfolding lower-expr
+    lowers h =
+        let n = size-funs (funs-at (fields t) i f g) in
+        let m = funs-size-none (fields t) i k g h in
+        let l = settled s 0 (lit< tt) (v .turning .moves .fine) in
+        arrive (8 * n) n (from (r .0 .ready) ▹ v .turning .moves ▹ l .moves) (omega (arith, v .size)) (omega (arith, v .size)) (omega arith) (λ e. omega (arith, v .size)) (v .turning .same) (small (with-result s 0) (lit< tt)) (closed (rw (funs-none (fields t) i k g h) at (v .turning)))
+
+-- what each function that is called asks and promises; a member of the cycle at a smaller measure
+abbrev pub claims : ℕ → lts.Claims
+claims t = (payload-of-reads.Asked, payload-of-reads.Learnt, child-reads.Asked, child-reads.Learnt, words-of-reads.Asked, words-of-reads.Learnt, fn-stmt-below t, fn-stmt.Post, add-method-reads.Asked, add-method-reads.Learnt, settle-reads.Asked, settle-reads.Learnt)
+
+abbrev pub Inv-loop : lts.InvT-loop
+Inv-loop tree work₀ out₀ scope node from to mark op class payload last₀ k₀ work out last k = Methoding tree work₀ out₀ scope last₀ node from to mark op class work out last k
+
+abbrev pub μ-loop : lts.MeasureT-loop
+μ-loop tree work₀ out₀ scope node from to mark op class payload last₀ k₀ work out last k = to - k
+
+pub payload-of-requires : (t : ℕ) → lts.Need-payload-of-requires (claims t) (methods-at t) methods.Post Inv-loop μ-loop
+payload-of-requires t c κs = readable ((c .before .before .before .before) .pre .1 .0 .ready) ((c .before .before .before .before) .pre .1 .0 .known)
+
+pub loop-holds : (t : ℕ) → lts.Need-loop-holds (claims t) (methods-at t) methods.Post Inv-loop μ-loop
+loop-holds t c = start ((c .before .before .before .before .before) .pre .1) _
+
+pub child-requires : (t : ℕ) → lts.Need-child-requires (claims t) (methods-at t) methods.Post Inv-loop μ-loop
+child-requires t c κs = rw ((c .before .before .payload-of) .ensures) (omega (arith, (c .loop-test) .taken, (c .before .before .before .before .before .before .before) .pre .1 .0 .ends))
+
+pub words-of-requires : (t : ℕ) → lts.Need-words-of-requires (claims t) (methods-at t) methods.Post Inv-loop μ-loop
+words-of-requires t c κs =
+    let e = rw ((c .before .before .before .before .payload-of) .ensures) at ((c .before .child) .ensures .0) in
+    let g = child ((c .before .before .before .before .before .before .before .before .before) .pre .1) _ ((c .before .before .before .loop) .inv) ((c .before .before .loop-test) .taken) in
+    rw e (readable (g .0 .ready) (g .0 .known))
+
+pub fn-stmt-requires : (t : ℕ) → lts.Need-fn-stmt-requires (claims t) (methods-at t) methods.Post Inv-loop μ-loop
+fn-stmt-requires t c κs =
+    let h = (c .before .before .before .before .before .loop-test) .taken in
+    let e = rw ((c .before .before .before .before .before .before .before .payload-of) .ensures) at ((c .before .before .before .before .child) .ensures .0) in
+    rw e (omega (arith, (c .before .before .before .before .before .before .before .before .before .before .before .before) .pre .0, below ((c .before .before .before .before .before .before .before .before .before .before .before .before) .pre .1) _ ((c .before .before .before .before .before .before .loop) .inv) h .below), child ((c .before .before .before .before .before .before .before .before .before .before .before .before) .pre .1) _ ((c .before .before .before .before .before .before .loop) .inv) h)
+
+pub add-add-method : (t : ℕ) → lts.Need-add-add-method (claims t) (methods-at t) methods.Post Inv-loop μ-loop
+add-add-method t c = omega (arith, (c .before .before .before .before .before .before .before .before .before .before .before .before .before .before .before .before .before .before) .pre .1 .3)
+
+pub add-method-requires : (t : ℕ) → lts.Need-add-method-requires (claims t) (methods-at t) methods.Post Inv-loop μ-loop
+add-method-requires t c κs =
+    let e = rw ((c .before .before .before .before .before .before .before .before .before .before .before .before .before .payload-of) .ensures) at ((c .before .before .before .before .before .before .before .before .before .before .child) .ensures .0) in
+    let y = at-add ((c .before .before .before .before .before .before .before .before .before .before .before .before .before .before .before .before .before .before) .pre .1) _ ((c .before .before .before .before .before .before .before .before .before .before .before .before .loop) .inv) ((c .before .before .before .before .before .before .before .before .before .before .before .loop-test) .taken) (rw e at ((c .before .before .before .before .before .fn-stmt) .ensures)) in
+    (y .0, y .1, (c .before .before .before .before .before .before .before .before .words-of) .ensures .1, y .2)
+
+pub add-k : (t : ℕ) → lts.Need-add-k (claims t) (methods-at t) methods.Post Inv-loop μ-loop
+add-k t c = omega (arith, (c .before .before .before .before .before .before .before .before .before .before .before .before .before .before .loop-test) .taken, (c .before .before .before .before .before .before .before .before .before .before .before .before .before .before .before .before .before .before .before .before .before) .fits .to .fits)
+
+pub loop-less : (t : ℕ) → lts.Need-loop-less (claims t) (methods-at t) methods.Post Inv-loop μ-loop
+loop-less t c = omega (arith, (c .before .before .before .before .before .before .before .before .before .before .before .before .before .before .loop-test) .taken)
+
+pub loop-again : (t : ℕ) → lts.Need-loop-again (claims t) (methods-at t) methods.Post Inv-loop μ-loop
+loop-again t c =
+    let e = rw ((c .before .before .before .before .before .before .before .before .before .before .before .before .before .before .before .before .payload-of) .ensures) at ((c .before .before .before .before .before .before .before .before .before .before .before .before .before .child) .ensures .0) in
+    turn ((c .before .before .before .before .before .before .before .before .before .before .before .before .before .before .before .before .before .before .before .before .before) .pre .1) _ ((c .before .before .before .before .before .before .before .before .before .before .before .before .before .before .before .loop) .inv) ((c .before .before .before .before .before .before .before .before .before .before .before .before .before .before .loop-test) .taken) (rw e at ((c .before .before .before .before .before .before .before .before .fn-stmt) .ensures)) (rw ((c .before .before .before .before .before .before .before .before .before .before .before .words-of) .ensures .0, e) at ((c .before .before .add-method) .ensures))
+
+pub settle-requires : (t : ℕ) → lts.Need-settle-requires (claims t) (methods-at t) methods.Post Inv-loop μ-loop
+settle-requires t c κs = tt
+
+pub same-length : (t : ℕ) → lts.Need-same-length (claims t) (methods-at t) methods.Post Inv-loop μ-loop
+same-length t c = (c .before .before .loop) .inv .turning .moves .kept .same
+
+pub same-length-2 : (t : ℕ) → lts.Need-same-length-2 (claims t) (methods-at t) methods.Post Inv-loop μ-loop
+same-length-2 t c = (c .before .before .loop) .inv .turning .same
+
+pub returns : (t : ℕ) → lts.Need-returns (claims t) (methods-at t) methods.Post Inv-loop μ-loop
+returns t c = rw ((c .settle) .ensures) (lowers ((c .before .before .before .before .before .before .before .before) .pre .1) _ ((c .before .before .loop) .inv) ((c .before .loop-test) .left))

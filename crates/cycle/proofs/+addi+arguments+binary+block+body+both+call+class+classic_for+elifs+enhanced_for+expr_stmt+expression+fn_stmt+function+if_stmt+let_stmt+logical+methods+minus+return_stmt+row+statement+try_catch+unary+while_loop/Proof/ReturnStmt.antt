@@ -1,0 +1,118 @@
+-- fn visit_return_stmt: with no value one instruction, else the value and its Return.
+use Prim.Native.Nat.{ℕ, _<_}
+use Rattle.cycle.proofs.expression.Reads as expression
+use Rattle.cycle.proofs.return_stmt.Reads as return-stmt
+use Rattle.cycle.proofs.+addi+arguments+binary+block+body+both+call+class+classic_for+elifs+enhanced_for+expr_stmt+expression+fn_stmt+function+if_stmt+let_stmt+logical+methods+minus+return_stmt+row+statement+try_catch+unary+while_loop.Lts-return_stmt as lts
+use Rattle.code.proofs.end_return.Reads as end-return-reads
+use Rattle.cycle.proofs.count_of.Reads as count-of-reads
+use Rattle.cycle.proofs.words_of.Reads as words-of-reads
+use Rattle.leaves.proofs.return_none.Reads as return-none-reads
+use Rattle.cycle.proofs.+addi+arguments+binary+block+body+both+call+class+classic_for+elifs+enhanced_for+expr_stmt+expression+fn_stmt+function+if_stmt+let_stmt+logical+methods+minus+return_stmt+row+statement+try_catch+unary+while_loop.Proof.Order.{expression-below, return-stmt-at}
+use Rattle.meaning.proofs.Reading.{Return as ReturnNode}
+use Prim.Native.Nat.{_*_, _+_}
+use Rattle.cycle.proofs.Nodes.{a-return}
+use Rattle.cycle.proofs.Sizes.{return-none-size, return-size}
+use Rattle.cycle.proofs.Way.{_▹_, arrive, ends, from, give-expr, leaf-lowers, next-leaf, on-node, readable, sets-by, stand}
+use Rattle.cycle.specs.Cycle.{AskExpr, GivenStmt, LowersExpr, LowersStmt}
+use Rattle.forward.proofs.Chains.{return-chain}
+use Rattle.forward.specs.Forward.{Config, end-return, going, pick, put, stopped}
+use Rattle.meaning.specs.At.{count-of, word-of}
+use Rattle.meaning.specs.Fields.{Field, fields}
+use Rattle.meaning.specs.Lower.{lower-expr}
+use Rattle.meaning.specs.Opcode.{Return, inst}
+use Rattle.meaning.specs.declared.Cause.the-variants.{Returned}
+use Rattle.store.specs.Promise.{Leaf, Room, uses}
+use Rattle.store.specs.Store.{Fine, while-going}
+use Rattle.store.specs.declared.Scope.{Scope}
+use Rattle.store.specs.declared.Step.{Step}
+use lib.Dec.{eqb}
+use mathlib.Core.Bool.{Bool, false, true}
+use mathlib.Core.List.{List}
+use mathlib.Core.Path.{_∙_, _≡_, ap, sym}
+use native.Mathlib.Omega.{arith}
+
+-- the result of an end is register 0
+end-zero : (node mark : ℕ) (c d : Config) → end-return node mark c ≡ going d → d .result ≡ 0
+unfolding end-return pick
+end-zero node mark c d e = by (eqb (c .result) 254) e
+  where
+    by : (b : Bool) → pick b (stopped Returned node) (going (put 0 (inst Return (c .result) (c .result + 2) 0 mark) c)) ≡ going d → d .result ≡ 0
+    by true e = let z : _≡_ {A = ℕ} 0 1 = cc in absurd (omega arith)
+    by false e = let z : put 0 (inst Return (c .result) (c .result + 2) 0 mark) c ≡ d = cc in sym (ap (λ (y : Config). y .result) z)
+
+-- there is one word or there are two
+two-words : {fs : List Field} {i : ℕ} → ReturnNode fs i → (n : ℕ) → n ≡ count-of fs i → (n ≡ 1 → ⊥) → count-of fs i ≡ 2
+two-words x n e h = omega (arith, x .size .0, x .size .1)
+
+module _ {t w : List ℕ} {p : Scope} {s : Step} {i : ℕ} (g : GivenStmt t w p s i) (x : ReturnNode (fields t) i) (two : count-of (fields t) i ≡ 2) where
+  value : AskExpr t w p s (word-of (fields t) i 1)
+  value = let n = return-size x two in give-expr (from (g .ready)) (g .known) (x .value two) (omega arith) (omega arith) (omega arith) (omega arith)
+
+  module _ {o w1 o1 : List ℕ} {s1 : Step} (d1 : LowersExpr t (word-of (fields t) i 1) w o p s w1 o1 s1) where
+    at-end : Fine w1 p s1 × Room w1 p s1 0 2 0 × while-going (s1 .outcome) (s1 .result < 255)
+    at-end =
+        let n = return-size x two in
+        let y = stand 0 2 0 (from (g .ready) ▹ d1 .does .moves) (omega arith) (omega arith) (omega arith) (omega arith) in
+        (y .fine, y .room, d1 .small)
+
+    lowers : {w2 : List ℕ} {s2 : Step} → Leaf w1 p s1 w2 p s2 (uses 2 0 0) (end-return i (word-of (fields t) i 0)) → LowersStmt t i w o p s w2 o1 s2
+    unfolding lower-expr
+    lowers d2 =
+        let n = return-size x two in
+        arrive _ _ (from (g .ready) ▹ d1 .does .moves ▹ d2 .moves) (omega arith) (omega arith) (omega arith) (λ z. omega arith)
+        (d1 .does .same) (sets-by 0 d2 (end-zero i (word-of (fields t) i 0)) (λ e. omega arith)) λ ps z.
+        let a1 = d1 .does .does ps z in
+        let a2 = next-leaf a1 d2 in
+        ends a2 (rw (x .is-some two) (return-chain _ _ _ _ _ (a1 .runs) _ (a2 .runs)))
+
+-- what each function that is called asks and promises; a member of the cycle at a smaller measure
+abbrev pub claims : ℕ → lts.Claims
+claims t = (count-of-reads.Asked, count-of-reads.Learnt, return-none-reads.Asked, return-none-reads.Learnt, words-of-reads.Asked, words-of-reads.Learnt, expression-below t, expression.Post, end-return-reads.Asked, end-return-reads.Learnt)
+
+pub count-of-requires : (t : ℕ) → lts.Need-count-of-requires (claims t) (return-stmt-at t) return-stmt.Post
+count-of-requires t c κs = readable ((c .before .before .before .before) .pre .1 .0 .ready) ((c .before .before .before .before) .pre .1 .0 .known)
+
+pub return-none-requires : (t : ℕ) → lts.Need-return-none-requires (claims t) (return-stmt-at t) return-stmt.Post
+return-none-requires t c κs =
+    let g = (c .before .before .before .before .before .before .before) .pre .1 .0 in
+    let e = sym ((c .before .before .count-of) .ensures .0) ∙ (c .before .if1) .taken in
+    let x = a-return (g .ready .lawful) (g .known) ((c .before .before .before .before .before .before .before) .pre .1 .1) in
+    (on-node (rw (return-none-size x e) at (g .ready)) (g .known), (c .before .before .before .before .before .before .before) .pre .1 .1, e)
+
+pub same-length : (t : ℕ) → lts.Need-same-length (claims t) (return-stmt-at t) return-stmt.Post
+same-length t c = (c .before .before .return-none) .ensures .leaf .moves .kept .same
+
+pub returns : (t : ℕ) → lts.Need-returns (claims t) (return-stmt-at t) return-stmt.Post
+returns t c =
+    let g = (c .before .before .before .before .before .before .before .before .before .before) .pre .1 .0 in
+    let n = return-none-size (a-return (g .ready .lawful) (g .known) ((c .before .before .before .before .before .before .before .before .before .before) .pre .1 .1)) (sym ((c .before .before .before .before .before .count-of) .ensures .0) ∙ (c .before .before .before .before .if1) .taken) in
+    leaf-lowers _ _ (ap (λ n. 8 * n) n) n ((c .before .before .return-none) .ensures)
+
+pub words-of-requires : (t : ℕ) → lts.Need-words-of-requires (claims t) (return-stmt-at t) return-stmt.Post
+words-of-requires t c κs = readable ((c .before .before .before .before .before .before .before) .pre .1 .0 .ready) ((c .before .before .before .before .before .before .before) .pre .1 .0 .known)
+
+pub expression-requires : (t : ℕ) → lts.Need-expression-requires (claims t) (return-stmt-at t) return-stmt.Post
+expression-requires t c κs =
+    let g = (c .before .before .before .before .before .before .before .before .before .before) .pre .1 .0 in
+    let x = a-return (g .ready .lawful) (g .known) ((c .before .before .before .before .before .before .before .before .before .before) .pre .1 .1) in
+    let two = two-words x _ ((c .before .before .before .before .before .count-of) .ensures .0) ((c .before .before .before .before .if1) .left) in
+    rw ((c .before .before .words-of) .ensures .0) (omega (arith, (c .before .before .before .before .before .before .before .before .before .before) .pre .0, x .value two .below), value g x two)
+
+pub end-return-requires : (t : ℕ) → lts.Need-end-return-requires (claims t) (return-stmt-at t) return-stmt.Post
+end-return-requires t c κs =
+    let g = (c .before .before .before .before .before .before .before .before .before .before .before .before .before .before .before .before) .pre .1 .0 in
+    let x = a-return (g .ready .lawful) (g .known) ((c .before .before .before .before .before .before .before .before .before .before .before .before .before .before .before .before) .pre .1 .1) in
+    at-end g x (two-words x _ ((c .before .before .before .before .before .before .before .before .before .before .before .count-of) .ensures .0) ((c .before .before .before .before .before .before .before .before .before .before .if1) .left)) (rw ((c .before .before .before .before .before .before .before .before .words-of) .ensures .0) at ((c .before .before .before .before .before .expression) .ensures))
+
+pub same-length-2 : (t : ℕ) → lts.Need-same-length-2 (claims t) (return-stmt-at t) return-stmt.Post
+same-length-2 t c = (c .before .before .end-return) .ensures .moves .kept .same ∙ (c .before .before .before .before .before .before .before .before .expression) .ensures .does .moves .kept .same
+
+pub same-length-3 : (t : ℕ) → lts.Need-same-length-3 (claims t) (return-stmt-at t) return-stmt.Post
+same-length-3 t c = (c .before .before .before .before .before .before .before .before .expression) .ensures .does .same
+
+pub returns-2 : (t : ℕ) → lts.Need-returns-2 (claims t) (return-stmt-at t) return-stmt.Post
+returns-2 t c =
+    let g = (c .before .before .before .before .before .before .before .before .before .before .before .before .before .before .before .before .before .before .before) .pre .1 .0 in
+    let x = a-return (g .ready .lawful) (g .known) ((c .before .before .before .before .before .before .before .before .before .before .before .before .before .before .before .before .before .before .before) .pre .1 .1) in
+    let e = (c .before .before .before .before .before .before .before .before .before .before .before .words-of) .ensures .0 in
+    lowers g x (two-words x _ ((c .before .before .before .before .before .before .before .before .before .before .before .before .before .before .count-of) .ensures .0) ((c .before .before .before .before .before .before .before .before .before .before .before .before .before .if1) .left)) (rw e at ((c .before .before .before .before .before .before .before .before .expression) .ensures)) (rw e at ((c .before .before .end-return) .ensures))

@@ -1,0 +1,250 @@
+-- The way of a member: from where it was called to where its calls have brought it. At every call it stands somewhere on its way, and what the call asks
+-- follows from what the member was given and what was used since: that is one law, `stand`. At the end stands what it promises: `arrive`.
+use Prim.Native.Nat.{ℕ, _+_, _*_, _≤_, _<_, min}
+use mathlib.Core.Path.{_≡_, refl, sym, ap, _∙_}
+use mathlib.Core.List.{List, [], _∷_, _++_}
+use native.Mathlib.Omega.{arith}
+use lib.ListN.{length, length-append}
+use Rattle.meaning.specs.Fields.{fields}
+use Rattle.meaning.specs.At.{word-of, count-of, expr-at, stmt-at, stmts-at, ExprBelow, StmtBelow}
+use Rattle.meaning.specs.Weight.{size-expr, size-stmt, size-stmts}
+use Rattle.meaning.specs.State.{Proto, Chunk, M, leave-block}
+use Rattle.meaning.specs.declared.Cause.{Cause}
+use Rattle.meaning.specs.declared.Instruction.{Instruction}
+use Rattle.meaning.specs.declared.Outcome.{Outcome}
+use Rattle.meaning.specs.declared.Outcome.the-variants.{Accepted, Refused}
+use Rattle.nodes.specs.Offsets.{Readable}
+use Rattle.forward.specs.Forward.{Config, Run, going, bind, sure, fwd, fwd-unit}
+use Rattle.store.specs.declared.Step.{Step}
+use Rattle.store.specs.declared.Scope.{Scope}
+use Rattle.store.specs.Store.{run, config-of, goes-on, result-limit, while-going, deeper, looped, Image, Fine, Kept}
+use Rattle.store.specs.Promise.{Cost, uses, nothing, both, Used, Roomy, Room, Moves, Leaf, After, Does}
+use Rattle.store.proofs.Runs.{due, promised, none-due, kept-refl, run-going, leaf-absorbed}
+use Rattle.store.proofs.Compose.{moves-then, moves-by, leaf-after, leaf-does, known}
+use Rattle.store.proofs.Around.{loop-entered}
+use Rattle.code.specs.Words.{Bytes}
+use Rattle.parts.specs.Parts.{Small}
+use Rattle.leaves.specs.Node.{Lawful, OnNode, Gives}
+use Rattle.cycle.specs.Cycle.{Ready, AskExpr, AskStmt, AskRow, Lowers}
+
+-- ---- the way
+
+pub record Way (t w : List ℕ) (p : Scope) (s : Step) (k a b : ℕ) (w' : List ℕ) (q : Scope) (r : Step) (u : Cost) : Type 0 where
+  pub ready : Ready t w p s k a b
+  pub moves : Moves w p s w' q r u
+  pub nodes : p .nodes ≡ q .nodes
+  pub depth : p .depth ≤ q .depth
+  pub block : p .block ≤ q .block
+
+-- nothing happened yet
+pub none-moved : {w : List ℕ} {p : Scope} {s : Step} → Fine w p s → Moves w p s w p s nothing
+none-moved {w} {p} {s} h =
+    record {
+      fine = h;
+      kept = kept-refl w p;
+      back = λ g. g;
+      used = promised (s .outcome) (λ g. record { words = omega arith; locals = omega arith; names = omega arith; registers = omega arith });
+      longer = omega arith;
+      still = λ z. refl;
+    }
+
+pub from : {t w : List ℕ} {p : Scope} {s : Step} {k a b : ℕ} → Ready t w p s k a b → Way t w p s k a b w p s nothing
+from h = record { ready = h; moves = none-moved (h .fine); nodes = refl; depth = omega arith; block = omega arith }
+
+-- a call in the same scope; one after which the scope is another
+infixl 5 _▹_
+pub _▹_ : {t w w1 w2 : List ℕ} {p q : Scope} {s s1 s2 : Step} {k a b : ℕ} {u v : Cost} → Way t w p s k a b w1 q s1 u → Moves w1 q s1 w2 q s2 v → Way t w p s k a b w2 q s2 (both u v)
+_▹_ x m = record { ready = x .ready; moves = moves-then (x .nodes) (x .depth) (x .block) (x .moves) m; nodes = x .nodes; depth = x .depth; block = x .block }
+
+pub to : {t w w1 w2 : List ℕ} {p q : Scope} {s s1 s2 : Step} {k a b : ℕ} {u v : Cost} (q' : Scope) → p .nodes ≡ q' .nodes → p .depth ≤ q' .depth → p .block ≤ q' .block
+    → Way t w p s k a b w1 q s1 u → Moves w1 q s1 w2 q' s2 v → Way t w p s k a b w2 q' s2 (both u v)
+to q' n d e x m = record { ready = x .ready; moves = moves-then (x .nodes) (x .depth) (x .block) (x .moves) m; nodes = n; depth = d; block = e }
+
+-- ---- where it stands
+
+lawful-kept : {t w w' : List ℕ} {p : Scope} → Lawful t w (p .nodes) → Kept w p w' → Lawful t w' (p .nodes)
+lawful-kept {t} {w} {w'} {p} h g =
+    record {
+      nodes = h .nodes;
+      shapes = h .shapes;
+      offsets = record { inside = omega (arith, h .offsets .inside, g .same); each = λ i x. g .offsets (12288 + 15 * p .nodes + i) (omega arith) ∙ h .offsets .each i x };
+    }
+
+-- what is used up to here leaves room for k' nodes, a' words and b' locals
+pub stand-at : {t w w' : List ℕ} {p q : Scope} {s r : Step} {k a b : ℕ} {u : Cost} (k' a' b' : ℕ) → Way t w p s k a b w' q r u
+    → 8 * k' + a' + u .words ≤ 8 * k + a + u .words-back → k' + b' + u .locals ≤ k + b + u .locals-back → u .names + min 2 (p .block) ≤ u .names-back + min 2 (q .block)
+    → q .block + k' ≤ q .nodes + 1 + q .depth → q .loops + k' ≤ q .nodes + 1 → Ready t w' q r k' a' b'
+stand-at {t} {w} {w'} {p} {q} {s} {r} {k} {a} {b} {u} k' a' b' x l l' m c d =
+    record { lawful = rw (sym (x .nodes)) (lawful-kept (x .ready .lawful) (x .moves .kept)); fine = x .moves .fine; room = room; blocks = c; loops = d }
+  where
+    after : Used w p s w' q r u → Roomy w p s k a b → Roomy w' q r k' a' b'
+    after i j =
+        record {
+          words = omega (arith, i .words, j .words, l, x .nodes);
+          locals = omega (arith, i .locals, j .locals, l', x .nodes);
+          globals = omega (arith, i .names, j .globals);
+        }
+
+    room : Room w' q r k' a' b'
+    room = record { roomy = promised (r .outcome) (λ g. after (due (r .outcome) (x .moves .used) g) (due (s .outcome) (x .ready .room .roomy) (x .moves .back g))) }
+
+-- the same in the scope that it was called in
+pub stand : {t w w' : List ℕ} {p : Scope} {s r : Step} {k a b : ℕ} {u : Cost} (k' a' b' : ℕ) → Way t w p s k a b w' p r u
+    → 8 * k' + a' + u .words ≤ 8 * k + a + u .words-back → k' + b' + u .locals ≤ k + b + u .locals-back → u .names ≤ u .names-back → k' ≤ k → Ready t w' p r k' a' b'
+stand k' a' b' x l l' m e = stand-at k' a' b' x l l' (omega (arith, m)) (omega (arith, x .ready .blocks)) (omega (arith, x .ready .loops))
+
+-- in a block that is entered from here
+pub in-block : {t w w1 w2 : List ℕ} {p : Scope} {s r : Step} {k a b k' : ℕ} {u : Cost} → Way t w p s k a b w1 p r u → Moves w1 p r w2 (deeper p) r nothing
+    → 8 * k' + u .words ≤ 8 * k + a + u .words-back → k' + u .locals ≤ k + b + u .locals-back → u .names ≤ u .names-back → k' < k → Ready t w2 (deeper p) r k' 0 0
+in-block {p = p} {k' = k'} x m l l' n z =
+    stand-at k' 0 0 (to (deeper p) refl (omega arith) (omega arith) x m) (omega (arith, l)) (omega (arith, l')) (omega (arith, n)) (omega (arith, x .ready .blocks)) (omega (arith, x .ready .loops))
+
+-- ---- what a step does, after what another did
+
+pub next : {w' o' w2 o2 : List ℕ} {q t : Scope} {s1 s2 : Step} {u : Cost} {x : Run} {op : Config → Run} → (a : After w' o' q s1 x) → Does w' o' q s1 w2 o2 t s2 u op → After w2 o2 t s2 (bind (run w' q s1 (a .protos)) op)
+next a d = d .does (a .protos) (a .image)
+
+pub next-leaf : {w' o' w2 : List ℕ} {q t : Scope} {s1 s2 : Step} {u : Cost} {x : Run} {op : Config → Run} → (a : After w' o' q s1 x) → Leaf w' q s1 w2 t s2 u op → After w2 o' t s2 (bind (run w' q s1 (a .protos)) op)
+next-leaf {o' = o'} a l = leaf-after l o' (a .protos) (a .image)
+
+pub next-left : {w o w' : List ℕ} {p : Scope} {r : Step} {x : Run} → (a : After w o (deeper p) r x) → ((ps : List Proto) → run w' p r ps ≡ bind (run w (deeper p) r ps) (fwd-unit leave-block)) → After w' o p r (bind (run w (deeper p) r (a .protos)) (fwd-unit leave-block))
+next-left a h = record { protos = a .protos; image = a .image; runs = h (a .protos) }
+
+pub ends : {w' o' : List ℕ} {q : Scope} {r : Step} {x y : Run} → (a : After w' o' q r x) → run w' q r (a .protos) ≡ y → After w' o' q r y
+ends a e = record { protos = a .protos; image = a .image; runs = e }
+
+-- ---- what is known of a step from what it stands for
+
+going-is : (o : Outcome) → goes-on o → (x : ℕ) × (o ≡ Accepted x)
+going-is (Accepted x) g = (x, refl)
+going-is (Refused k n) g = absurd g
+
+-- of the code's length and the result, where the step goes on
+pub leaf-known : {w w' : List ℕ} {p q : Scope} {s r : Step} {u : Cost} {op : Config → Run} (P : (code result code' result' : ℕ) → Type 0)
+    → Leaf w p s w' q r u op → ((c d : Config) → op c ≡ going d → P (length (c .code)) (c .result) (length (d .code)) (d .result)) → while-going (r .outcome) (P (s .code) (s .result) (r .code) (r .result))
+unfolding bind config-of
+leaf-known {w} {w'} {p} {q} {s} {r} {u} {op} P l h = promised (r .outcome) λ g.
+    let e = going-is (r .outcome) g in
+    let f = going-is (s .outcome) (l .moves .back g) in
+    let c = config-of w p s [] in
+    let d = config-of w' q r [] in
+    let n = known w p s [] in
+    let m = known w' q r [] in
+    let cs = run-going w p s [] (f .0) (f .1) in
+    let ds = run-going w' q r [] (e .0) (e .1) in
+    let z = h c d (sym (ap (λ (x : Run). bind x op) cs) ∙ sym (l .runs []) ∙ ds) in
+    rw (n .size c cs, m .size d ds) z
+
+sure-is : (f : Config → Config) (c d : Config) → sure f c ≡ going d → f c ≡ d
+sure-is f c d e = cc
+
+-- a result that is v, below 255
+pub sets-by : {w w' : List ℕ} {p q : Scope} {s r : Step} {u : Cost} {op : Config → Run} (v : ℕ) → Leaf w p s w' q r u op → ((c d : Config) → op c ≡ going d → d .result ≡ v) → (goes-on (r .outcome) → v < 255) → Small r
+sets-by {r = r} v l h m = promised (r .outcome) λ g. let e = due (r .outcome) (leaf-known (λ n x n' x'. x' ≡ v) l h) g in omega (arith, e, m g)
+
+module _ {w w' : List ℕ} {p q : Scope} {s r : Step} {u : Cost} {f : Config → Config} (l : Leaf w p s w' q r u (sure f)) where
+  -- the result stays, or is v
+  pub keeps : ((c : Config) → f c .result ≡ c .result) → Small s → Small r
+  keeps h m =
+      promised (r .outcome) λ g.
+      let e = due (r .outcome) (leaf-known (λ n v n' v'. v' ≡ v) l (λ c d e. sym (ap (λ (x : Config). x .result) (sure-is f c d e)) ∙ h c)) g in
+      omega (arith, e, due (s .outcome) m (l .moves .back g))
+
+  pub sets : (v : ℕ) → ((c : Config) → f c .result ≡ v) → (goes-on (r .outcome) → v < 255) → Small r
+  sets v h m = sets-by v l (λ c d e. sym (ap (λ (x : Config). x .result) (sure-is f c d e)) ∙ h c) m
+
+  -- n instructions more
+  pub adds : (n : ℕ) → ((c : Config) → length (f c .code) ≡ length (c .code) + n) → goes-on (r .outcome) → r .code ≡ s .code + n
+  adds n h g = due (r .outcome) (leaf-known (λ m x m' x'. m' ≡ m + n) l (λ c d e. sym (ap (λ (x : Config). length (x .code)) (sure-is f c d e)) ∙ h c)) g
+
+pub twice : (l : List Instruction) (i j : Instruction) → length ((l ++ i ∷ []) ++ j ∷ []) ≡ length l + 2
+twice l i j = simp length-append (omega arith)
+
+-- a fact that is due while nothing is refused
+pub meanwhile : (o : Outcome) (P : Type 0) → (goes-on o → P) → while-going o P
+meanwhile o P h = promised o h
+
+-- a register
+pub small : (s : Step) → s .result < 255 → Small s
+small s h = promised (s .outcome) λ g. h
+
+-- a result is below 1,024
+limit-few : (o : Outcome) (v : ℕ) → v < result-limit o → v < 1024
+limit-few (Accepted x) v h = h
+limit-few (Refused k n) v h = omega arith
+
+pub few-results : {w : List ℕ} {p : Scope} {s : Step} → Fine w p s → s .result < 1024
+few-results {s = s} h = limit-few (s .outcome) (s .result) (h .result)
+
+-- operands that fit their bytes
+pub fits : (o : Outcome) (op a b c : ℕ) → (goes-on o → (op < 256) × (a < 256) × (b < 256) × (c < 256)) → while-going o (Bytes op a b c)
+fits o op a b c h = promised o λ g. record { op-small = h g .0; a-small = h g .1; b-small = h g .2; c-small = h g .3 }
+
+-- ---- nodes
+
+-- the node is one of the tree's
+pub inside : {t w : List ℕ} {n i : ℕ} → Lawful t w n → i < n → i < length (fields t)
+inside h l = omega (arith, l, h .nodes)
+
+-- its words can be read
+pub readable : {t w : List ℕ} {p : Scope} {s : Step} {k a b i : ℕ} → Ready t w p s k a b → i < p .nodes → Readable t w (12288 + 15 * p .nodes) i × (p .nodes ≤ 32768)
+readable r l = (record { offsets = r .lawful .offsets; known = inside (r .lawful) l }, r .fine .sound .few)
+
+-- a node without children, where it stands
+pub on-node : {t w : List ℕ} {p : Scope} {s : Step} {k i : ℕ} → Ready t w p s k 0 0 → i < p .nodes → OnNode t w p s k i
+on-node r l = record { lawful = r .lawful; fine = r .fine; room = r .room; known = l }
+
+-- a child that is an expression, a statement
+pub ask-expr : {t w : List ℕ} {p : Scope} {s : Step} {i c : ℕ} → Ready t w p s (size-expr (expr-at (fields t) c)) 0 0 → i < p .nodes → ExprBelow (fields t) i c → AskExpr t w p s c
+ask-expr r h e = (record { ready = r; known = omega (arith, h, e .below) }, e .low, e .high)
+
+pub ask-stmt : {t w : List ℕ} {p : Scope} {s : Step} {i c : ℕ} → Ready t w p s (size-stmt (stmt-at (fields t) c)) 0 0 → i < p .nodes → StmtBelow (fields t) i c → AskStmt t w p s c
+ask-stmt r h e = (record { ready = r; known = omega (arith, h, e .below) }, e .low, e .high, e .no-elif)
+
+module _ {t w w' : List ℕ} {p : Scope} {s r : Step} {k a b i : ℕ} {u : Cost} (x : Way t w p s k a b w' p r u) (h : i < p .nodes) where
+  pub give-expr : {c : ℕ} → ExprBelow (fields t) i c → 8 * size-expr (expr-at (fields t) c) + u .words ≤ 8 * k + a + u .words-back → size-expr (expr-at (fields t) c) + u .locals ≤ k + b + u .locals-back → u .names ≤ u .names-back → size-expr (expr-at (fields t) c) ≤ k
+      → AskExpr t w' p r c
+  give-expr e l l' m z = ask-expr (stand _ 0 0 x (omega (arith, l)) (omega (arith, l')) m z) h e
+
+  pub give-stmt : {c : ℕ} → StmtBelow (fields t) i c → 8 * size-stmt (stmt-at (fields t) c) + u .words ≤ 8 * k + a + u .words-back → size-stmt (stmt-at (fields t) c) + u .locals ≤ k + b + u .locals-back → u .names ≤ u .names-back → size-stmt (stmt-at (fields t) c) ≤ k
+      → AskStmt t w' p r c
+  give-stmt e l l' m z = ask-stmt (stand _ 0 0 x (omega (arith, l)) (omega (arith, l')) m z) h e
+
+  -- the body of a loop
+  pub give-looped : {c : ℕ} → StmtBelow (fields t) i c → 8 * size-stmt (stmt-at (fields t) c) + u .words ≤ 8 * k + a + u .words-back → size-stmt (stmt-at (fields t) c) + u .locals ≤ k + b + u .locals-back → u .names ≤ u .names-back → size-stmt (stmt-at (fields t) c) < k
+      → AskStmt t w' (looped p) r c
+  give-looped e l l' m z =
+      let f = x .ready .loops in
+      let y = to (looped p) refl (omega arith) (omega arith) x (loop-entered (x .moves .fine) (omega arith) .moves) in
+      ask-stmt (stand-at _ 0 0 y (omega (arith, l)) (omega (arith, l')) (omega (arith, m)) (omega (arith, x .ready .blocks)) (omega arith)) h e
+
+  -- statements one after the other
+  pub give-row : (f g : ℕ) → g ≤ count-of (fields t) i → ((j : ℕ) → f ≤ j → j < g → StmtBelow (fields t) i (word-of (fields t) i j))
+      → 8 * size-stmts (stmts-at (fields t) i f g) + u .words ≤ 8 * k + a + u .words-back → size-stmts (stmts-at (fields t) i f g) + u .locals ≤ k + b + u .locals-back → u .names ≤ u .names-back → size-stmts (stmts-at (fields t) i f g) ≤ k
+      → AskRow t w' p r i f g
+  give-row f g d e l l' m z = record { ready = stand _ 0 0 x (omega (arith, l)) (omega (arith, l')) m z; known = h; ends = d; each = e }
+
+-- ---- the end of the way
+
+-- it used x words and y locals at most
+pub spends : {t w w' : List ℕ} {p q : Scope} {s r : Step} {k a b : ℕ} {u : Cost} (x y : ℕ) → u .words ≤ x + u .words-back → u .locals ≤ y + u .locals-back → u .names ≤ u .names-back → (y ≡ 0 → u .locals ≡ 0)
+    → Way t w p s k a b w' q r u → Moves w p s w' q r (uses x y 0)
+spends x y d e f z h = moves-by (uses x y 0) (omega (arith, d)) (omega (arith, e)) (omega (arith, f)) z (h .moves)
+
+-- what a member promises: it used x words and y locals at most, gives a register and does `op`
+pub arrive : {t w o w' o' : List ℕ} {p : Scope} {s r : Step} {k a b : ℕ} {u : Cost} {op : Config → Run} (x y : ℕ) → Way t w p s k a b w' p r u
+    → u .words ≤ x + u .words-back → u .locals ≤ y + u .locals-back → u .names ≤ u .names-back → (y ≡ 0 → u .locals ≡ 0)
+    → length o' ≡ length o → Small r → ((ps : List Proto) → Image o s ps → After w' o' p r (bind (run w p s ps) op)) → Lowers w o p s w' o' r (uses x y 0) op
+arrive x y h d e f z l m g = record { does = record { moves = spends x y d e f z h; same = l; does = g }; small = m }
+
+-- the same step under another name
+pub likewise : {w o w' o' : List ℕ} {p : Scope} {s r : Step} {u : Cost} {m m' : M Chunk} → m ≡ m' → Lowers w o p s w' o' r u (fwd m) → Lowers w o p s w' o' r u (fwd m')
+likewise e d = rw (sym e) d
+
+-- a refused step stays
+pub refused-stays : {w o : List ℕ} {p : Scope} {s : Step} (u : Cost) (op : Config → Run) {k : Cause} {n : ℕ} → Fine w p s → s .outcome ≡ Refused k n → Lowers w o p s w o s u op
+refused-stays {w} {o} {p} {s} u op h e = record { does = leaf-does (leaf-absorbed u op h e) o; small = none-due (s .result < 255) e }
+
+-- a node without children, as a member
+pub leaf-lowers : {w o w' : List ℕ} {p : Scope} {s r : Step} {x y : ℕ} {op : Config → Run} (x' y' : ℕ) → x' ≡ x → y' ≡ y → Gives w p s w' r (uses x y 0) op → Lowers w o p s w' o r (uses x' y' 0) op
+leaf-lowers {o = o} x' y' e f h = rw (e, f) (record { does = leaf-does (h .leaf) o; small = h .small })

@@ -1,0 +1,159 @@
+-- The functions of the cycle, in which statements and expressions are lowered: what each is given and what it promises. A promise is `Does` of the
+-- definition's own step, with what it uses: eight words and a local for each node of the syntax tree that is lowered.
+use Prim.Native.Nat.{ℕ, _+_, _-_, _*_, _<_, _≤_}
+use mathlib.Core.Path.{_≡_}
+use mathlib.Core.List.{List}
+use mathlib.Core.Option.{none, some}
+use Rattle.meaning.specs.Fields.{Field, fields}
+use Rattle.meaning.specs.At.{tag-of, word-of, count-of, expr-at, stmt-at, fun-at, exprs-at, stmts-at, funs-at, elifs-at, ExprBelow, StmtBelow, TagBelow}
+use Rattle.meaning.specs.Weight.{size-expr, size-exprs, size-stmt, size-stmts, size-elifs, size-fun, size-funs}
+use Rattle.meaning.specs.State.{M, Chunk}
+use Rattle.meaning.specs.Expressions.{visit-addi, visit-both, visit-binary}
+use Rattle.meaning.specs.Functions.{visit-body}
+use Rattle.meaning.specs.Lower.{lower-expr, lower-arguments, lower-stmt, lower-stmts, lower-elifs, lower-fun, lower-methods}
+use Rattle.forward.specs.Forward.{Config, Run, fwd, fwd-code, fwd-row}
+use Rattle.store.specs.declared.Step.{Step}
+use Rattle.store.specs.declared.Scope.{Scope}
+use Rattle.store.specs.Store.{while-going, Fine}
+use Rattle.store.specs.Promise.{Cost, uses, Room, Does}
+use Rattle.parts.specs.Parts.{Small}
+use Rattle.leaves.specs.Node.{Lawful}
+use Rattle.cycle.specs.declared.Words.{Words}
+use Rattle.cycle.specs.declared.Branches.{Branches}
+
+-- ---- what is given
+
+-- a lawful tree, and room for k nodes that are still to be lowered, and for a words and b locals beside; a node opens a block and a loop at most
+pub record Ready (t w : List ℕ) (p : Scope) (s : Step) (k a b : ℕ) : Type 0 where
+  pub lawful : Lawful t w (p .nodes)
+  pub fine : Fine w p s
+  pub room : Room w p s k a b
+  pub blocks : p .block + k ≤ p .nodes + 1 + p .depth
+  pub loops : p .loops + k ≤ p .nodes + 1
+
+-- node i of the tree, under which k nodes stand
+pub record Given (t w : List ℕ) (p : Scope) (s : Step) (i k : ℕ) : Type 0 where
+  pub ready : Ready t w p s k 0 0
+  pub known : i < p .nodes
+
+abbrev pub GivenExpr : (t w : List ℕ) → Scope → Step → (i : ℕ) → Type 0
+GivenExpr t w p s i = Given t w p s i (size-expr (expr-at (fields t) i))
+
+abbrev pub GivenStmt : (t w : List ℕ) → Scope → Step → (i : ℕ) → Type 0
+GivenStmt t w p s i = Given t w p s i (size-stmt (stmt-at (fields t) i))
+
+-- any expression, any statement, a function statement as a method
+abbrev pub AskExpr : (t w : List ℕ) → Scope → Step → (i : ℕ) → Type 0
+AskExpr t w p s i = GivenExpr t w p s i × (0x01 ≤ tag-of (fields t) i) × (tag-of (fields t) i ≤ 0x09)
+
+abbrev pub AskStmt : (t w : List ℕ) → Scope → Step → (i : ℕ) → Type 0
+AskStmt t w p s i = GivenStmt t w p s i × (0x10 ≤ tag-of (fields t) i) × (tag-of (fields t) i ≤ 0x1D) × (tag-of (fields t) i ≡ 0x1A → ⊥)
+
+abbrev pub AskFun : (t w : List ℕ) → Scope → Step → (i : ℕ) → Type 0
+AskFun t w p s i = Given t w p s i (size-fun (fun-at (fields t) i)) × (tag-of (fields t) i ≡ 0x1C) × (p .depth ≤ 7)
+
+-- the children in the words `from` up to `to` of node i, under which k nodes stand
+pub record Children (t w : List ℕ) (p : Scope) (s : Step) (i from to k a : ℕ) (Below : ℕ → Type 0) : Type 0 where
+  pub ready : Ready t w p s k a 0
+  pub known : i < p .nodes
+  pub ends : to ≤ count-of (fields t) i
+  pub each : (j : ℕ) → from ≤ j → j < to → Below (word-of (fields t) i j)
+
+abbrev pub AskRow : (t w : List ℕ) → Scope → Step → (i from to : ℕ) → Type 0
+AskRow t w p s i from to = Children t w p s i from to (size-stmts (stmts-at (fields t) i from to)) 0 (StmtBelow (fields t) i)
+
+abbrev pub AskElifs : (t w : List ℕ) → Scope → Step → (i from to : ℕ) → Type 0
+AskElifs t w p s i from to = Children t w p s i from to (size-elifs (elifs-at (fields t) i from to)) 0 (TagBelow (fields t) 0x1A i)
+
+-- the methods of a class in register `class`
+abbrev pub AskMethods : (t w : List ℕ) → Scope → Step → (i from to op class : ℕ) → Type 0
+AskMethods t w p s i from to op class =
+    Children t w p s i from to (size-funs (funs-at (fields t) i from to)) 0 (TagBelow (fields t) 0x1C i) × (p .depth ≤ 7) × (op < 256) × (class < 1024) × while-going (s .outcome) (class + 1 < 255)
+
+-- the arguments of a call, for which registers from `register` on are taken: each is moved to its own, which takes two words
+abbrev pub AskArguments : (t w : List ℕ) → Scope → Step → (i register : ℕ) → Type 0
+AskArguments t w p s i register =
+    Children t w p s i 2 (count-of (fields t) i) (size-exprs (exprs-at (fields t) i 2 (count-of (fields t) i))) (2 * (count-of (fields t) i - 2)) (ExprBelow (fields t) i)
+    × (register ≤ 1024) × while-going (s .outcome) (register + (count-of (fields t) i - 2) ≤ 255)
+
+-- the body of a function, from word `from` on; it opens a block, and its Return takes two words
+abbrev pub AskBody : (t w : List ℕ) → Scope → Step → (i from : ℕ) → Type 0
+AskBody t w p s i from =
+    Children t w p s i from (count-of (fields t) i) (size-stmts (stmts-at (fields t) i from (count-of (fields t) i))) 2 (StmtBelow (fields t) i)
+    × (p .block + 1 + size-stmts (stmts-at (fields t) i from (count-of (fields t) i)) ≤ p .nodes + 1 + p .depth) × (from ≤ count-of (fields t) i) × Small s
+
+-- ---- what is promised
+
+-- a step that gives a register
+pub record Lowers (w o : List ℕ) (p : Scope) (s : Step) (w' o' : List ℕ) (r : Step) (u : Cost) (op : Config → Run) : Type 0 where
+  pub does : Does w o p s w' o' p r u op
+  pub small : Small r
+
+abbrev pub LowersExpr : (t : List ℕ) (i : ℕ) (w o : List ℕ) → Scope → Step → (w' o' : List ℕ) → Step → Type 0
+LowersExpr t i w o p s w' o' r = Lowers w o p s w' o' r (uses (8 * size-expr (expr-at (fields t) i)) 0 0) (fwd (lower-expr (expr-at (fields t) i)))
+
+abbrev pub LowersStmt : (t : List ℕ) (i : ℕ) (w o : List ℕ) → Scope → Step → (w' o' : List ℕ) → Step → Type 0
+LowersStmt t i w o p s w' o' r =
+    Lowers w o p s w' o' r (uses (8 * size-stmt (stmt-at (fields t) i)) (size-stmt (stmt-at (fields t) i)) 0) (fwd (lower-stmt (stmt-at (fields t) i)))
+
+-- a function statement leaves a Closure and its name, whatever its body is
+abbrev pub LowersFun : (t : List ℕ) (i : ℕ) (w o : List ℕ) → Scope → Step → (w' o' : List ℕ) → Step → Type 0
+LowersFun t i w o p s w' o' r = Lowers w o p s w' o' r (uses 4 1 0) (fwd (lower-fun (fun-at (fields t) i)))
+
+-- statements one after the other: the result is the last one's
+pub record LowersRow (t : List ℕ) (i from to : ℕ) (w o : List ℕ) (p : Scope) (s : Step) (w' o' : List ℕ) (r : Step) : Type 0 where
+  pub does : Does w o p s w' o' p r (uses (8 * size-stmts (stmts-at (fields t) i from to)) (size-stmts (stmts-at (fields t) i from to)) 0) (fwd-row (lower-stmts (stmts-at (fields t) i from to)))
+  pub small : Small s → Small r
+
+abbrev pub LowersElifs : (t : List ℕ) (i from to : ℕ) (w o : List ℕ) → Scope → Step → (w' o' : List ℕ) → Step → Type 0
+LowersElifs t i from to w o p s w' o' r =
+    Lowers w o p s w' o' r (uses (8 * size-elifs (elifs-at (fields t) i from to)) (size-elifs (elifs-at (fields t) i from to)) 0) (fwd-code (lower-elifs (elifs-at (fields t) i from to)))
+
+abbrev pub LowersMethods : (t : List ℕ) (i from to mark op class : ℕ) (w o : List ℕ) → Scope → Step → (w' o' : List ℕ) → Step → Type 0
+LowersMethods t i from to mark op class w o p s w' o' r =
+    Lowers w o p s w' o' r (uses (8 * size-funs (funs-at (fields t) i from to)) (size-funs (funs-at (fields t) i from to)) 0) (fwd-code (lower-methods (funs-at (fields t) i from to) i mark op class (class + 1)))
+
+abbrev pub LowersArguments : (t : List ℕ) (i register : ℕ) (w o : List ℕ) → Scope → Step → (w' o' : List ℕ) → Step → Type 0
+LowersArguments t i register w o p s w' o' r =
+    Lowers w o p s w' o' r (uses (8 * size-exprs (exprs-at (fields t) i 2 (count-of (fields t) i)) + 2 * (count-of (fields t) i - 2)) 0 0) (fwd-code (lower-arguments (exprs-at (fields t) i 2 (count-of (fields t) i)) register))
+
+abbrev pub LowersBody : (t : List ℕ) (i from : ℕ) (w o : List ℕ) → Scope → Step → (w' o' : List ℕ) → Step → Type 0
+LowersBody t i from w o p s w' o' r =
+    Does w o p s w' o' p r (uses (8 * size-stmts (stmts-at (fields t) i from (count-of (fields t) i)) + 2) 0 0) (fwd-code (visit-body i (lower-stmts (stmts-at (fields t) i from (count-of (fields t) i)))))
+
+-- the forms of a binary: a small number k on the right of Plus, on the left of Minus, neither
+abbrev pub LowersBinary : (t : List ℕ) (i : ℕ) (w o : List ℕ) → Scope → Step → (w' o' : List ℕ) → Step → M Chunk → Type 0
+LowersBinary t i w o p s w' o' r m = Lowers w o p s w' o' r (uses (8 * size-expr (expr-at (fields t) i)) 0 0) (fwd m)
+
+abbrev pub operand : (t : List ℕ) (i k : ℕ) → M Chunk
+operand t i k = lower-expr (expr-at (fields t) (word-of (fields t) i k))
+
+abbrev pub LowersAddi : (t : List ℕ) (i k : ℕ) (w o : List ℕ) → Scope → Step → (w' o' : List ℕ) → Step → Type 0
+LowersAddi t i k w o p s w' o' r = LowersBinary t i w o p s w' o' r (visit-addi i (word-of (fields t) i 1) k (operand t i 2))
+
+abbrev pub LowersMinus : (t : List ℕ) (i : ℕ) (w o : List ℕ) → Scope → Step → (w' o' : List ℕ) → Step → Type 0
+LowersMinus t i w o p s w' o' r =
+    LowersBinary t i w o p s w' o' r (visit-binary i (word-of (fields t) i 0) (word-of (fields t) i 1) none (some 0) (operand t i 2) (operand t i 3))
+
+abbrev pub LowersBoth : (t : List ℕ) (i : ℕ) (w o : List ℕ) → Scope → Step → (w' o' : List ℕ) → Step → Type 0
+LowersBoth t i w o p s w' o' r = LowersBinary t i w o p s w' o' r (visit-both i (word-of (fields t) i 0) (word-of (fields t) i 1) (operand t i 2) (operand t i 3))
+
+-- ---- the words of a node
+
+-- the first words of node i, and the same as children
+abbrev pub first-words : List Field → ℕ → Words
+first-words fs i =
+    record {
+      a = word-of fs i 0;
+      b = word-of fs i 1;
+      c = word-of fs i 2;
+      child0 = word-of fs i 0;
+      child1 = word-of fs i 1;
+      child2 = word-of fs i 2;
+      child3 = word-of fs i 3;
+      child4 = word-of fs i 4;
+    }
+
+-- where the parts of an if end: its statements, its elifs, its else
+abbrev pub branches-of : List Field → ℕ → Branches
+branches-of fs i = record { thens = 3 + word-of fs i 2; elifs = 4 + word-of fs i 2 + word-of fs i (3 + word-of fs i 2); all = count-of fs i }
