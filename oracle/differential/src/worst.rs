@@ -28,7 +28,7 @@ fn main() -> ExitCode {
     let trees: Vec<Worst> = worst().into_iter().filter(|w| slow || !w.slow).collect();
     for w in &trees {
         let (took, verdict) = call(lower, w, &mut stack, &mut rng);
-        let verdict = verdict.and(in_time(w, &took));
+        let verdict = verdict.and(in_time(w, &took)).and(in_stack(&took));
         let words = verdict.as_ref().map_or_else(|fault| format!("  WRONG: {fault}"), |()| String::new());
         println!("{:44} {:6} {:9.1} {:8}{words}", w.name, w.tree.size(), took.seconds * 1000.0, took.stack_bytes);
         faults += usize::from(verdict.is_err());
@@ -42,6 +42,17 @@ fn in_time(w: &Worst, took: &Took) -> Result<(), String> {
     match took.seconds < LIMIT || w.slow {
         true => Ok(()),
         false => Err(format!("over {LIMIT} seconds")),
+    }
+}
+
+/// A caller is told in include/yengrazul.h how much stack is enough.
+fn in_stack(took: &Took) -> Result<(), String> {
+    let header = include_str!("../../../include/yengrazul.h");
+    let said = header.lines().find_map(|line| line.strip_prefix("#define YENGRAZUL_STACK_BYTES "));
+    let said: usize = said.and_then(|said| said.parse().ok()).expect("the header says how much stack a call takes");
+    match took.stack_bytes < said {
+        true => Ok(()),
+        false => Err(format!("over {said} bytes of stack")),
     }
 }
 
