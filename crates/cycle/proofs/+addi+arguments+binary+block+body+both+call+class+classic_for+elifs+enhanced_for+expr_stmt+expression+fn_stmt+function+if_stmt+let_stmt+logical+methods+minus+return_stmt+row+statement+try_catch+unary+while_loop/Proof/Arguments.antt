@@ -15,9 +15,7 @@ use Rattle.cycle.proofs.Sizes.{exprs-size, exprs-size-none}
 use Rattle.cycle.proofs.Turns.{Turning, closed, none-turned, turned}
 use Rattle.cycle.proofs.Way.{_▹_, arrive, fits, from, give-expr, next-leaf, readable, small, spends, stand}
 use Rattle.cycle.specs.Cycle.{AskArguments, AskExpr, LowersArguments, LowersExpr}
-use Rattle.forward.proofs.Calls.{does}
 use Rattle.forward.proofs.Chains.{argument-chain}
-use Rattle.forward.proofs.Steps.{last, same}
 use Rattle.forward.specs.Forward.{emit, fwd-code, sure}
 use Rattle.meaning.proofs.Rows.{exprs-more, exprs-none}
 use Rattle.meaning.specs.At.{ExprBelow, count-of, expr-at, exprs-at, word-of}

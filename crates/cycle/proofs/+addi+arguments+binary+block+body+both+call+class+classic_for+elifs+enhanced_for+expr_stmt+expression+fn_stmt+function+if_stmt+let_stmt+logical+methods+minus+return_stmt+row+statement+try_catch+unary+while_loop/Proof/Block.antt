@@ -22,7 +22,7 @@ use Rattle.meaning.specs.Lower.{lower-expr}
 use Rattle.meaning.specs.State.{enter-block}
 use Rattle.meaning.specs.Weight.{size-stmts}
 use Rattle.store.proofs.Around.{block-around, block-left}
-use Rattle.store.proofs.Compose.{known, leaf-after, settled}
+use Rattle.store.proofs.Compose.{leaf-after, settled}
 use Rattle.store.specs.Promise.{Leaf, Popped, nothing}
 use Rattle.store.specs.Store.{Kept, Sound, deeper, with-result}
 use Rattle.store.specs.declared.Scope.{Scope}

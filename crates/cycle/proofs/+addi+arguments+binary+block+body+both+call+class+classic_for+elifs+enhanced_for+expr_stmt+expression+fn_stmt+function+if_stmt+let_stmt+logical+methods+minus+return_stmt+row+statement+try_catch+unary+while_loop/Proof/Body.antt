@@ -12,10 +12,8 @@ use Prim.Native.Nat.{_+_, _-_, _≤_}
 use Rattle.cycle.proofs.Sizes.{stmts-count}
 use Rattle.cycle.proofs.Way.{_▹_, ends, from, give-row, meanwhile, next, next-leaf, next-left, readable, spends, stand, stand-at, to}
 use Rattle.cycle.specs.Cycle.{AskBody, AskRow, LowersBody, LowersRow, Ready}
-use Rattle.forward.proofs.Calls.{does}
 use Rattle.forward.proofs.Chains.{body-chain}
 use Rattle.forward.proofs.FunctionsForward.{rows}
-use Rattle.forward.proofs.Steps.{same}
 use Rattle.forward.specs.Forward.{end-body, fwd-unit}
 use Rattle.meaning.specs.At.{count-of, stmts-at}
 use Rattle.meaning.specs.Fields.{fields}

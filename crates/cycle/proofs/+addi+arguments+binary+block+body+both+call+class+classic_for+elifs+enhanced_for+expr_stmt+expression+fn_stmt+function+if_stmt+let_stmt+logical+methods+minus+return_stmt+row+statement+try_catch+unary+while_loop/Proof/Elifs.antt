@@ -1,5 +1,5 @@
 -- fn visit_if_stmt, its elifs: the loop stands before elif k; those before it are done, those from it on are pending. Each is a condition, a jump past its statements and a jump to the end.
-use Prim.Native.Nat.{ℕ, _<_}
+use Prim.Native.Nat.{ℕ, _+_, _-_, _*_, _<_, _≤_}
 use Rattle.cycle.proofs.elifs.Reads as elifs
 use Rattle.cycle.proofs.+addi+arguments+binary+block+body+both+call+class+classic_for+elifs+enhanced_for+expr_stmt+expression+fn_stmt+function+if_stmt+let_stmt+logical+methods+minus+return_stmt+row+statement+try_catch+unary+while_loop.Lts-elifs as lts
 use Rattle.cycle.proofs.expression.Reads as expression
@@ -14,15 +14,12 @@ use Rattle.store.proofs.settle.Reads as settle-reads
 use Rattle.cycle.proofs.+addi+arguments+binary+block+body+both+call+class+classic_for+elifs+enhanced_for+expr_stmt+expression+fn_stmt+function+if_stmt+let_stmt+logical+methods+minus+return_stmt+row+statement+try_catch+unary+while_loop.Proof.Order.{elifs-at, expression-below, row-below}
 use Rattle.cycle.proofs.Way.{from}
 use Rattle.meaning.specs.At.{elifs-at as elif-row}
-use Prim.Native.Nat.{_*_, _+_, _-_, _≤_}
 use Rattle.cycle.proofs.Nodes.{an-elif}
 use Rattle.cycle.proofs.Sizes.{elifs-size, elifs-size-none}
 use Rattle.cycle.proofs.Turns.{Turning, closed, none-turned, turned}
 use Rattle.cycle.proofs.Way.{_▹_, adds, arrive, fits, give-expr, give-row, meanwhile, next, next-leaf, readable, small, spends, stand, twice}
 use Rattle.cycle.specs.Cycle.{AskElifs, AskExpr, AskRow, LowersElifs, LowersExpr, LowersRow, Ready}
-use Rattle.forward.proofs.Calls.{does}
 use Rattle.forward.proofs.Chains.{elif-chain}
-use Rattle.forward.proofs.Steps.{last, same}
 use Rattle.forward.specs.Forward.{end-branch, fwd-code, sure, test-and-jump}
 use Rattle.meaning.proofs.Reading.{Elif}
 use Rattle.meaning.proofs.Rows.{elifs-more, elifs-none}

@@ -1,5 +1,5 @@
 -- fn visit_class_stmt, its methods one after the other: the loop stands before method k; those before it are done, those from it on are pending.
-use Prim.Native.Nat.{ℕ, _<_}
+use Prim.Native.Nat.{ℕ, _+_, _-_, _*_, _<_, _≤_}
 use Rattle.cycle.proofs.fn_stmt.Reads as fn-stmt
 use Rattle.cycle.proofs.methods.Reads as methods
 use Rattle.cycle.proofs.+addi+arguments+binary+block+body+both+call+class+classic_for+elifs+enhanced_for+expr_stmt+expression+fn_stmt+function+if_stmt+let_stmt+logical+methods+minus+return_stmt+row+statement+try_catch+unary+while_loop.Lts-methods as lts
@@ -10,15 +10,12 @@ use Rattle.parts.proofs.add_method.Reads as add-method-reads
 use Rattle.store.proofs.settle.Reads as settle-reads
 use Rattle.cycle.proofs.+addi+arguments+binary+block+body+both+call+class+classic_for+elifs+enhanced_for+expr_stmt+expression+fn_stmt+function+if_stmt+let_stmt+logical+methods+minus+return_stmt+row+statement+try_catch+unary+while_loop.Proof.Order.{fn-stmt-below, methods-at}
 use Rattle.cycle.proofs.Way.{from}
-use Prim.Native.Nat.{_*_, _+_, _-_, _≤_}
 use Rattle.cycle.proofs.Nodes.{a-define}
 use Rattle.cycle.proofs.Sizes.{fun-size, funs-size, funs-size-none}
 use Rattle.cycle.proofs.Turns.{Turning, closed, none-turned, turned}
 use Rattle.cycle.proofs.Way.{_▹_, arrive, meanwhile, next-leaf, readable, small, spends, stand}
 use Rattle.cycle.specs.Cycle.{AskFun, AskMethods, LowersFun, LowersMethods}
-use Rattle.forward.proofs.Calls.{does}
 use Rattle.forward.proofs.Chains.{method-chain}
-use Rattle.forward.proofs.Steps.{last, same}
 use Rattle.forward.specs.Forward.{add-method, fwd-code}
 use Rattle.meaning.proofs.Reading.{Define}
 use Rattle.meaning.proofs.Rows.{funs-more, funs-none}
@@ -26,7 +23,7 @@ use Rattle.meaning.specs.At.{TagBelow, fun-at, funs-at, word-of}
 use Rattle.meaning.specs.Fields.{fields}
 use Rattle.meaning.specs.Lower.{fun-name, lower-expr, lower-methods}
 use Rattle.meaning.specs.Weight.{size-fun, size-funs}
-use Rattle.store.proofs.Compose.{known, settled}
+use Rattle.store.proofs.Compose.{settled}
 use Rattle.store.proofs.Runs.{due}
 use Rattle.store.specs.Promise.{Leaf, Room, uses}
 use Rattle.store.specs.Store.{Fine, while-going, with-result}

@@ -1,5 +1,5 @@
 -- Statements one after the other: the loop stands before statement k; those before it are done, those from it on are pending.
-use Prim.Native.Nat.{ℕ, _<_}
+use Prim.Native.Nat.{ℕ, _+_, _-_, _*_, _<_, _≤_}
 use Rattle.cycle.proofs.row.Reads as row
 use Rattle.cycle.proofs.+addi+arguments+binary+block+body+both+call+class+classic_for+elifs+enhanced_for+expr_stmt+expression+fn_stmt+function+if_stmt+let_stmt+logical+methods+minus+return_stmt+row+statement+try_catch+unary+while_loop.Lts-row as lts
 use Rattle.cycle.proofs.statement.Reads as statement′
@@ -7,19 +7,15 @@ use Rattle.cycle.proofs.payload_of.Reads as payload-of-reads
 use Rattle.nodes.proofs.child.Reads as child-reads
 use Rattle.cycle.proofs.+addi+arguments+binary+block+body+both+call+class+classic_for+elifs+enhanced_for+expr_stmt+expression+fn_stmt+function+if_stmt+let_stmt+logical+methods+minus+return_stmt+row+statement+try_catch+unary+while_loop.Proof.Order.{row-at, statement-below}
 use Rattle.cycle.proofs.Way.{from}
-use Prim.Native.Nat.{_*_, _+_, _-_, _≤_}
 use Rattle.cycle.proofs.Sizes.{stmts-size, stmts-size-none}
 use Rattle.cycle.proofs.Turns.{Turning, none-turned, turned}
 use Rattle.cycle.proofs.Way.{_▹_, give-stmt, readable, spends}
 use Rattle.cycle.specs.Cycle.{AskRow, AskStmt, LowersRow, LowersStmt}
-use Rattle.forward.proofs.Calls.{does}
 use Rattle.forward.proofs.Chains.{row-chain, row-end}
-use Rattle.forward.proofs.Steps.{last, same}
 use Rattle.forward.specs.Forward.{fwd-row}
 use Rattle.meaning.proofs.Rows.{stmts-more, stmts-none}
 use Rattle.meaning.specs.At.{StmtBelow, stmt-at, stmts-at, word-of}
 use Rattle.meaning.specs.Fields.{fields}
-use Rattle.meaning.specs.Image.{image}
 use Rattle.meaning.specs.Lower.{lower-expr, lower-stmts}
 use Rattle.meaning.specs.Weight.{size-stmt, size-stmts}
 use Rattle.parts.specs.Parts.{Small}
