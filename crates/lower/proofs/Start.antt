@@ -1,0 +1,61 @@
+-- From the check to the first statement: an accepted tree has what the lowering asks for.
+use mathlib.Core.Path.{_≡_, sym, subst}
+use mathlib.Core.List.{List}
+use Prim.Native.Nat.{ℕ, _+_, _-_, _*_, _≤_}
+use native.Mathlib.Omega.{arith}
+use Rattle.meaning.specs.Fields.{fields}
+use Rattle.meaning.specs.Check.{checked}
+use Rattle.meaning.specs.At.{count-of, stmts-at}
+use Rattle.meaning.specs.Weight.{size-stmts}
+use Rattle.meaning.specs.Read.{read-program}
+use Rattle.meaning.specs.declared.Outcome.the-variants.{Accepted}
+use Rattle.meaning.proofs.Accepted.{accepted}
+use Rattle.meaning.proofs.Weights.{accepted-size}
+use Rattle.meaning.proofs.Reading.{Program, program-node}
+use Rattle.nodes.specs.Offsets.{Readable, Filled}
+use Rattle.nodes.proofs.Headers.{offsets-kept}
+use Rattle.store.specs.Store.{main-scope, first-step}
+use Rattle.store.specs.Opening.{Begun}
+use Rattle.store.proofs.Compose.{room-by}
+use Rattle.lower.specs.Open.{Opened}
+use Rattle.cycle.specs.Cycle.{AskRow}
+
+-- the store is begun beside the table of offsets, which stays
+pub opened : {t w0 w1 w2 : List ℕ} {n : ℕ} → Filled t w0 w1 (12288 + 15 * n) → Begun w1 n w2 → Opened t n w2
+opened f b =
+    record { offsets = offsets-kept (f .offsets) (b .same) (λ i h l. b .offsets i h); fine = b .fine; room = b .room; runs = b .runs; image = b .image }
+
+module _ (t : List ℕ) (work n : ℕ) (e : checked t work ≡ Accepted n) where
+  pub some-nodes : 1 ≤ n
+  some-nodes = let a = accepted t work n e in omega (arith, a .nodes, a .some)
+
+  -- the last node is the program, and its statements are the definition's
+  program : Program (fields t) (n - 1)
+  program = let a = accepted t work n e in subst (λ k. Program (fields t) (k - 1)) (sym (a .nodes)) (program-node (fields t) (a .shapes) (a .some))
+
+  pub program-is : read-program (fields t) ≡ stmts-at (fields t) (n - 1) 0 (count-of (fields t) (n - 1))
+  program-is = program .is
+
+  -- the statements have every node but the program itself
+  row-size : 1 + size-stmts (stmts-at (fields t) (n - 1) 0 (count-of (fields t) (n - 1))) ≡ n
+  row-size = rw program-is at (accepted-size t work n e)
+
+  module _ {w : List ℕ} (o : Opened t n w) where
+    pub last-readable : Readable t w (12288 + 15 * n) (n - 1)
+    last-readable = let a = accepted t work n e in record { offsets = o .offsets; known = omega (arith, a .nodes, a .some) }
+
+    pub row-asked : AskRow t w (main-scope n) first-step (n - 1) 0 (count-of (fields t) (n - 1))
+    row-asked =
+        let a = accepted t work n e in
+        record {
+          ready = record {
+            lawful = record { nodes = a .nodes; shapes = a .shapes; offsets = o .offsets };
+            fine = o .fine;
+            room = room-by (size-stmts (stmts-at (fields t) (n - 1) 0 (count-of (fields t) (n - 1)))) 0 0 (omega (arith, row-size)) (omega (arith, row-size)) (o .room);
+            blocks = omega (arith, row-size);
+            loops = omega (arith, row-size);
+          };
+          known = omega (arith, some-nodes);
+          ends = omega arith;
+          each = λ k f l. program .each k l;
+        }

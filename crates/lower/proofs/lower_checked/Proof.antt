@@ -1,0 +1,58 @@
+-- The statements of the program, the prototype of main, the constants: `whole`.
+use mathlib.Core.Path.{_∙_}
+use lib.ListN.{length}
+use denote.Ref.{now}
+use Rattle.lower.proofs.Start.{last-readable, row-asked}
+use Rattle.lower.proofs.Whole.{whole}
+use borrow.Author.Needs.{needs}
+use Rattle.lower.proofs.lower_checked.Statement.{statement}
+use Rattle.lower.proofs.lower_checked.Tie as tie
+
+count-of-requires : tie.Need-count-of-requires
+count-of-requires c κs =
+    let start = c .before .before .before .before .before .before .before .before in
+    let set-up = c .before .before .before .set-up in
+    let a = start .args in
+    last-readable (now (a .tree)) (length (now (a .work))) (a .n) (start .pre) (set-up .ensures .1)
+
+row-requires : tie.Need-row-requires
+row-requires c κs =
+    let start = c .before .before .before .before .before .before .before .before .before .before .before in
+    let set-up = c .before .before .before .before .before .before .set-up in
+    let count-of = c .before .before .count-of in
+    let a = start .args in
+    rw (set-up .ensures .0, count-of .ensures .0) (row-asked (now (a .tree)) (length (now (a .work))) (a .n) (start .pre) (set-up .ensures .1))
+
+returns : tie.Need-returns
+returns c =
+    let start = c .before .before .before .before .before .before .before .before .before .before .before .before .before .before .before .before .before .before .before .before .before .before .before .before .before .before in
+    let set-up = c .before .before .before .before .before .before .before .before .before .before .before .before .before .before .before .before .before .before .before .before .before .set-up in
+    let count-of = c .before .before .before .before .before .before .before .before .before .before .before .before .before .before .before .before .before .count-of in
+    let row = c .before .before .before .before .before .before .before .before .before .before .before .before .before .before .row in
+    let end-program = c .before .before .before .before .before .before .before .end-program in
+    let finish = c .before .before .finish in
+    let a = start .args in
+    let rows = rw (set-up .ensures .0, count-of .ensures .0) at (row .ensures) in
+    whole (now (a .tree)) (length (now (a .work))) (a .n) (start .pre) (set-up .ensures .1) rows (end-program .ensures) (finish .ensures)
+
+same-length : tie.Need-same-length
+same-length c =
+    let set-up = c .before .before .before .before .before .before .before .before .before .before .before .before .before .before .before .before .before .before .before .before .before .set-up in
+    let row = c .before .before .before .before .before .before .before .before .before .before .before .before .before .before .row in
+    row .ensures .does .moves .kept .same ∙ set-up .kept .1 .0
+
+pub lower-checked-spec : {M : Type 1} → statement M
+lower-checked-spec =
+    tie.close
+    (tie.spec
+    (λ c κs. search needs)
+    (λ c. search needs)
+    (λ c. search needs)
+    (λ c. search needs)
+    count-of-requires
+    row-requires
+    (λ c κs. search needs)
+    (λ c κs. search needs)
+    same-length
+    (λ c. search needs)
+    returns)

@@ -1,0 +1,54 @@
+-- The table of offsets, then the store beside it.
+use native.Mathlib.Omega.{arith}
+use lib.ListN.{length}
+use denote.Ref.{now}
+use Rattle.meaning.proofs.Accepted.{accepted}
+use Rattle.nodes.proofs.Allowed.{fill-allowed}
+use Rattle.lower.proofs.Start.{opened}
+use borrow.Author.Needs.{needs}
+use Rattle.lower.proofs.set_up.Statement.{statement}
+use Rattle.lower.proofs.set_up.Tie as tie
+
+mul-fill-offsets : tie.Need-mul-fill-offsets
+mul-fill-offsets c =
+    let start = c .before .before .before in
+    let a = start .args in
+    omega (arith, fill-allowed (now (a .tree)) (now (a .work)) (a .n) (start .pre))
+
+add-fill-offsets : tie.Need-add-fill-offsets
+add-fill-offsets c =
+    let start = c .before .before .before in
+    let a = start .args in
+    omega (arith, fill-allowed (now (a .tree)) (now (a .work)) (a .n) (start .pre))
+
+fill-offsets-requires : tie.Need-fill-offsets-requires
+fill-offsets-requires c κs =
+    let start = c .before .before .before in
+    let a = start .args in
+    fill-allowed (now (a .tree)) (now (a .work)) (a .n) (start .pre)
+
+begin-requires : tie.Need-begin-requires
+begin-requires c κs =
+    let start = c .before .before .before .before .before .before .before in
+    let fill-offsets = c .before .before .before .fill-offsets in
+    let a = start .args in
+    let f = fill-allowed (now (a .tree)) (now (a .work)) (a .n) (start .pre) in
+    let s = accepted (now (a .tree)) (length (now (a .work))) (a .n) (start .pre) in
+    (omega (arith, s .nodes, s .some), f .1, omega (arith, f .2, fill-offsets .kept .1 .0))
+
+returns : tie.Need-returns
+returns c =
+    let fill-offsets = c .before .before .before .before .before .before .fill-offsets in
+    let begin = c .before .before .begin in
+    (begin .ensures .0, opened (fill-offsets .ensures) (begin .ensures .1))
+
+pub set-up-spec : {M : Type 1} → statement M
+set-up-spec =
+    tie.close
+    (tie.spec
+    mul-fill-offsets
+    add-fill-offsets
+    fill-offsets-requires
+    begin-requires
+    (λ c. search needs)
+    returns)

@@ -1,0 +1,2 @@
+-- What the public call starts from.
+pub mod Open

@@ -1,0 +1,17 @@
+-- What the lowering starts from.
+use Prim.Native.Nat.{ℕ, _+_, _*_}
+use mathlib.Core.Path.{_≡_}
+use mathlib.Core.List.{List, []}
+use Rattle.meaning.specs.Lower.{start}
+use Rattle.nodes.specs.Offsets.{Offsets}
+use Rattle.forward.specs.Forward.{config, going}
+use Rattle.store.specs.Store.{run, main-scope, first-step, Image, Fine}
+use Rattle.store.specs.Promise.{Room}
+
+-- the table of offsets is filled, and the words stand for what the definition starts from, with room for every node
+pub record Opened (t : List ℕ) (n : ℕ) (w : List ℕ) : Type 0 where
+  pub offsets : Offsets t w (12288 + 15 * n)
+  pub fine : Fine w (main-scope n) first-step
+  pub room : Room w (main-scope n) first-step n 0 0
+  pub runs : run w (main-scope n) first-step [] ≡ going (config [] 0 start)
+  pub image : (o : List ℕ) → Image o first-step []

@@ -1,0 +1,107 @@
+// The public call: a tree is checked, lowered and written as an image; afterwards the work area is zero, and so is the output behind the image.
+use meaning::Answer;
+use meaning::Outcome;
+use store::Scope;
+use store::Step;
+ghost use mathlib.Core.Path.{_≡_};
+ghost use mathlib.Core.List.{_++_};
+ghost use Prim.Native.Nat.{_-_, _≤_};
+ghost use lib.ListN.{length, take, replicate};
+ghost use Rattle.meaning.specs.Check.{checked};
+ghost use Rattle.meaning.specs.declared.Outcome.the-variants.{Accepted};
+ghost use Rattle.meaning.specs.Answer.{finished, outcome, answer as answer-to, output, work-area};
+ghost use Rattle.tree.specs.Used.{told};
+ghost use Rattle.store.specs.Store.{first-step};
+ghost use Rattle.image.specs.Finish.{Ending};
+ghost use Rattle.lower.specs.Open.{Opened};
+
+// Every word is zero.
+fn clear_words(work: &mut [u32])
+    ensures { λ _. ⌜ now (work .exit) ≡ work-area (length (now (work .entry))) ⌝ }
+{
+    let mut i: usize = 0;
+    while i < work.len() {
+        work[i] = 0;
+        i += 1;
+    }
+}
+
+// The bytes from a place on are zero.
+fn clear_bytes(out: &mut [u8], from: usize)
+    requires { ⌜ from ≤ length (now out) ⌝ }
+    ensures { λ _. ⌜ now (out .exit) ≡ take from (now (out .entry)) ++ replicate (length (now (out .entry)) - from) 0 ⌝ }
+{
+    let mut i = from;
+    while i < out.len() {
+        out[i] = 0;
+        i += 1;
+    }
+}
+
+// The nodes' offsets and the store, for a tree that the check has accepted.
+fn set_up(tree: &[u8], work: &mut [u32], n: usize) -> Step
+    requires { ⌜ checked (now tree) (length (now work)) ≡ Accepted n ⌝ }
+    ensures { λ r. ⌜ (r ≡ first-step) × Opened (now (tree .entry)) n (now (work .exit)) ⌝ }
+{
+    nodes::fill_offsets(tree, work, 12288 + 15 * n, n);
+    store::begin(work, n)
+}
+
+// The main function's statements, its prototype, the constants.
+fn lower_checked(tree: &[u8], work: &mut [u32], out: &mut [u8], n: usize) -> Outcome
+    requires { ⌜ checked (now tree) (length (now work)) ≡ Accepted n ⌝ }
+    ensures { λ r. ⌜ Ending (finished (now (tree .entry)) (length (now (work .entry))) (length (now (out .entry)))) (now (out .exit)) r ⌝ }
+{
+    let first = set_up(tree, work, n);
+    let main = Scope {
+        nodes: n,
+        depth: 0,
+        block: 1,
+        loops: 0,
+    };
+    let last = n - 1;
+    let count = nodes::count_of(tree, work, 12288 + 15 * n, last);
+    let rowed = cycle::row(tree, work, out, first, main, last, 0, count);
+    let ended = code::end_program(work, out, rowed, main, last);
+    image::finish(work, out, ended, last)
+}
+
+// The outcome, with the image at the front of the output. The words and the bytes behind the image are left as they were used.
+fn lowered(tree: &[u8], work: &mut [u32], out: &mut [u8]) -> Outcome
+    ensures { λ r. ⌜ Ending (finished (now (tree .entry)) (length (now (work .entry))) (length (now (out .entry)))) (now (out .exit)) r ⌝ }
+{
+    let words = work.len();
+    let judged = tree::check_in(tree, work, words);
+    let Outcome::Accepted(n) = judged else {
+        return judged;
+    };
+    lower_checked(tree, work, out, n)
+}
+
+// What document 01 says of a tree, a work area and an output, whatever they hold.
+pub fn lower(tree: &[u8], work: &mut [u32], out: &mut [u8]) -> Answer
+    ensures answered { λ r. ⌜ r ≡ answer-to (outcome (finished (now (tree .entry)) (length (now (work .entry))) (length (now (out .entry))))) ⌝ }
+    ensures cleared { λ _. ⌜ now (work .exit) ≡ work-area (length (now (work .entry))) ⌝ }
+    ensures written { λ _. ⌜ now (out .exit) ≡ output (length (now (out .entry))) (finished (now (tree .entry)) (length (now (work .entry))) (length (now (out .entry)))) ⌝ }
+{
+    let answer = values::answer_of(lowered(tree, work, out));
+    clear_words(work);
+    clear_bytes(out, answer.length as usize);
+    answer
+}
+
+// The same for C and Rust: number, place and length.
+#[no_mangle]
+pub extern "C" fn yengrazul_lower(
+    tree: &[u8],
+    work: &mut [u32],
+    out: &mut [u8],
+    answer: &mut [u64; 3],
+)
+    ensures answered { λ _. ⌜ now (answer .exit) ≡ told (answer-to (outcome (finished (now (tree .entry)) (length (now (work .entry))) (length (now (out .entry)))))) ⌝ }
+    ensures cleared { λ _. ⌜ now (work .exit) ≡ work-area (length (now (work .entry))) ⌝ }
+    ensures written { λ _. ⌜ now (out .exit) ≡ output (length (now (out .entry))) (finished (now (tree .entry)) (length (now (work .entry))) (length (now (out .entry)))) ⌝ }
+{
+    let a = lower(tree, work, out);
+    *answer = [a.number, a.place, a.length];
+}
