@@ -297,7 +297,7 @@ fn try_catch(
 }
 
 // fn visit_classic_for_stmt: the body is lowered before the increment
-fn classic_for(
+fn for_loop(
     tree: &[u8],
     work: &mut [u32],
     out: &mut [u8],
@@ -336,7 +336,7 @@ fn classic_for(
 }
 
 // fn visit_enhanced_for_stmt
-fn enhanced_for(
+fn for_in(
     tree: &[u8],
     work: &mut [u32],
     out: &mut [u8],
@@ -954,8 +954,8 @@ fn statement(
         17 => let_stmt(tree, work, out, step, scope, node),
         18 => block(tree, work, out, step, scope, node),
         19 => while_loop(tree, work, out, step, scope, node),
-        20 => classic_for(tree, work, out, step, scope, node),
-        21 => enhanced_for(tree, work, out, step, scope, node),
+        20 => for_loop(tree, work, out, step, scope, node),
+        21 => for_in(tree, work, out, step, scope, node),
         24 => return_stmt(tree, work, out, step, scope, node),
         25 => if_stmt(tree, work, out, step, scope, node),
         27 => try_catch(tree, work, out, step, scope, node),

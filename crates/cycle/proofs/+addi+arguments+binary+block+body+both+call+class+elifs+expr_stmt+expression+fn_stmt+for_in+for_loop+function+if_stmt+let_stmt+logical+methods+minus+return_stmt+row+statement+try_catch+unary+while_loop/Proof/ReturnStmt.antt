@@ -1,15 +1,14 @@
 -- fn visit_return_stmt: with no value one instruction, else the value and its Return.
-use Prim.Native.Nat.{ℕ, _<_}
+use Prim.Native.Nat.{ℕ, _+_, _*_, _<_}
 use Rattle.cycle.proofs.expression.Reads as expression
 use Rattle.cycle.proofs.return_stmt.Reads as return-stmt
-use Rattle.cycle.proofs.+addi+arguments+binary+block+body+both+call+class+classic_for+elifs+enhanced_for+expr_stmt+expression+fn_stmt+function+if_stmt+let_stmt+logical+methods+minus+return_stmt+row+statement+try_catch+unary+while_loop.Lts-return_stmt as lts
+use Rattle.cycle.proofs.+addi+arguments+binary+block+body+both+call+class+elifs+expr_stmt+expression+fn_stmt+for_in+for_loop+function+if_stmt+let_stmt+logical+methods+minus+return_stmt+row+statement+try_catch+unary+while_loop.Lts-return_stmt as lts
 use Rattle.code.proofs.end_return.Reads as end-return-reads
 use Rattle.cycle.proofs.count_of.Reads as count-of-reads
 use Rattle.cycle.proofs.words_of.Reads as words-of-reads
 use Rattle.leaves.proofs.return_none.Reads as return-none-reads
-use Rattle.cycle.proofs.+addi+arguments+binary+block+body+both+call+class+classic_for+elifs+enhanced_for+expr_stmt+expression+fn_stmt+function+if_stmt+let_stmt+logical+methods+minus+return_stmt+row+statement+try_catch+unary+while_loop.Proof.Order.{expression-below, return-stmt-at}
+use Rattle.cycle.proofs.+addi+arguments+binary+block+body+both+call+class+elifs+expr_stmt+expression+fn_stmt+for_in+for_loop+function+if_stmt+let_stmt+logical+methods+minus+return_stmt+row+statement+try_catch+unary+while_loop.Proof.Order.{expression-below, return-stmt-at}
 use Rattle.meaning.proofs.Reading.{Return as ReturnNode}
-use Prim.Native.Nat.{_*_, _+_}
 use Rattle.cycle.proofs.Nodes.{a-return}
 use Rattle.cycle.proofs.Sizes.{return-none-size, return-size}
 use Rattle.cycle.proofs.Way.{_▹_, arrive, ends, from, give-expr, leaf-lowers, next-leaf, on-node, readable, sets-by, stand}

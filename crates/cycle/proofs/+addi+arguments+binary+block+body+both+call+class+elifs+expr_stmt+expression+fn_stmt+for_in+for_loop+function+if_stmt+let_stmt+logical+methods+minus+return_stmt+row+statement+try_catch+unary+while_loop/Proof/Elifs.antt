@@ -1,7 +1,7 @@
 -- fn visit_if_stmt, its elifs: the loop stands before elif k; those before it are done, those from it on are pending. Each is a condition, a jump past its statements and a jump to the end.
 use Prim.Native.Nat.{ℕ, _+_, _-_, _*_, _<_, _≤_}
 use Rattle.cycle.proofs.elifs.Reads as elifs
-use Rattle.cycle.proofs.+addi+arguments+binary+block+body+both+call+class+classic_for+elifs+enhanced_for+expr_stmt+expression+fn_stmt+function+if_stmt+let_stmt+logical+methods+minus+return_stmt+row+statement+try_catch+unary+while_loop.Lts-elifs as lts
+use Rattle.cycle.proofs.+addi+arguments+binary+block+body+both+call+class+elifs+expr_stmt+expression+fn_stmt+for_in+for_loop+function+if_stmt+let_stmt+logical+methods+minus+return_stmt+row+statement+try_catch+unary+while_loop.Lts-elifs as lts
 use Rattle.cycle.proofs.expression.Reads as expression
 use Rattle.cycle.proofs.row.Reads as row
 use Rattle.code.proofs.end_branch.Reads as end-branch-reads
@@ -11,7 +11,7 @@ use Rattle.cycle.proofs.payload_of.Reads as payload-of-reads
 use Rattle.cycle.proofs.words_of.Reads as words-of-reads
 use Rattle.nodes.proofs.child.Reads as child-reads
 use Rattle.store.proofs.settle.Reads as settle-reads
-use Rattle.cycle.proofs.+addi+arguments+binary+block+body+both+call+class+classic_for+elifs+enhanced_for+expr_stmt+expression+fn_stmt+function+if_stmt+let_stmt+logical+methods+minus+return_stmt+row+statement+try_catch+unary+while_loop.Proof.Order.{elifs-at, expression-below, row-below}
+use Rattle.cycle.proofs.+addi+arguments+binary+block+body+both+call+class+elifs+expr_stmt+expression+fn_stmt+for_in+for_loop+function+if_stmt+let_stmt+logical+methods+minus+return_stmt+row+statement+try_catch+unary+while_loop.Proof.Order.{elifs-at, expression-below, row-below}
 use Rattle.cycle.proofs.Way.{from}
 use Rattle.meaning.specs.At.{elifs-at as elif-row}
 use Rattle.cycle.proofs.Nodes.{an-elif}

@@ -1,14 +1,13 @@
 -- The body of a function: its statements in a block of their own; one statement alone gets a Return.
-use Prim.Native.Nat.{ℕ, _<_}
+use Prim.Native.Nat.{ℕ, _+_, _-_, _<_, _≤_}
 use Rattle.cycle.proofs.body.Reads as body
-use Rattle.cycle.proofs.+addi+arguments+binary+block+body+both+call+class+classic_for+elifs+enhanced_for+expr_stmt+expression+fn_stmt+function+if_stmt+let_stmt+logical+methods+minus+return_stmt+row+statement+try_catch+unary+while_loop.Lts-body as lts
+use Rattle.cycle.proofs.+addi+arguments+binary+block+body+both+call+class+elifs+expr_stmt+expression+fn_stmt+for_in+for_loop+function+if_stmt+let_stmt+logical+methods+minus+return_stmt+row+statement+try_catch+unary+while_loop.Lts-body as lts
 use Rattle.cycle.proofs.row.Reads as row
 use Rattle.code.proofs.end_body.Reads as end-body-reads
 use Rattle.cycle.proofs.count_of.Reads as count-of-reads
 use Rattle.store.proofs.enter_block.Reads as enter-block-reads
 use Rattle.store.proofs.leave_block.Reads as leave-block-reads
-use Rattle.cycle.proofs.+addi+arguments+binary+block+body+both+call+class+classic_for+elifs+enhanced_for+expr_stmt+expression+fn_stmt+function+if_stmt+let_stmt+logical+methods+minus+return_stmt+row+statement+try_catch+unary+while_loop.Proof.Order.{body-at, row-below}
-use Prim.Native.Nat.{_+_, _-_, _≤_}
+use Rattle.cycle.proofs.+addi+arguments+binary+block+body+both+call+class+elifs+expr_stmt+expression+fn_stmt+for_in+for_loop+function+if_stmt+let_stmt+logical+methods+minus+return_stmt+row+statement+try_catch+unary+while_loop.Proof.Order.{body-at, row-below}
 use Rattle.cycle.proofs.Sizes.{stmts-count}
 use Rattle.cycle.proofs.Way.{_▹_, ends, from, give-row, meanwhile, next, next-leaf, next-left, readable, spends, stand, stand-at, to}
 use Rattle.cycle.specs.Cycle.{AskBody, AskRow, LowersBody, LowersRow, Ready}

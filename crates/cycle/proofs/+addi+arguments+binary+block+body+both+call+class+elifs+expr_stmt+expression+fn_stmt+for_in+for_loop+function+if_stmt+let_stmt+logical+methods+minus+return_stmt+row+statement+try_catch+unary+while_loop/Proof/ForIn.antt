@@ -1,18 +1,17 @@
 -- fn visit_enhanced_for_stmt: four registers, the collection, the condition and the names' registers, the body in a loop, the counter's step and the jumps.
-use Prim.Native.Nat.{ℕ, _<_}
-use Rattle.cycle.proofs.enhanced_for.Reads as enhanced-for
-use Rattle.cycle.proofs.+addi+arguments+binary+block+body+both+call+class+classic_for+elifs+enhanced_for+expr_stmt+expression+fn_stmt+function+if_stmt+let_stmt+logical+methods+minus+return_stmt+row+statement+try_catch+unary+while_loop.Lts-enhanced_for as lts
+use Prim.Native.Nat.{ℕ, _+_, _-_, _*_, _/_, _<_, _≤_}
 use Rattle.cycle.proofs.expression.Reads as expression
+use Rattle.cycle.proofs.for_in.Reads as for-in
+use Rattle.cycle.proofs.+addi+arguments+binary+block+body+both+call+class+elifs+expr_stmt+expression+fn_stmt+for_in+for_loop+function+if_stmt+let_stmt+logical+methods+minus+return_stmt+row+statement+try_catch+unary+while_loop.Lts-for_in as lts
 use Rattle.cycle.proofs.statement.Reads as statement′
 use Rattle.code.proofs.end_for_in.Reads as end-for-in-reads
 use Rattle.cycle.proofs.in_loop.Reads as in-loop-reads
-use Rattle.parts.proofs.head_for_in.Reads as head-for-in-reads
 use Rattle.cycle.proofs.names_in.Reads as names-in-reads
 use Rattle.cycle.proofs.payload_of.Reads as payload-of-reads
 use Rattle.cycle.proofs.words_of.Reads as words-of-reads
+use Rattle.parts.proofs.head_for_in.Reads as head-for-in-reads
 use Rattle.parts.proofs.open_for_in.Reads as open-for-in-reads
-use Rattle.cycle.proofs.+addi+arguments+binary+block+body+both+call+class+classic_for+elifs+enhanced_for+expr_stmt+expression+fn_stmt+function+if_stmt+let_stmt+logical+methods+minus+return_stmt+row+statement+try_catch+unary+while_loop.Proof.Order.{enhanced-for-at, expression-below, statement-below}
-use Prim.Native.Nat.{_*_, _+_, _-_, _/_, _≤_}
+use Rattle.cycle.proofs.+addi+arguments+binary+block+body+both+call+class+elifs+expr_stmt+expression+fn_stmt+for_in+for_loop+function+if_stmt+let_stmt+logical+methods+minus+return_stmt+row+statement+try_catch+unary+while_loop.Proof.Order.{expression-below, for-in-at, statement-below}
 use Rattle.cycle.proofs.Counts.{few-words}
 use Rattle.cycle.proofs.Nodes.{a-for-in}
 use Rattle.cycle.proofs.Sizes.{for-in-size, tokens-same}
@@ -139,28 +138,28 @@ module _ {t w : List ℕ} {p : Scope} {s : Step} {i : ℕ} (g : GivenStmt t w p 
 abbrev pub claims : ℕ → lts.Claims
 claims t = (words-of-reads.Asked, words-of-reads.Learnt, payload-of-reads.Asked, payload-of-reads.Learnt, open-for-in-reads.Asked, open-for-in-reads.Learnt, expression-below t, expression.Post, names-in-reads.Asked, names-in-reads.Learnt, head-for-in-reads.Asked, head-for-in-reads.Learnt, in-loop-reads.Asked, in-loop-reads.Learnt, statement-below t, statement′.Post, end-for-in-reads.Asked, end-for-in-reads.Learnt)
 
-pub words-of-requires : (t : ℕ) → lts.Need-words-of-requires (claims t) (enhanced-for-at t) enhanced-for.Post
+pub words-of-requires : (t : ℕ) → lts.Need-words-of-requires (claims t) (for-in-at t) for-in.Post
 words-of-requires t c κs = readable ((c .before .before .before .before) .pre .1 .0 .ready) ((c .before .before .before .before) .pre .1 .0 .known)
 
-pub payload-of-requires : (t : ℕ) → lts.Need-payload-of-requires (claims t) (enhanced-for-at t) enhanced-for.Post
+pub payload-of-requires : (t : ℕ) → lts.Need-payload-of-requires (claims t) (for-in-at t) for-in.Post
 payload-of-requires t c κs = readable ((c .before .before .before .before .before .before) .pre .1 .0 .ready) ((c .before .before .before .before .before .before) .pre .1 .0 .known)
 
-pub open-for-in-requires : (t : ℕ) → lts.Need-open-for-in-requires (claims t) (enhanced-for-at t) enhanced-for.Post
+pub open-for-in-requires : (t : ℕ) → lts.Need-open-for-in-requires (claims t) (for-in-at t) for-in.Post
 open-for-in-requires t c κs =
     let g = (c .before .before .before .before .before .before .before .before) .pre .1 .0 in
     at-open g (a-for-in (g .ready .lawful) (g .known) ((c .before .before .before .before .before .before .before .before) .pre .1 .1))
 
-pub expression-requires : (t : ℕ) → lts.Need-expression-requires (claims t) (enhanced-for-at t) enhanced-for.Post
+pub expression-requires : (t : ℕ) → lts.Need-expression-requires (claims t) (for-in-at t) for-in.Post
 expression-requires t c κs =
     let g = (c .before .before .before .before .before .before .before .before .before .before .before .before .before) .pre .1 .0 in
     let x = a-for-in (g .ready .lawful) (g .known) ((c .before .before .before .before .before .before .before .before .before .before .before .before .before) .pre .1 .1) in
     let e = (c .before .before .before .before .before .before .before .before .words-of) .ensures .0 in
     rw e (omega (arith, (c .before .before .before .before .before .before .before .before .before .before .before .before .before) .pre .0, x .collection .below), collection g x (rw e at ((c .before .before .before .before .open-for-in) .ensures .0)) ((c .before .before .before .before .open-for-in) .ensures .1))
 
-pub names-in-requires : (t : ℕ) → lts.Need-names-in-requires (claims t) (enhanced-for-at t) enhanced-for.Post
+pub names-in-requires : (t : ℕ) → lts.Need-names-in-requires (claims t) (for-in-at t) for-in.Post
 names-in-requires t c κs = tt
 
-pub head-for-in-requires : (t : ℕ) → lts.Need-head-for-in-requires (claims t) (enhanced-for-at t) enhanced-for.Post
+pub head-for-in-requires : (t : ℕ) → lts.Need-head-for-in-requires (claims t) (for-in-at t) for-in.Post
 head-for-in-requires t c κs =
     let g = (c .before .before .before .before .before .before .before .before .before .before .before .before .before .before .before .before .before .before .before .before) .pre .1 .0 in
     let x = a-for-in (g .ready .lawful) (g .known) ((c .before .before .before .before .before .before .before .before .before .before .before .before .before .before .before .before .before .before .before .before) .pre .1 .1) in
@@ -168,12 +167,12 @@ head-for-in-requires t c κs =
     rw ((c .before .before .before .before .before .before .before .before .before .before .before .before .before .payload-of) .ensures)
     (at-head g x (rw e at ((c .before .before .before .before .before .before .before .before .before .before .before .open-for-in) .ensures .0)) ((c .before .before .before .before .before .before .before .before .before .before .before .open-for-in) .ensures .1) (rw e at ((c .before .before .before .before .before .before .expression) .ensures)) _ (rw ((c .before .before .before .before .before .before .before .before .before .before .before .before .before .payload-of) .ensures) at ((c .before .names-in) .ensures)) (few-words _ _ (λ j. omega (arith, (c .before .before .before .before .before .before .before .before .before .before .before .before .before .before .before .before .before .before .before .shared-slice-known) .given j)) (inside (g .ready .lawful) (g .known))))
 
-pub in-loop-requires : (t : ℕ) → lts.Need-in-loop-requires (claims t) (enhanced-for-at t) enhanced-for.Post
+pub in-loop-requires : (t : ℕ) → lts.Need-in-loop-requires (claims t) (for-in-at t) for-in.Post
 in-loop-requires t c κs =
     let g = (c .before .before .before .before .before .before .before .before .before .before .before .before .before .before .before .before .before .before .before .before .before .before .before .before .before) .pre .1 .0 in
     (open-loops g (a-for-in (g .ready .lawful) (g .known) ((c .before .before .before .before .before .before .before .before .before .before .before .before .before .before .before .before .before .before .before .before .before .before .before .before .before) .pre .1 .1)), g .ready .fine .sound .few)
 
-pub statement-requires : (t : ℕ) → lts.Need-statement-requires (claims t) (enhanced-for-at t) enhanced-for.Post
+pub statement-requires : (t : ℕ) → lts.Need-statement-requires (claims t) (for-in-at t) for-in.Post
 statement-requires t c κs =
     let g = (c .before .before .before .before .before .before .before .before .before .before .before .before .before .before .before .before .before .before .before .before .before .before .before .before .before .before) .pre .1 .0 in
     let x = a-for-in (g .ready .lawful) (g .known) ((c .before .before .before .before .before .before .before .before .before .before .before .before .before .before .before .before .before .before .before .before .before .before .before .before .before .before) .pre .1 .1) in
@@ -182,7 +181,7 @@ statement-requires t c κs =
     rw ((c .in-loop) .ensures, e)
     (omega (arith, (c .before .before .before .before .before .before .before .before .before .before .before .before .before .before .before .before .before .before .before .before .before .before .before .before .before .before) .pre .0, x .body .below), body g x (rw e at ((c .before .before .before .before .before .before .before .before .before .before .before .before .before .before .before .before .before .open-for-in) .ensures .0)) ((c .before .before .before .before .before .before .before .before .before .before .before .before .before .before .before .before .before .open-for-in) .ensures .1) (rw e at ((c .before .before .before .before .before .before .before .before .before .before .before .before .expression) .ensures)) (rw (m, e) at ((c .before .before .before .before .before .head-for-in) .ensures)))
 
-pub end-for-in-requires : (t : ℕ) → lts.Need-end-for-in-requires (claims t) (enhanced-for-at t) enhanced-for.Post
+pub end-for-in-requires : (t : ℕ) → lts.Need-end-for-in-requires (claims t) (for-in-at t) for-in.Post
 end-for-in-requires t c κs =
     let g = (c .before .before .before .before .before .before .before .before .before .before .before .before .before .before .before .before .before .before .before .before .before .before .before .before .before .before .before .before .before .before .before .before) .pre .1 .0 in
     let x = a-for-in (g .ready .lawful) (g .known) ((c .before .before .before .before .before .before .before .before .before .before .before .before .before .before .before .before .before .before .before .before .before .before .before .before .before .before .before .before .before .before .before .before) .pre .1 .1) in
@@ -190,13 +189,13 @@ end-for-in-requires t c κs =
     let m = all-names _ _ x ((c .before .before .before .before .before .before .before .before .before .before .before .before .before .before .before .before .before .before .before .before .before .before .before .before .before .payload-of) .ensures) (rw ((c .before .before .before .before .before .before .before .before .before .before .before .before .before .before .before .before .before .before .before .before .before .before .before .before .before .payload-of) .ensures) at ((c .before .before .before .before .before .before .before .before .before .before .before .before .before .names-in) .ensures)) in
     at-end g x (rw e at ((c .before .before .before .before .before .before .before .before .before .before .before .before .before .before .before .before .before .before .before .before .before .before .before .open-for-in) .ensures .0)) ((c .before .before .before .before .before .before .before .before .before .before .before .before .before .before .before .before .before .before .before .before .before .before .before .open-for-in) .ensures .1) (rw e at ((c .before .before .before .before .before .before .before .before .before .before .before .before .before .before .before .before .before .before .expression) .ensures)) (rw (m, e) at ((c .before .before .before .before .before .before .before .before .before .before .before .head-for-in) .ensures)) (rw ((c .before .before .before .before .before .before .in-loop) .ensures, e) at ((c .before .before .before .before .before .statement) .ensures))
 
-pub same-length : (t : ℕ) → lts.Need-same-length (claims t) (enhanced-for-at t) enhanced-for.Post
+pub same-length : (t : ℕ) → lts.Need-same-length (claims t) (for-in-at t) for-in.Post
 same-length t c = (c .before .before .end-for-in) .ensures .moves .kept .same ∙ (c .before .before .before .before .before .before .before .before .statement) .ensures .does .moves .kept .same ∙ (c .before .before .before .before .before .before .before .before .before .before .before .before .before .before .head-for-in) .ensures .moves .kept .same ∙ (c .before .before .before .before .before .before .before .before .before .before .before .before .before .before .before .before .before .before .before .before .before .expression) .ensures .does .moves .kept .same ∙ (c .before .before .before .before .before .before .before .before .before .before .before .before .before .before .before .before .before .before .before .before .before .before .before .before .before .before .open-for-in) .ensures .0 .moves .kept .same
 
-pub same-length-2 : (t : ℕ) → lts.Need-same-length-2 (claims t) (enhanced-for-at t) enhanced-for.Post
+pub same-length-2 : (t : ℕ) → lts.Need-same-length-2 (claims t) (for-in-at t) for-in.Post
 same-length-2 t c = (c .before .before .before .before .before .before .before .before .statement) .ensures .does .same ∙ (c .before .before .before .before .before .before .before .before .before .before .before .before .before .before .before .before .before .before .before .before .before .expression) .ensures .does .same
 
-pub returns : (t : ℕ) → lts.Need-returns (claims t) (enhanced-for-at t) enhanced-for.Post
+pub returns : (t : ℕ) → lts.Need-returns (claims t) (for-in-at t) for-in.Post
 returns t c =
     let g = (c .before .before .before .before .before .before .before .before .before .before .before .before .before .before .before .before .before .before .before .before .before .before .before .before .before .before .before .before .before .before .before .before .before .before .before) .pre .1 .0 in
     let x = a-for-in (g .ready .lawful) (g .known) ((c .before .before .before .before .before .before .before .before .before .before .before .before .before .before .before .before .before .before .before .before .before .before .before .before .before .before .before .before .before .before .before .before .before .before .before) .pre .1 .1) in

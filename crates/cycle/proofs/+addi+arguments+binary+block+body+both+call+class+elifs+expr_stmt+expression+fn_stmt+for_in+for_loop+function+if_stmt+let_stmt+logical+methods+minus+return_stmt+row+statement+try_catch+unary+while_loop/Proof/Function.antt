@@ -1,17 +1,16 @@
 -- fn visit_function_expr: a register, then the function between enter_function and leave_function, then its Closure. What the inside takes is gone with it.
-use Prim.Native.Nat.{ℕ, _<_}
+use Prim.Native.Nat.{ℕ, _+_, _*_, _<_, _≤_}
 use Rattle.cycle.proofs.body.Reads as body
 use Rattle.cycle.proofs.function.Reads as function
-use Rattle.cycle.proofs.+addi+arguments+binary+block+body+both+call+class+classic_for+elifs+enhanced_for+expr_stmt+expression+fn_stmt+function+if_stmt+let_stmt+logical+methods+minus+return_stmt+row+statement+try_catch+unary+while_loop.Lts-function as lts
+use Rattle.cycle.proofs.+addi+arguments+binary+block+body+both+call+class+elifs+expr_stmt+expression+fn_stmt+for_in+for_loop+function+if_stmt+let_stmt+logical+methods+minus+return_stmt+row+statement+try_catch+unary+while_loop.Lts-function as lts
 use Rattle.cycle.proofs.first_mark.Reads as first-mark-reads
-use Rattle.parts.proofs.end_function.Reads as end-function-reads
-use Rattle.parts.proofs.open_function.Reads as open-function-reads
 use Rattle.cycle.proofs.payload_of.Reads as payload-of-reads
 use Rattle.cycle.proofs.words_of.Reads as words-of-reads
+use Rattle.parts.proofs.end_function.Reads as end-function-reads
+use Rattle.parts.proofs.open_function.Reads as open-function-reads
 use Rattle.store.proofs.enter_function.Reads as enter-function-reads
 use Rattle.store.proofs.next_register.Reads as next-register-reads
-use Rattle.cycle.proofs.+addi+arguments+binary+block+body+both+call+class+classic_for+elifs+enhanced_for+expr_stmt+expression+fn_stmt+function+if_stmt+let_stmt+logical+methods+minus+return_stmt+row+statement+try_catch+unary+while_loop.Proof.Order.{body-below, function-at}
-use Prim.Native.Nat.{_*_, _+_, _≤_}
+use Rattle.cycle.proofs.+addi+arguments+binary+block+body+both+call+class+elifs+expr_stmt+expression+fn_stmt+for_in+for_loop+function+if_stmt+let_stmt+logical+methods+minus+return_stmt+row+statement+try_catch+unary+while_loop.Proof.Order.{body-below, function-at}
 use Rattle.code.specs.Cuts.{Ends, cut-step}
 use Rattle.cycle.proofs.Nested.{begun, cut-room, ended}
 use Rattle.cycle.proofs.Nodes.{a-function}

@@ -1,5 +1,5 @@
 -- What falls from call to call: the node's number; at the same node a dispatcher calls a kind of node, which calls its forms and its rows of children.
-use Prim.Native.Nat.{ℕ, _<_}
+use Prim.Native.Nat.{ℕ, _+_, _*_, _<_}
 use borrow.Fn.Kinds.{In}
 use borrow.Fn.PlainCycle.{Measures, is, falls, and}
 use Rattle.cycle.proofs.addi.Reads as addi
@@ -18,18 +18,18 @@ use Rattle.cycle.proofs.call.Reads as call
 use Rattle.cycle.proofs.call.Kinds as call-kinds
 use Rattle.cycle.proofs.class.Reads as class
 use Rattle.cycle.proofs.class.Kinds as class-kinds
-use Rattle.cycle.proofs.classic_for.Reads as classic-for
-use Rattle.cycle.proofs.classic_for.Kinds as classic-for-kinds
 use Rattle.cycle.proofs.elifs.Reads as elifs
 use Rattle.cycle.proofs.elifs.Kinds as elifs-kinds
-use Rattle.cycle.proofs.enhanced_for.Reads as enhanced-for
-use Rattle.cycle.proofs.enhanced_for.Kinds as enhanced-for-kinds
 use Rattle.cycle.proofs.expr_stmt.Reads as expr-stmt
 use Rattle.cycle.proofs.expr_stmt.Kinds as expr-stmt-kinds
 use Rattle.cycle.proofs.expression.Reads as expression
 use Rattle.cycle.proofs.expression.Kinds as expression-kinds
 use Rattle.cycle.proofs.fn_stmt.Reads as fn-stmt
 use Rattle.cycle.proofs.fn_stmt.Kinds as fn-stmt-kinds
+use Rattle.cycle.proofs.for_in.Reads as for-in
+use Rattle.cycle.proofs.for_in.Kinds as for-in-kinds
+use Rattle.cycle.proofs.for_loop.Reads as for-loop
+use Rattle.cycle.proofs.for_loop.Kinds as for-loop-kinds
 use Rattle.cycle.proofs.function.Reads as function
 use Rattle.cycle.proofs.function.Kinds as function-kinds
 use Rattle.cycle.proofs.if_stmt.Reads as if-stmt
@@ -54,7 +54,6 @@ use Rattle.cycle.proofs.unary.Reads as unary
 use Rattle.cycle.proofs.unary.Kinds as unary-kinds
 use Rattle.cycle.proofs.while_loop.Reads as while-loop
 use Rattle.cycle.proofs.while_loop.Kinds as while-loop-kinds
-use Prim.Native.Nat.{_+_, _*_}
 
 abbrev pub μ-addi : Measures 3 addi-kinds.ps ℕ
 μ-addi κs a = 8 * a .1 .1 .1 .1 .1 .0 + 4
@@ -80,14 +79,8 @@ abbrev pub μ-call : Measures 3 call-kinds.ps ℕ
 abbrev pub μ-class : Measures 3 class-kinds.ps ℕ
 μ-class κs a = 8 * a .1 .1 .1 .1 .1 .0 + 6
 
-abbrev pub μ-classic-for : Measures 3 classic-for-kinds.ps ℕ
-μ-classic-for κs a = 8 * a .1 .1 .1 .1 .1 .0 + 6
-
 abbrev pub μ-elifs : Measures 3 elifs-kinds.ps ℕ
 μ-elifs κs a = 8 * a .1 .1 .1 .1 .1 .0 + 3
-
-abbrev pub μ-enhanced-for : Measures 3 enhanced-for-kinds.ps ℕ
-μ-enhanced-for κs a = 8 * a .1 .1 .1 .1 .1 .0 + 6
 
 abbrev pub μ-expr-stmt : Measures 3 expr-stmt-kinds.ps ℕ
 μ-expr-stmt κs a = 8 * a .1 .1 .1 .1 .1 .0 + 6
@@ -97,6 +90,12 @@ abbrev pub μ-expression : Measures 3 expression-kinds.ps ℕ
 
 abbrev pub μ-fn-stmt : Measures 3 fn-stmt-kinds.ps ℕ
 μ-fn-stmt κs a = 8 * a .1 .1 .1 .1 .1 .0 + 6
+
+abbrev pub μ-for-in : Measures 3 for-in-kinds.ps ℕ
+μ-for-in κs a = 8 * a .1 .1 .1 .1 .1 .0 + 6
+
+abbrev pub μ-for-loop : Measures 3 for-loop-kinds.ps ℕ
+μ-for-loop κs a = 8 * a .1 .1 .1 .1 .1 .0 + 6
 
 abbrev pub μ-function : Measures 3 function-kinds.ps ℕ
 μ-function κs a = 8 * a .1 .1 .1 .1 .1 .0 + 6
@@ -183,31 +182,11 @@ class-at t = and 3 class-kinds.ps (is 3 class-kinds.ps μ-class t) class.Pre
 abbrev pub class-below : ℕ → In 3 class-kinds.ps
 class-below t = and 3 class-kinds.ps (falls 3 class-kinds.ps _<_ μ-class t) class.Pre
 
-abbrev pub classic-for-at : ℕ → In 3 classic-for-kinds.ps
-classic-for-at t =
-    and 3 classic-for-kinds.ps (is 3 classic-for-kinds.ps μ-classic-for t) classic-for.Pre
-
-abbrev pub classic-for-below : ℕ → In 3 classic-for-kinds.ps
-classic-for-below t =
-    and 3 classic-for-kinds.ps (falls 3 classic-for-kinds.ps _<_ μ-classic-for t) classic-for.Pre
-
 abbrev pub elifs-at : ℕ → In 3 elifs-kinds.ps
 elifs-at t = and 3 elifs-kinds.ps (is 3 elifs-kinds.ps μ-elifs t) elifs.Pre
 
 abbrev pub elifs-below : ℕ → In 3 elifs-kinds.ps
 elifs-below t = and 3 elifs-kinds.ps (falls 3 elifs-kinds.ps _<_ μ-elifs t) elifs.Pre
-
-abbrev pub enhanced-for-at : ℕ → In 3 enhanced-for-kinds.ps
-enhanced-for-at t =
-    and 3 enhanced-for-kinds.ps (is 3 enhanced-for-kinds.ps μ-enhanced-for t) enhanced-for.Pre
-
-abbrev pub enhanced-for-below : ℕ → In 3 enhanced-for-kinds.ps
-enhanced-for-below t =
-    and
-    3
-    enhanced-for-kinds.ps
-    (falls 3 enhanced-for-kinds.ps _<_ μ-enhanced-for t)
-    enhanced-for.Pre
 
 abbrev pub expr-stmt-at : ℕ → In 3 expr-stmt-kinds.ps
 expr-stmt-at t = and 3 expr-stmt-kinds.ps (is 3 expr-stmt-kinds.ps μ-expr-stmt t) expr-stmt.Pre
@@ -229,6 +208,19 @@ fn-stmt-at t = and 3 fn-stmt-kinds.ps (is 3 fn-stmt-kinds.ps μ-fn-stmt t) fn-st
 
 abbrev pub fn-stmt-below : ℕ → In 3 fn-stmt-kinds.ps
 fn-stmt-below t = and 3 fn-stmt-kinds.ps (falls 3 fn-stmt-kinds.ps _<_ μ-fn-stmt t) fn-stmt.Pre
+
+abbrev pub for-in-at : ℕ → In 3 for-in-kinds.ps
+for-in-at t = and 3 for-in-kinds.ps (is 3 for-in-kinds.ps μ-for-in t) for-in.Pre
+
+abbrev pub for-in-below : ℕ → In 3 for-in-kinds.ps
+for-in-below t = and 3 for-in-kinds.ps (falls 3 for-in-kinds.ps _<_ μ-for-in t) for-in.Pre
+
+abbrev pub for-loop-at : ℕ → In 3 for-loop-kinds.ps
+for-loop-at t = and 3 for-loop-kinds.ps (is 3 for-loop-kinds.ps μ-for-loop t) for-loop.Pre
+
+abbrev pub for-loop-below : ℕ → In 3 for-loop-kinds.ps
+for-loop-below t =
+    and 3 for-loop-kinds.ps (falls 3 for-loop-kinds.ps _<_ μ-for-loop t) for-loop.Pre
 
 abbrev pub function-at : ℕ → In 3 function-kinds.ps
 function-at t = and 3 function-kinds.ps (is 3 function-kinds.ps μ-function t) function.Pre

@@ -1,17 +1,16 @@
 -- fn visit_if_stmt: the condition, a jump past its statements, these, a jump to the end; the elifs; the statements of the else; the jumps to the end.
-use Prim.Native.Nat.{ℕ, _<_}
+use Prim.Native.Nat.{ℕ, _+_, _<_, _≤_}
 use Rattle.cycle.proofs.elifs.Reads as elifs
 use Rattle.cycle.proofs.expression.Reads as expression
 use Rattle.cycle.proofs.if_stmt.Reads as if-stmt
-use Rattle.cycle.proofs.+addi+arguments+binary+block+body+both+call+class+classic_for+elifs+enhanced_for+expr_stmt+expression+fn_stmt+function+if_stmt+let_stmt+logical+methods+minus+return_stmt+row+statement+try_catch+unary+while_loop.Lts-if_stmt as lts
+use Rattle.cycle.proofs.+addi+arguments+binary+block+body+both+call+class+elifs+expr_stmt+expression+fn_stmt+for_in+for_loop+function+if_stmt+let_stmt+logical+methods+minus+return_stmt+row+statement+try_catch+unary+while_loop.Lts-if_stmt as lts
 use Rattle.cycle.proofs.row.Reads as row
 use Rattle.code.proofs.end_branch.Reads as end-branch-reads
 use Rattle.code.proofs.end_if.Reads as end-if-reads
 use Rattle.code.proofs.test_and_jump.Reads as test-and-jump-reads
 use Rattle.cycle.proofs.branches_of.Reads as branches-of-reads
 use Rattle.cycle.proofs.words_of.Reads as words-of-reads
-use Rattle.cycle.proofs.+addi+arguments+binary+block+body+both+call+class+classic_for+elifs+enhanced_for+expr_stmt+expression+fn_stmt+function+if_stmt+let_stmt+logical+methods+minus+return_stmt+row+statement+try_catch+unary+while_loop.Proof.Order.{elifs-below, expression-below, if-stmt-at, row-below}
-use Prim.Native.Nat.{_+_, _≤_}
+use Rattle.cycle.proofs.+addi+arguments+binary+block+body+both+call+class+elifs+expr_stmt+expression+fn_stmt+for_in+for_loop+function+if_stmt+let_stmt+logical+methods+minus+return_stmt+row+statement+try_catch+unary+while_loop.Proof.Order.{elifs-below, expression-below, if-stmt-at, row-below}
 use Rattle.cycle.proofs.Nodes.{an-if}
 use Rattle.cycle.proofs.Sizes.{if-size}
 use Rattle.cycle.proofs.Way.{_▹_, adds, arrive, ends, from, give-expr, give-row, meanwhile, next, next-leaf, readable, sets, stand, twice}

@@ -1,23 +1,22 @@
 -- impl StmtAcceptor for Stmt: a refused step returns at once; any other goes to its tag's function, whose promise is the whole's; what is left is a break or a continue.
-use Prim.Native.Nat.{ℕ}
+use Prim.Native.Nat.{ℕ, _+_, _*_, _≤_}
 use Rattle.cycle.proofs.block.Reads as block
 use Rattle.cycle.proofs.class.Reads as class
-use Rattle.cycle.proofs.classic_for.Reads as classic-for
-use Rattle.cycle.proofs.enhanced_for.Reads as enhanced-for
 use Rattle.cycle.proofs.expr_stmt.Reads as expr-stmt
 use Rattle.cycle.proofs.fn_stmt.Reads as fn-stmt
+use Rattle.cycle.proofs.for_in.Reads as for-in
+use Rattle.cycle.proofs.for_loop.Reads as for-loop
 use Rattle.cycle.proofs.if_stmt.Reads as if-stmt
 use Rattle.cycle.proofs.let_stmt.Reads as let-stmt
 use Rattle.cycle.proofs.return_stmt.Reads as return-stmt
 use Rattle.cycle.proofs.statement.Reads as statement′
-use Rattle.cycle.proofs.+addi+arguments+binary+block+body+both+call+class+classic_for+elifs+enhanced_for+expr_stmt+expression+fn_stmt+function+if_stmt+let_stmt+logical+methods+minus+return_stmt+row+statement+try_catch+unary+while_loop.Lts-statement as lts
+use Rattle.cycle.proofs.+addi+arguments+binary+block+body+both+call+class+elifs+expr_stmt+expression+fn_stmt+for_in+for_loop+function+if_stmt+let_stmt+logical+methods+minus+return_stmt+row+statement+try_catch+unary+while_loop.Lts-statement as lts
 use Rattle.cycle.proofs.try_catch.Reads as try-catch
 use Rattle.cycle.proofs.while_loop.Reads as while-loop
 use Rattle.cycle.proofs.tag_of.Reads as tag-of-reads
 use Rattle.leaves.proofs.jump.Reads as jump-reads
-use Rattle.cycle.proofs.+addi+arguments+binary+block+body+both+call+class+classic_for+elifs+enhanced_for+expr_stmt+expression+fn_stmt+function+if_stmt+let_stmt+logical+methods+minus+return_stmt+row+statement+try_catch+unary+while_loop.Proof.Order.{block-below, class-below, classic-for-below, enhanced-for-below, expr-stmt-below, fn-stmt-below, if-stmt-below, let-stmt-below, return-stmt-below, statement-at, try-catch-below, while-loop-below}
+use Rattle.cycle.proofs.+addi+arguments+binary+block+body+both+call+class+elifs+expr_stmt+expression+fn_stmt+for_in+for_loop+function+if_stmt+let_stmt+logical+methods+minus+return_stmt+row+statement+try_catch+unary+while_loop.Proof.Order.{block-below, class-below, expr-stmt-below, fn-stmt-below, for-in-below, for-loop-below, if-stmt-below, let-stmt-below, return-stmt-below, statement-at, try-catch-below, while-loop-below}
 use borrow.Author.Needs.{needs}
-use Prim.Native.Nat.{_*_, _+_, _≤_}
 use Rattle.cycle.proofs.Nodes.{a-define, a-jump}
 use Rattle.cycle.proofs.Sizes.{define-size, fun-size}
 use Rattle.cycle.proofs.Way.{_▹_, arrive, from, leaf-lowers, on-node, readable, refused-stays}
@@ -64,7 +63,7 @@ a-break-or-continue n a b c r = (
 
 -- what each function that is called asks and promises; a member of the cycle at a smaller measure
 abbrev pub claims : ℕ → lts.Claims
-claims t = (tag-of-reads.Asked, tag-of-reads.Learnt, expr-stmt-below t, expr-stmt.Post, let-stmt-below t, let-stmt.Post, block-below t, block.Post, while-loop-below t, while-loop.Post, classic-for-below t, classic-for.Post, enhanced-for-below t, enhanced-for.Post, return-stmt-below t, return-stmt.Post, if-stmt-below t, if-stmt.Post, try-catch-below t, try-catch.Post, fn-stmt-below t, fn-stmt.Post, class-below t, class.Post, jump-reads.Asked, jump-reads.Learnt)
+claims t = (tag-of-reads.Asked, tag-of-reads.Learnt, expr-stmt-below t, expr-stmt.Post, let-stmt-below t, let-stmt.Post, block-below t, block.Post, while-loop-below t, while-loop.Post, for-loop-below t, for-loop.Post, for-in-below t, for-in.Post, return-stmt-below t, return-stmt.Post, if-stmt-below t, if-stmt.Post, try-catch-below t, try-catch.Post, fn-stmt-below t, fn-stmt.Post, class-below t, class.Post, jump-reads.Asked, jump-reads.Learnt)
 
 pub enum-told : (t : ℕ) → lts.Need-enum-told (claims t) (statement-at t) statement′.Post
 enum-told t c = search needs
@@ -90,11 +89,11 @@ block-requires t c κs = (omega (arith, (c .before .before .before .before .befo
 pub while-loop-requires : (t : ℕ) → lts.Need-while-loop-requires (claims t) (statement-at t) statement′.Post
 while-loop-requires t c κs = (omega (arith, (c .before .before .before .before .before .before .before .before .before .before) .pre .0), ((c .before .before .before .before .before .before .before .before .before .before) .pre .1 .0, sym ((c .before .before .before .tag-of) .ensures) ∙ (c .before .before .match2) .keys4))
 
-pub classic-for-requires : (t : ℕ) → lts.Need-classic-for-requires (claims t) (statement-at t) statement′.Post
-classic-for-requires t c κs = (omega (arith, (c .before .before .before .before .before .before .before .before .before .before) .pre .0), ((c .before .before .before .before .before .before .before .before .before .before) .pre .1 .0, sym ((c .before .before .before .tag-of) .ensures) ∙ (c .before .before .match2) .keys5))
+pub for-loop-requires : (t : ℕ) → lts.Need-for-loop-requires (claims t) (statement-at t) statement′.Post
+for-loop-requires t c κs = (omega (arith, (c .before .before .before .before .before .before .before .before .before .before) .pre .0), ((c .before .before .before .before .before .before .before .before .before .before) .pre .1 .0, sym ((c .before .before .before .tag-of) .ensures) ∙ (c .before .before .match2) .keys5))
 
-pub enhanced-for-requires : (t : ℕ) → lts.Need-enhanced-for-requires (claims t) (statement-at t) statement′.Post
-enhanced-for-requires t c κs = (omega (arith, (c .before .before .before .before .before .before .before .before .before .before) .pre .0), ((c .before .before .before .before .before .before .before .before .before .before) .pre .1 .0, sym ((c .before .before .before .tag-of) .ensures) ∙ (c .before .before .match2) .keys6))
+pub for-in-requires : (t : ℕ) → lts.Need-for-in-requires (claims t) (statement-at t) statement′.Post
+for-in-requires t c κs = (omega (arith, (c .before .before .before .before .before .before .before .before .before .before) .pre .0), ((c .before .before .before .before .before .before .before .before .before .before) .pre .1 .0, sym ((c .before .before .before .tag-of) .ensures) ∙ (c .before .before .match2) .keys6))
 
 pub return-stmt-requires : (t : ℕ) → lts.Need-return-stmt-requires (claims t) (statement-at t) statement′.Post
 return-stmt-requires t c κs = (omega (arith, (c .before .before .before .before .before .before .before .before .before .before) .pre .0), ((c .before .before .before .before .before .before .before .before .before .before) .pre .1 .0, sym ((c .before .before .before .tag-of) .ensures) ∙ (c .before .before .match2) .keys7))
@@ -159,22 +158,22 @@ pub returns-5 : (t : ℕ) → lts.Need-returns-5 (claims t) (statement-at t) sta
 returns-5 t c = (c .before .before .before .before .while-loop) .ensures
 
 pub same-length-9 : (t : ℕ) → lts.Need-same-length-9 (claims t) (statement-at t) statement′.Post
-same-length-9 t c = (c .before .before .before .before .classic-for) .ensures .does .moves .kept .same
+same-length-9 t c = (c .before .before .before .before .for-loop) .ensures .does .moves .kept .same
 
 pub same-length-10 : (t : ℕ) → lts.Need-same-length-10 (claims t) (statement-at t) statement′.Post
-same-length-10 t c = (c .before .before .before .before .classic-for) .ensures .does .same
+same-length-10 t c = (c .before .before .before .before .for-loop) .ensures .does .same
 
 pub returns-6 : (t : ℕ) → lts.Need-returns-6 (claims t) (statement-at t) statement′.Post
-returns-6 t c = (c .before .before .before .before .classic-for) .ensures
+returns-6 t c = (c .before .before .before .before .for-loop) .ensures
 
 pub same-length-11 : (t : ℕ) → lts.Need-same-length-11 (claims t) (statement-at t) statement′.Post
-same-length-11 t c = (c .before .before .before .before .enhanced-for) .ensures .does .moves .kept .same
+same-length-11 t c = (c .before .before .before .before .for-in) .ensures .does .moves .kept .same
 
 pub same-length-12 : (t : ℕ) → lts.Need-same-length-12 (claims t) (statement-at t) statement′.Post
-same-length-12 t c = (c .before .before .before .before .enhanced-for) .ensures .does .same
+same-length-12 t c = (c .before .before .before .before .for-in) .ensures .does .same
 
 pub returns-7 : (t : ℕ) → lts.Need-returns-7 (claims t) (statement-at t) statement′.Post
-returns-7 t c = (c .before .before .before .before .enhanced-for) .ensures
+returns-7 t c = (c .before .before .before .before .for-in) .ensures
 
 pub same-length-13 : (t : ℕ) → lts.Need-same-length-13 (claims t) (statement-at t) statement′.Post
 same-length-13 t c = (c .before .before .before .before .return-stmt) .ensures .does .moves .kept .same

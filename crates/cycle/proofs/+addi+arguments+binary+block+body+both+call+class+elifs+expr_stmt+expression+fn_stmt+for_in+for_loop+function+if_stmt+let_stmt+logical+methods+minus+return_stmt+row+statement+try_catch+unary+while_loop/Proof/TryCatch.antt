@@ -1,8 +1,8 @@
 -- fn visit_try_catch_stmt: the body between its marks, then in a block of its own the caught value's register and the catch part's body; at last the two places that point past them.
-use Prim.Native.Nat.{ℕ, _<_}
+use Prim.Native.Nat.{ℕ, _+_, _<_, _≤_}
 use Rattle.cycle.proofs.statement.Reads as statement′
 use Rattle.cycle.proofs.try_catch.Reads as try-catch
-use Rattle.cycle.proofs.+addi+arguments+binary+block+body+both+call+class+classic_for+elifs+enhanced_for+expr_stmt+expression+fn_stmt+function+if_stmt+let_stmt+logical+methods+minus+return_stmt+row+statement+try_catch+unary+while_loop.Lts-try_catch as lts
+use Rattle.cycle.proofs.+addi+arguments+binary+block+body+both+call+class+elifs+expr_stmt+expression+fn_stmt+for_in+for_loop+function+if_stmt+let_stmt+logical+methods+minus+return_stmt+row+statement+try_catch+unary+while_loop.Lts-try_catch as lts
 use Rattle.code.proofs.end_try.Reads as end-try-reads
 use Rattle.code.proofs.end_try_body.Reads as end-try-body-reads
 use Rattle.code.proofs.open_try_body.Reads as open-try-body-reads
@@ -10,8 +10,7 @@ use Rattle.cycle.proofs.words_of.Reads as words-of-reads
 use Rattle.parts.proofs.open_catch.Reads as open-catch-reads
 use Rattle.store.proofs.enter_block.Reads as enter-block-reads
 use Rattle.store.proofs.leave_block.Reads as leave-block-reads
-use Rattle.cycle.proofs.+addi+arguments+binary+block+body+both+call+class+classic_for+elifs+enhanced_for+expr_stmt+expression+fn_stmt+function+if_stmt+let_stmt+logical+methods+minus+return_stmt+row+statement+try_catch+unary+while_loop.Proof.Order.{statement-below, try-catch-at}
-use Prim.Native.Nat.{_+_, _≤_}
+use Rattle.cycle.proofs.+addi+arguments+binary+block+body+both+call+class+elifs+expr_stmt+expression+fn_stmt+for_in+for_loop+function+if_stmt+let_stmt+logical+methods+minus+return_stmt+row+statement+try_catch+unary+while_loop.Proof.Order.{statement-below, try-catch-at}
 use Rattle.cycle.proofs.Nodes.{a-try}
 use Rattle.cycle.proofs.Sizes.{try-size}
 use Rattle.cycle.proofs.Way.{_▹_, adds, arrive, ends, from, give-stmt, meanwhile, next, next-leaf, next-left, readable, sets, stand, stand-at, to, twice}

@@ -1,8 +1,8 @@
 -- fn visit_classic_for_stmt: the initializer, the condition, a jump out, the body in a loop, the increment, a jump back, and the jumps of the whole.
-use Prim.Native.Nat.{ℕ, _<_}
-use Rattle.cycle.proofs.classic_for.Reads as classic-for
-use Rattle.cycle.proofs.+addi+arguments+binary+block+body+both+call+class+classic_for+elifs+enhanced_for+expr_stmt+expression+fn_stmt+function+if_stmt+let_stmt+logical+methods+minus+return_stmt+row+statement+try_catch+unary+while_loop.Lts-classic_for as lts
+use Prim.Native.Nat.{ℕ, _+_, _<_, _≤_}
 use Rattle.cycle.proofs.expression.Reads as expression
+use Rattle.cycle.proofs.for_loop.Reads as for-loop
+use Rattle.cycle.proofs.+addi+arguments+binary+block+body+both+call+class+elifs+expr_stmt+expression+fn_stmt+for_in+for_loop+function+if_stmt+let_stmt+logical+methods+minus+return_stmt+row+statement+try_catch+unary+while_loop.Lts-for_loop as lts
 use Rattle.cycle.proofs.row.Reads as row
 use Rattle.cycle.proofs.statement.Reads as statement′
 use Rattle.code.proofs.end_loop.Reads as end-loop-reads
@@ -10,8 +10,7 @@ use Rattle.code.proofs.test_and_jump.Reads as test-and-jump-reads
 use Rattle.cycle.proofs.in_loop.Reads as in-loop-reads
 use Rattle.cycle.proofs.initializer_end.Reads as initializer-end-reads
 use Rattle.cycle.proofs.words_of.Reads as words-of-reads
-use Rattle.cycle.proofs.+addi+arguments+binary+block+body+both+call+class+classic_for+elifs+enhanced_for+expr_stmt+expression+fn_stmt+function+if_stmt+let_stmt+logical+methods+minus+return_stmt+row+statement+try_catch+unary+while_loop.Proof.Order.{classic-for-at, expression-below, row-below, statement-below}
-use Prim.Native.Nat.{_+_, _≤_}
+use Rattle.cycle.proofs.+addi+arguments+binary+block+body+both+call+class+elifs+expr_stmt+expression+fn_stmt+for_in+for_loop+function+if_stmt+let_stmt+logical+methods+minus+return_stmt+row+statement+try_catch+unary+while_loop.Proof.Order.{expression-below, for-loop-at, row-below, statement-below}
 use Rattle.cycle.proofs.Nodes.{a-for}
 use Rattle.cycle.proofs.Sizes.{for-size}
 use Rattle.cycle.proofs.Way.{_▹_, adds, arrive, ends, from, give-expr, give-looped, give-row, meanwhile, next, next-leaf, readable, sets, stand, twice}
@@ -130,36 +129,36 @@ module _ {t w : List ℕ} {p : Scope} {s : Step} {i : ℕ} (g : GivenStmt t w p 
 abbrev pub claims : ℕ → lts.Claims
 claims t = (words-of-reads.Asked, words-of-reads.Learnt, initializer-end-reads.Asked, initializer-end-reads.Learnt, row-below t, row.Post, expression-below t, expression.Post, test-and-jump-reads.Asked, test-and-jump-reads.Learnt, in-loop-reads.Asked, in-loop-reads.Learnt, statement-below t, statement′.Post, end-loop-reads.Asked, end-loop-reads.Learnt)
 
-pub words-of-requires : (t : ℕ) → lts.Need-words-of-requires (claims t) (classic-for-at t) classic-for.Post
+pub words-of-requires : (t : ℕ) → lts.Need-words-of-requires (claims t) (for-loop-at t) for-loop.Post
 words-of-requires t c κs = readable ((c .before .before .before .before) .pre .1 .0 .ready) ((c .before .before .before .before) .pre .1 .0 .known)
 
-pub initializer-end-requires : (t : ℕ) → lts.Need-initializer-end-requires (claims t) (classic-for-at t) classic-for.Post
+pub initializer-end-requires : (t : ℕ) → lts.Need-initializer-end-requires (claims t) (for-loop-at t) for-loop.Post
 initializer-end-requires t c κs = tt
 
-pub row-requires : (t : ℕ) → lts.Need-row-requires (claims t) (classic-for-at t) classic-for.Post
+pub row-requires : (t : ℕ) → lts.Need-row-requires (claims t) (for-loop-at t) for-loop.Post
 row-requires t c κs =
     let g = (c .before .before .before .before .before .before .before .before) .pre .1 .0 in
     rw ((c .initializer-end) .ensures, (c .before .before .before .words-of) .ensures .0) (omega (arith, (c .before .before .before .before .before .before .before .before) .pre .0), first g (a-for (g .ready .lawful) (g .known) ((c .before .before .before .before .before .before .before .before) .pre .1 .1)))
 
-pub expression-requires : (t : ℕ) → lts.Need-expression-requires (claims t) (classic-for-at t) classic-for.Post
+pub expression-requires : (t : ℕ) → lts.Need-expression-requires (claims t) (for-loop-at t) for-loop.Post
 expression-requires t c κs =
     let g = (c .before .before .before .before .before .before .before .before .before .before .before .before .before .before .before) .pre .1 .0 in
     let x = a-for (g .ready .lawful) (g .known) ((c .before .before .before .before .before .before .before .before .before .before .before .before .before .before .before) .pre .1 .1) in
     let e = (c .before .before .before .before .before .before .before .before .before .before .words-of) .ensures .0 in
     rw e (omega (arith, (c .before .before .before .before .before .before .before .before .before .before .before .before .before .before .before) .pre .0, x .condition .below), condition g x (rw ((c .before .before .before .before .before .before .before .initializer-end) .ensures, e) at ((c .before .before .before .before .before .before .row) .ensures)))
 
-pub test-and-jump-requires : (t : ℕ) → lts.Need-test-and-jump-requires (claims t) (classic-for-at t) classic-for.Post
+pub test-and-jump-requires : (t : ℕ) → lts.Need-test-and-jump-requires (claims t) (for-loop-at t) for-loop.Post
 test-and-jump-requires t c κs =
     let g = (c .before .before .before .before .before .before .before .before .before .before .before .before .before .before .before .before .before .before .before .before .before) .pre .1 .0 in
     let e = (c .before .before .before .before .before .before .before .before .before .before .before .before .before .before .before .before .words-of) .ensures .0 in
     at-test g (a-for (g .ready .lawful) (g .known) ((c .before .before .before .before .before .before .before .before .before .before .before .before .before .before .before .before .before .before .before .before .before) .pre .1 .1)) (rw ((c .before .before .before .before .before .before .before .before .before .before .before .before .before .initializer-end) .ensures, e) at ((c .before .before .before .before .before .before .before .before .before .before .before .before .row) .ensures)) (rw e at ((c .before .before .before .before .before .expression) .ensures))
 
-pub in-loop-requires : (t : ℕ) → lts.Need-in-loop-requires (claims t) (classic-for-at t) classic-for.Post
+pub in-loop-requires : (t : ℕ) → lts.Need-in-loop-requires (claims t) (for-loop-at t) for-loop.Post
 in-loop-requires t c κs =
     let g = (c .before .before .before .before .before .before .before .before .before .before .before .before .before .before .before .before .before .before .before .before .before .before .before .before .before .before) .pre .1 .0 in
     (open-loops g (a-for (g .ready .lawful) (g .known) ((c .before .before .before .before .before .before .before .before .before .before .before .before .before .before .before .before .before .before .before .before .before .before .before .before .before .before) .pre .1 .1)), g .ready .fine .sound .few)
 
-pub statement-requires : (t : ℕ) → lts.Need-statement-requires (claims t) (classic-for-at t) classic-for.Post
+pub statement-requires : (t : ℕ) → lts.Need-statement-requires (claims t) (for-loop-at t) for-loop.Post
 statement-requires t c κs =
     let g = (c .before .before .before .before .before .before .before .before .before .before .before .before .before .before .before .before .before .before .before .before .before .before .before .before .before .before .before) .pre .1 .0 in
     let x = a-for (g .ready .lawful) (g .known) ((c .before .before .before .before .before .before .before .before .before .before .before .before .before .before .before .before .before .before .before .before .before .before .before .before .before .before .before) .pre .1 .1) in
@@ -167,7 +166,7 @@ statement-requires t c κs =
     rw ((c .in-loop) .ensures, e)
     (omega (arith, (c .before .before .before .before .before .before .before .before .before .before .before .before .before .before .before .before .before .before .before .before .before .before .before .before .before .before .before) .pre .0, x .body .below), body g x (rw ((c .before .before .before .before .before .before .before .before .before .before .before .before .before .before .before .before .before .before .before .initializer-end) .ensures, e) at ((c .before .before .before .before .before .before .before .before .before .before .before .before .before .before .before .before .before .before .row) .ensures)) (rw e at ((c .before .before .before .before .before .before .before .before .before .before .before .expression) .ensures)) (rw e at ((c .before .before .before .before .before .test-and-jump) .ensures)))
 
-pub expression-requires-2 : (t : ℕ) → lts.Need-expression-requires-2 (claims t) (classic-for-at t) classic-for.Post
+pub expression-requires-2 : (t : ℕ) → lts.Need-expression-requires-2 (claims t) (for-loop-at t) for-loop.Post
 expression-requires-2 t c κs =
     let g = (c .before .before .before .before .before .before .before .before .before .before .before .before .before .before .before .before .before .before .before .before .before .before .before .before .before .before .before .before .before .before .before .before .before .before) .pre .1 .0 in
     let x = a-for (g .ready .lawful) (g .known) ((c .before .before .before .before .before .before .before .before .before .before .before .before .before .before .before .before .before .before .before .before .before .before .before .before .before .before .before .before .before .before .before .before .before .before) .pre .1 .1) in
@@ -175,19 +174,19 @@ expression-requires-2 t c κs =
     rw e
     (omega (arith, (c .before .before .before .before .before .before .before .before .before .before .before .before .before .before .before .before .before .before .before .before .before .before .before .before .before .before .before .before .before .before .before .before .before .before) .pre .0, x .increment .below), increment g x (rw ((c .before .before .before .before .before .before .before .before .before .before .before .before .before .before .before .before .before .before .before .before .before .before .before .before .before .before .initializer-end) .ensures, e) at ((c .before .before .before .before .before .before .before .before .before .before .before .before .before .before .before .before .before .before .before .before .before .before .before .before .before .row) .ensures)) (rw e at ((c .before .before .before .before .before .before .before .before .before .before .before .before .before .before .before .before .before .before .expression) .ensures)) (rw e at ((c .before .before .before .before .before .before .before .before .before .before .before .before .test-and-jump) .ensures)) (rw ((c .before .before .before .before .before .before .before .in-loop) .ensures, e) at ((c .before .before .before .before .before .before .statement) .ensures)))
 
-pub end-loop-requires : (t : ℕ) → lts.Need-end-loop-requires (claims t) (classic-for-at t) classic-for.Post
+pub end-loop-requires : (t : ℕ) → lts.Need-end-loop-requires (claims t) (for-loop-at t) for-loop.Post
 end-loop-requires t c κs =
     let g = (c .before .before .before .before .before .before .before .before .before .before .before .before .before .before .before .before .before .before .before .before .before .before .before .before .before .before .before .before .before .before .before .before .before .before .before .before .before .before .before .before) .pre .1 .0 in
     let e = (c .before .before .before .before .before .before .before .before .before .before .before .before .before .before .before .before .before .before .before .before .before .before .before .before .before .before .before .before .before .before .before .before .before .before .before .words-of) .ensures .0 in
     at-end g (a-for (g .ready .lawful) (g .known) ((c .before .before .before .before .before .before .before .before .before .before .before .before .before .before .before .before .before .before .before .before .before .before .before .before .before .before .before .before .before .before .before .before .before .before .before .before .before .before .before .before) .pre .1 .1)) (rw ((c .before .before .before .before .before .before .before .before .before .before .before .before .before .before .before .before .before .before .before .before .before .before .before .before .before .before .before .before .before .before .before .before .initializer-end) .ensures, e) at ((c .before .before .before .before .before .before .before .before .before .before .before .before .before .before .before .before .before .before .before .before .before .before .before .before .before .before .before .before .before .before .before .row) .ensures)) (rw e at ((c .before .before .before .before .before .before .before .before .before .before .before .before .before .before .before .before .before .before .before .before .before .before .before .before .expression) .ensures)) (rw e at ((c .before .before .before .before .before .before .before .before .before .before .before .before .before .before .before .before .before .before .test-and-jump) .ensures)) (rw ((c .before .before .before .before .before .before .before .before .before .before .before .before .before .in-loop) .ensures, e) at ((c .before .before .before .before .before .before .before .before .before .before .before .before .statement) .ensures)) (rw e at ((c .before .before .before .before .before .expression2) .ensures))
 
-pub same-length : (t : ℕ) → lts.Need-same-length (claims t) (classic-for-at t) classic-for.Post
+pub same-length : (t : ℕ) → lts.Need-same-length (claims t) (for-loop-at t) for-loop.Post
 same-length t c = (c .before .before .end-loop) .ensures .moves .kept .same ∙ (c .before .before .before .before .before .before .before .before .expression2) .ensures .does .moves .kept .same ∙ (c .before .before .before .before .before .before .before .before .before .before .before .before .before .before .before .statement) .ensures .does .moves .kept .same ∙ (c .before .before .before .before .before .before .before .before .before .before .before .before .before .before .before .before .before .before .before .before .before .test-and-jump) .ensures .moves .kept .same ∙ (c .before .before .before .before .before .before .before .before .before .before .before .before .before .before .before .before .before .before .before .before .before .before .before .before .before .before .before .expression) .ensures .does .moves .kept .same ∙ (c .before .before .before .before .before .before .before .before .before .before .before .before .before .before .before .before .before .before .before .before .before .before .before .before .before .before .before .before .before .before .before .before .before .before .row) .ensures .does .moves .kept .same
 
-pub same-length-2 : (t : ℕ) → lts.Need-same-length-2 (claims t) (classic-for-at t) classic-for.Post
+pub same-length-2 : (t : ℕ) → lts.Need-same-length-2 (claims t) (for-loop-at t) for-loop.Post
 same-length-2 t c = (c .before .before .before .before .before .before .before .before .expression2) .ensures .does .same ∙ (c .before .before .before .before .before .before .before .before .before .before .before .before .before .before .before .statement) .ensures .does .same ∙ (c .before .before .before .before .before .before .before .before .before .before .before .before .before .before .before .before .before .before .before .before .before .before .before .before .before .before .before .expression) .ensures .does .same ∙ (c .before .before .before .before .before .before .before .before .before .before .before .before .before .before .before .before .before .before .before .before .before .before .before .before .before .before .before .before .before .before .before .before .before .before .row) .ensures .does .same
 
-pub returns : (t : ℕ) → lts.Need-returns (claims t) (classic-for-at t) classic-for.Post
+pub returns : (t : ℕ) → lts.Need-returns (claims t) (for-loop-at t) for-loop.Post
 returns t c =
     let g = (c .before .before .before .before .before .before .before .before .before .before .before .before .before .before .before .before .before .before .before .before .before .before .before .before .before .before .before .before .before .before .before .before .before .before .before .before .before .before .before .before .before .before .before) .pre .1 .0 in
     let e = (c .before .before .before .before .before .before .before .before .before .before .before .before .before .before .before .before .before .before .before .before .before .before .before .before .before .before .before .before .before .before .before .before .before .before .before .before .before .before .words-of) .ensures .0 in

@@ -1,7 +1,7 @@
 -- fn visit_class_stmt: two registers and the name's constant, the superclass, Class, then the methods in a block of their own, and the class's name.
-use Prim.Native.Nat.{ℕ, _<_}
+use Prim.Native.Nat.{ℕ, _+_, _*_, _<_, _≤_}
 use Rattle.cycle.proofs.class.Reads as class
-use Rattle.cycle.proofs.+addi+arguments+binary+block+body+both+call+class+classic_for+elifs+enhanced_for+expr_stmt+expression+fn_stmt+function+if_stmt+let_stmt+logical+methods+minus+return_stmt+row+statement+try_catch+unary+while_loop.Lts-class as lts
+use Rattle.cycle.proofs.+addi+arguments+binary+block+body+both+call+class+elifs+expr_stmt+expression+fn_stmt+for_in+for_loop+function+if_stmt+let_stmt+logical+methods+minus+return_stmt+row+statement+try_catch+unary+while_loop.Lts-class as lts
 use Rattle.cycle.proofs.methods.Reads as methods
 use Rattle.code.proofs.make_class.Reads as make-class-reads
 use Rattle.cycle.proofs.count_of.Reads as count-of-reads
@@ -11,9 +11,8 @@ use Rattle.parts.proofs.end_class.Reads as end-class-reads
 use Rattle.parts.proofs.open_class.Reads as open-class-reads
 use Rattle.store.proofs.enter_block.Reads as enter-block-reads
 use Rattle.store.proofs.leave_block.Reads as leave-block-reads
-use Rattle.cycle.proofs.+addi+arguments+binary+block+body+both+call+class+classic_for+elifs+enhanced_for+expr_stmt+expression+fn_stmt+function+if_stmt+let_stmt+logical+methods+minus+return_stmt+row+statement+try_catch+unary+while_loop.Proof.Order.{class-at, methods-below}
+use Rattle.cycle.proofs.+addi+arguments+binary+block+body+both+call+class+elifs+expr_stmt+expression+fn_stmt+for_in+for_loop+function+if_stmt+let_stmt+logical+methods+minus+return_stmt+row+statement+try_catch+unary+while_loop.Proof.Order.{class-at, methods-below}
 use Rattle.meaning.proofs.Reading.{Class}
-use Prim.Native.Nat.{_*_, _+_, _≤_}
 use Rattle.cycle.proofs.Nodes.{a-class}
 use Rattle.cycle.proofs.Sizes.{class-size}
 use Rattle.cycle.proofs.Way.{_▹_, arrive, ends, few-results, from, in-block, meanwhile, next, next-leaf, next-left, on-node, readable, stand}

@@ -1,18 +1,17 @@
 -- impl ExprAcceptor for Expr: a refused step returns at once; any other goes to its tag's function, whose promise is the whole's.
-use Prim.Native.Nat.{ℕ}
+use Prim.Native.Nat.{ℕ, _*_, _≤_}
 use Rattle.cycle.proofs.binary.Reads as binary
 use Rattle.cycle.proofs.call.Reads as call
 use Rattle.cycle.proofs.expression.Reads as expression
-use Rattle.cycle.proofs.+addi+arguments+binary+block+body+both+call+class+classic_for+elifs+enhanced_for+expr_stmt+expression+fn_stmt+function+if_stmt+let_stmt+logical+methods+minus+return_stmt+row+statement+try_catch+unary+while_loop.Lts-expression as lts
+use Rattle.cycle.proofs.+addi+arguments+binary+block+body+both+call+class+elifs+expr_stmt+expression+fn_stmt+for_in+for_loop+function+if_stmt+let_stmt+logical+methods+minus+return_stmt+row+statement+try_catch+unary+while_loop.Lts-expression as lts
 use Rattle.cycle.proofs.function.Reads as function
 use Rattle.cycle.proofs.logical.Reads as logical
 use Rattle.cycle.proofs.unary.Reads as unary
 use Rattle.cycle.proofs.tag_of.Reads as tag-of-reads
 use Rattle.leaves.proofs.literal.Reads as literal-reads
 use Rattle.leaves.proofs.variable.Reads as variable-reads
-use Rattle.cycle.proofs.+addi+arguments+binary+block+body+both+call+class+classic_for+elifs+enhanced_for+expr_stmt+expression+fn_stmt+function+if_stmt+let_stmt+logical+methods+minus+return_stmt+row+statement+try_catch+unary+while_loop.Proof.Order.{binary-below, call-below, expression-at, function-below, logical-below, unary-below}
+use Rattle.cycle.proofs.+addi+arguments+binary+block+body+both+call+class+elifs+expr_stmt+expression+fn_stmt+for_in+for_loop+function+if_stmt+let_stmt+logical+methods+minus+return_stmt+row+statement+try_catch+unary+while_loop.Proof.Order.{binary-below, call-below, expression-at, function-below, logical-below, unary-below}
 use borrow.Author.Needs.{needs}
-use Prim.Native.Nat.{_*_, _≤_}
 use Rattle.cycle.proofs.Nodes.{a-literal, a-variable}
 use Rattle.cycle.proofs.Sizes.{variable-size}
 use Rattle.cycle.proofs.Way.{leaf-lowers, on-node, readable, refused-stays}
