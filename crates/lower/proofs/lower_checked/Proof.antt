@@ -2,6 +2,7 @@
 use mathlib.Core.Path.{_∙_}
 use lib.ListN.{length}
 use denote.Ref.{now}
+use Rattle.image.proofs.Finishing.{fine-finishable}
 use Rattle.lower.proofs.Start.{last-readable, row-asked}
 use Rattle.lower.proofs.Whole.{whole}
 use borrow.Author.Needs.{needs}
@@ -22,6 +23,11 @@ row-requires c κs =
     let count-of = c .before .before .count-of in
     let a = start .args in
     rw (set-up .ensures .0, count-of .ensures .0) (row-asked (now (a .tree)) (length (now (a .work))) (a .n) (start .pre) (set-up .ensures .1))
+
+finish-requires : tie.Need-finish-requires
+finish-requires c κs =
+    let end-program = c .before .before .before .before .end-program in
+    fine-finishable (end-program .ensures .fine)
 
 returns : tie.Need-returns
 returns c =
@@ -52,7 +58,7 @@ lower-checked-spec =
     count-of-requires
     row-requires
     (λ c κs. search needs)
-    (λ c κs. search needs)
+    finish-requires
     same-length
     (λ c. search needs)
     returns)
