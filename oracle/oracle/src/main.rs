@@ -103,7 +103,8 @@ fn rust(tree: &[u8]) -> Done {
 
 /// The image that the unchanged source gives, also where the port refuses; it may end this process.
 fn rust_image(tree: &[u8], path: &str) -> Done {
-    let nodes = judge::check(tree, u64::MAX).map_err(|r| format!("refusal {} at {}: not for the source", r.number, r.place))?;
+    let nodes =
+        judge::check(tree, u64::MAX).map_err(|r| format!("refusal {} at {}: not for the source", r.number, r.place))?;
     save(path, &unchanged::attempt(&nodes)?.to_bytes())
 }
 

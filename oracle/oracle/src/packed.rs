@@ -1,4 +1,4 @@
-//! The packed file of answers: plain numbers, most significant byte first, nothing compressed. README.md has the layout.
+//! The packed file of answers: plain numbers, most significant byte first, nothing compressed. crates/lower_replay/README.md has the layout.
 use crate::answer::Answer;
 use crate::limits::Asked;
 use crate::trees::pack::rule_of;

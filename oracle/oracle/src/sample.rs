@@ -1,4 +1,4 @@
-//! The fixed sample: which cases stand in tests/data/answers.bin.
+//! The fixed sample: which cases stand in crates/lower_replay/stdin.
 use crate::limits::{ask, cases, zoo, Asked, Case, Room, Work};
 use crate::packed::Packed;
 use crate::questions;

@@ -5,13 +5,13 @@ use oracle::packed::{checksum, read, write, Packed};
 use oracle::sample::{sample, SEED};
 
 fn committed() -> Vec<u8> {
-    let path = concat!(env!("CARGO_MANIFEST_DIR"), "/../../tests/data/answers.bin");
-    std::fs::read(path).expect("tests/data/answers.bin")
+    let path = concat!(env!("CARGO_MANIFEST_DIR"), "/../../crates/lower_replay/stdin");
+    std::fs::read(path).expect("crates/lower_replay/stdin")
 }
 
 #[test]
 fn the_sample_is_made_again() {
-    assert!(write(&sample(SEED)) == committed(), "oracle sample tests/data/answers.bin makes another file");
+    assert!(write(&sample(SEED)) == committed(), "oracle sample crates/lower_replay/stdin makes another file");
     assert!(committed().len() < 2_000_000);
 }
 

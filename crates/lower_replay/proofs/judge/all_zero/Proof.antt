@@ -1,0 +1,27 @@
+-- Words are counted.
+use borrow.Author.Needs.{needs}
+use Prim.Native.Nat.{_-_}
+use lib.ListN.{length}
+use Rattle.lower_replay.proofs.judge.all_zero.Statement.{statement}
+use Rattle.lower_replay.proofs.judge.all_zero.Tie as tie
+
+abbrev Inv-loop : tie.InvT-loop
+Inv-loop work i₀ i = Unit {0}
+
+abbrev μ-loop : tie.MeasureT-loop
+μ-loop work i₀ i = length work - i
+
+pub all-zero-spec : {M : Type 1} → statement M
+all-zero-spec =
+    tie.close
+    (tie.spec
+    Inv-loop
+    μ-loop
+    (λ c. search needs)  -- loop-holds
+    (λ c. search needs)  -- mul-if1
+    (λ c. search needs)  -- shared-slice-read-if1
+    (λ c. search needs)  -- returns
+    (λ c. search needs)  -- add-i
+    (λ c. search needs)  -- loop-less
+    (λ c. search needs)  -- loop-again
+    (λ c. search needs))  -- returns-2
