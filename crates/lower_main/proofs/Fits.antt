@@ -1,0 +1,16 @@
+-- An image is no longer than the output that it stands in.
+use Prim.Native.Nat.{ℕ, _-_, _≤_}
+use mathlib.Core.Path.{_≡_}
+use mathlib.Core.List.{List, _++_}
+use native.Mathlib.Omega.{arith}
+use lib.ListN.{length, replicate, length-append}
+use Rattle.meaning.specs.Answer.{Finished, imaged, stopped, finished, outcome, answer, output}
+use Rattle.meaning.specs.declared.Answer.{Answer}
+
+output-long : (room : ℕ) (f : Finished) → answer (outcome f) .length ≤ length (output room f)
+output-long room (imaged bytes) = omega (arith, length-append bytes (replicate (room - length bytes) 0))
+output-long room (stopped c place) = omega arith
+
+-- of what a call answers and leaves in the output
+pub fits : (tree : List ℕ) (work room : ℕ) (r : Answer) (o : List ℕ) → r ≡ answer (outcome (finished tree work room)) → o ≡ output room (finished tree work room) → r .length ≤ length o
+fits tree work room r o e written = rw (e, written) (output-long room (finished tree work room))

@@ -1,0 +1,2 @@
+-- What the program needs of an answer.
+pub mod Fits
