@@ -1,13 +1,8 @@
 //! One wording for one cause: the crate, the C header and the command line say the same; and the crate and the header the same sizes.
-use std::path::Path;
 use yengrazul::{Cause, Refusal, LARGEST_IMAGE, MOST_NODES, STACK_BYTES};
 
-fn path_of(path: &str) -> String {
-    format!("{}/../{path}", env!("CARGO_MANIFEST_DIR"))
-}
-
 fn text_of(path: &str) -> String {
-    let path = path_of(path);
+    let path = format!("{}/../{path}", env!("CARGO_MANIFEST_DIR"));
     std::fs::read_to_string(&path).unwrap_or_else(|problem| panic!("{path}: {problem}"))
 }
 
@@ -26,10 +21,6 @@ fn of_the_header() {
 
 #[test]
 fn of_the_command_line() {
-    // the command is under way
-    if !Path::new(&path_of("crates/lower_main")).exists() {
-        return;
-    }
     let words = text_of("crates/lower_main/src/words.rt");
     let words = quoted(&words);
     let frame = format!(" whole fields: {}", Cause::Frame.text());
