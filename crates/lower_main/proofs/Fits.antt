@@ -1,7 +1,7 @@
 -- An image is no longer than the output that it stands in.
 use Prim.Native.Nat.{ℕ, _-_, _≤_}
 use mathlib.Core.Path.{_≡_}
-use mathlib.Core.List.{List, _++_}
+use mathlib.Core.List.{List}
 use native.Mathlib.Omega.{arith}
 use lib.ListN.{length, replicate, length-append}
 use Rattle.meaning.specs.Answer.{Finished, imaged, stopped, finished, outcome, answer, output}
