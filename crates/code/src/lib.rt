@@ -13,6 +13,7 @@ ghost use Rattle.store.specs.Promise.{uses, nothing, live, Room, Leaf};
 ghost use Rattle.store.specs.Opening.{Leavable};
 ghost use Rattle.code.specs.Words.{Bytes, Packs, Wrote, Turns, Recoded, mended, closed-loop};
 ghost use Rattle.code.specs.Cuts.{rolled-step, Adds, Ends, EndsProgram};
+use instruction::OpCode;
 use meaning::Cause;
 use meaning::Instruction;
 use meaning::Outcome;
@@ -20,23 +21,23 @@ use store::Scope;
 use store::Step;
 
 // The opcodes that are written here, by document 01's numbers, and its "no mark".
-const MOVE: u32 = 0;
+const MOVE: u32 = OpCode::Move as u32;
 
-const JMP: u32 = 3;
+const JMP: u32 = OpCode::Jmp as u32;
 
-const TEST: u32 = 4;
+const TEST: u32 = OpCode::Test as u32;
 
-const RETURN: u32 = 20;
+const RETURN: u32 = OpCode::Return as u32;
 
-const CLOSURE: u32 = 23;
+const CLOSURE: u32 = OpCode::Closure as u32;
 
-const CLASS: u32 = 31;
+const CLASS: u32 = OpCode::Class as u32;
 
-const ADDI: u32 = 36;
+const ADDI: u32 = OpCode::Addi as u32;
 
-const REGISTER_TRY_CATCH: u32 = 48;
+const REGISTER_TRY_CATCH: u32 = OpCode::RegisterTryCatch as u32;
 
-const DEREGISTER_TRY_CATCH: u32 = 49;
+const DEREGISTER_TRY_CATCH: u32 = OpCode::DeregisterTryCatch as u32;
 
 const NO_MARK: u32 = 65535;
 

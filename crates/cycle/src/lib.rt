@@ -15,7 +15,8 @@ ghost use Rattle.nodes.specs.Offsets.{Readable};
 ghost use Rattle.store.specs.Store.{looped};
 ghost use Rattle.parts.specs.Parts.{tokens-from};
 ghost use Rattle.leaves.specs.Node.{Lawful, small-of};
-ghost use Rattle.cycle.specs.Cycle.{GivenExpr, GivenStmt, AskExpr, AskStmt, AskFun, AskRow, AskElifs, AskMethods, AskArguments, AskBody, LowersExpr, LowersStmt, LowersFun, LowersRow, LowersElifs, LowersMethods, LowersArguments, LowersBody, LowersAddi, LowersMinus, LowersBoth, first-words, branches-of};
+ghost use Rattle.cycle.specs.Cycle.{GivenExpr, GivenStmt, AskExpr, AskStmt, AskFun, AskRow, AskElifs, AskMethods, AskArguments, AskBody, LowersExpr, LowersStmt, LowersFun, LowersRow, LowersElifs, LowersMethods, LowersArguments, LowersBody, LowersAddi, LowersMinus, LowersBoth, first-words, branches-of, branched};
+use instruction::OpCode;
 use meaning::Outcome;
 use store::Scope;
 use store::Step;
@@ -42,13 +43,51 @@ pub struct Branches {
     pub all: usize,
 }
 
-const ADDI: u32 = 36;
+// Operators, as 01 numbers them, that have an immediate form.
+const PLUS: u32 = 1;
 
-const CLASS_METH: u32 = 32;
+const MINUS: u32 = 8;
 
-const CLASS_ST_METH: u32 = 33;
+const MOVE: u32 = OpCode::Move as u32;
 
-const SET_GLOBAL: u32 = 45;
+const ADD: u32 = OpCode::Add as u32;
+
+const SUB: u32 = OpCode::Sub as u32;
+
+const DIV: u32 = OpCode::Div as u32;
+
+const MOD: u32 = OpCode::Mod as u32;
+
+const MUL: u32 = OpCode::Mul as u32;
+
+const POW: u32 = OpCode::Pow as u32;
+
+const LT: u32 = OpCode::Lt as u32;
+
+const GT: u32 = OpCode::Gt as u32;
+
+const LTE: u32 = OpCode::Lte as u32;
+
+const GTE: u32 = OpCode::Gte as u32;
+
+const EQ: u32 = OpCode::Eq as u32;
+
+const NEQ: u32 = OpCode::Neq as u32;
+
+const NOT: u32 = OpCode::Not as u32;
+
+const NEG: u32 = OpCode::Neg as u32;
+
+const CLASS_METH: u32 = OpCode::ClassMeth as u32;
+
+const CLASS_ST_METH: u32 = OpCode::ClassStMeth as u32;
+
+const ADDI: u32 = OpCode::Addi as u32;
+
+const SET_GLOBAL: u32 = OpCode::SetGlobal as u32;
+
+// "If branches and loop bodies open no block."
+const BRANCH_BLOCKS: usize = 0;
 
 const NO_NAME: usize = 65535;
 
@@ -169,8 +208,8 @@ fn unary_opcode(op: u32) -> u32
     ensures { λ r. ⌜ (r ≡ unary-opcode op) × (r < 256) ⌝ }
 {
     match op {
-        1 => 17,
-        2 => 18,
+        1 => NOT,
+        2 => NEG,
         _ => 0,
     }
 }
@@ -180,18 +219,18 @@ fn binary_opcode(op: u32) -> u32
     ensures { λ r. ⌜ (r ≡ binary-opcode op) × (r < 256) ⌝ }
 {
     match op {
-        1 => 5,
-        2 => 11,
-        3 => 15,
-        4 => 16,
-        5 => 12,
-        6 => 14,
-        7 => 13,
-        8 => 6,
-        9 => 7,
-        10 => 8,
-        11 => 9,
-        12 => 10,
+        1 => ADD,
+        2 => LT,
+        3 => EQ,
+        4 => NEQ,
+        5 => GT,
+        6 => GTE,
+        7 => LTE,
+        8 => SUB,
+        9 => DIV,
+        10 => MOD,
+        11 => MUL,
+        12 => POW,
         _ => 0,
     }
 }
@@ -225,6 +264,19 @@ fn in_loop(scope: Scope) -> Scope
         depth: scope.depth,
         block: scope.block,
         loops: scope.loops + 1,
+    }
+}
+
+// The scope of an if branch that opens so many blocks.
+fn in_branch(scope: Scope, blocks: usize) -> Scope
+    requires { ⌜ (blocks ≤ 1) × (scope .block ≤ scope .nodes + 10) × (scope .nodes ≤ 32768) ⌝ }
+    ensures { λ r. ⌜ r ≡ branched blocks scope ⌝ }
+{
+    Scope {
+        nodes: scope.nodes,
+        depth: scope.depth,
+        block: blocks + scope.block,
+        loops: scope.loops,
     }
 }
 
@@ -492,9 +544,10 @@ fn if_stmt(
 {
     let x = words_of(tree, work, scope, node);
     let ends = branches_of(tree, work, scope, node);
+    let inside = in_branch(scope, BRANCH_BLOCKS);
     let condition = expression(tree, work, out, step, scope, x.child1);
     let tested = code::test_and_jump(work, condition, scope, 0, x.a);
-    let then = row(tree, work, out, tested, scope, node, 3, ends.thens);
+    let then = row(tree, work, out, tested, inside, node, 3, ends.thens);
     let branch = code::end_branch(work, then, scope, condition.code, x.a);
     let others = elifs(
         tree,
@@ -506,7 +559,7 @@ fn if_stmt(
         ends.thens + 1,
         ends.elifs,
     );
-    let last = row(tree, work, out, others, scope, node, ends.elifs, ends.all);
+    let last = row(tree, work, out, others, inside, node, ends.elifs, ends.all);
     code::end_if(work, last, scope, step.code)
 }
 
@@ -762,11 +815,11 @@ fn binary(
     ensures { λ r. ⌜ LowersExpr (now (tree .entry)) node (now (work .entry)) (now (out .entry)) scope step (now (work .exit)) (now (out .exit)) r ⌝ }
 {
     let x = words_of(tree, work, scope, node);
-    let k = immediate(tree, work, scope, x.a, 1, x.child3);
+    let k = immediate(tree, work, scope, x.a, PLUS, x.child3);
     if k < 256 {
         return addi(tree, work, out, step, scope, node, k);
     }
-    let j = immediate(tree, work, scope, x.a, 8, x.child2);
+    let j = immediate(tree, work, scope, x.a, MINUS, x.child2);
     if j < 256 {
         return minus(tree, work, out, step, scope, node);
     }
@@ -880,7 +933,7 @@ fn arguments(
     while k < n {
         let child = nodes::child(payload, k);
         let argument = expression(tree, work, out, last, scope, child);
-        last = code::emit(work, argument, scope, 0, to, argument.result, 0, NO_MARK);
+        last = code::emit(work, argument, scope, MOVE, to, argument.result, 0, NO_MARK);
         to += 1;
         k += 1;
     }
@@ -950,17 +1003,17 @@ fn statement(
     };
     let tag = tag_of(tree, work, scope, node);
     match tag {
-        16 => expr_stmt(tree, work, out, step, scope, node),
-        17 => let_stmt(tree, work, out, step, scope, node),
-        18 => block(tree, work, out, step, scope, node),
-        19 => while_loop(tree, work, out, step, scope, node),
-        20 => for_loop(tree, work, out, step, scope, node),
-        21 => for_in(tree, work, out, step, scope, node),
-        24 => return_stmt(tree, work, out, step, scope, node),
-        25 => if_stmt(tree, work, out, step, scope, node),
-        27 => try_catch(tree, work, out, step, scope, node),
-        28 => fn_stmt(tree, work, out, step, scope, node),
-        29 => class(tree, work, out, step, scope, node),
+        0x10 => expr_stmt(tree, work, out, step, scope, node),
+        0x11 => let_stmt(tree, work, out, step, scope, node),
+        0x12 => block(tree, work, out, step, scope, node),
+        0x13 => while_loop(tree, work, out, step, scope, node),
+        0x14 => for_loop(tree, work, out, step, scope, node),
+        0x15 => for_in(tree, work, out, step, scope, node),
+        0x18 => return_stmt(tree, work, out, step, scope, node),
+        0x19 => if_stmt(tree, work, out, step, scope, node),
+        0x1B => try_catch(tree, work, out, step, scope, node),
+        0x1C => fn_stmt(tree, work, out, step, scope, node),
+        0x1D => class(tree, work, out, step, scope, node),
         _ => leaves::jump(tree, work, step, scope, node),
     }
 }
@@ -983,12 +1036,12 @@ fn expression(
     };
     let tag = tag_of(tree, work, scope, node);
     match tag {
-        4 => leaves::variable(tree, work, step, scope, node),
-        5 => unary(tree, work, out, step, scope, node),
-        6 => binary(tree, work, out, step, scope, node),
-        7 => logical(tree, work, out, step, scope, node),
-        8 => call(tree, work, out, step, scope, node),
-        9 => function(tree, work, out, step, scope, node),
+        0x04 => leaves::variable(tree, work, step, scope, node),
+        0x05 => unary(tree, work, out, step, scope, node),
+        0x06 => binary(tree, work, out, step, scope, node),
+        0x07 => logical(tree, work, out, step, scope, node),
+        0x08 => call(tree, work, out, step, scope, node),
+        0x09 => function(tree, work, out, step, scope, node),
         _ => leaves::literal(tree, work, step, scope, node),
     }
 }

@@ -13,6 +13,7 @@ ghost use Rattle.forward.specs.Forward.{fwd};
 ghost use Rattle.store.specs.Store.{Fine};
 ghost use Rattle.store.specs.Promise.{nothing, uses, Room};
 ghost use Rattle.leaves.specs.Node.{Lawful, OnNode, Gives, GivesExpr, GivesStmt, super-of, GivesSuper, small-of};
+use instruction::OpCode;
 use meaning::Cause;
 use store::Found;
 use store::Scope;
@@ -20,21 +21,21 @@ use store::Step;
 use values::Immediate;
 
 // The opcodes that are written here, by document 01's numbers, and its "no mark".
-const LOAD_K: u32 = 1;
+const LOAD_K: u32 = OpCode::LoadK as u32;
 
-const LOAD_NIL: u32 = 2;
+const LOAD_NIL: u32 = OpCode::LoadNil as u32;
 
-const JMP: u32 = 3;
+const JMP: u32 = OpCode::Jmp as u32;
 
-const RETURN: u32 = 20;
+const RETURN: u32 = OpCode::Return as u32;
 
-const GET_UPVAL: u32 = 22;
+const GET_UPVAL: u32 = OpCode::GetUpval as u32;
 
-const GET_GLOBAL: u32 = 44;
+const GET_GLOBAL: u32 = OpCode::GetGlobal as u32;
 
-const SET_GLOBAL: u32 = 45;
+const SET_GLOBAL: u32 = OpCode::SetGlobal as u32;
 
-const GET_BUILTIN: u32 = 47;
+const GET_BUILTIN: u32 = OpCode::GetBuiltin as u32;
 
 const NO_MARK: u32 = 65535;
 

@@ -11,6 +11,7 @@ ghost use Rattle.store.specs.Promise.{uses, nothing, a-register, some-registers
 ghost use Rattle.store.specs.Opening.{Leavable};
 ghost use Rattle.code.specs.Cuts.{cut-step, Ends};
 ghost use Rattle.parts.specs.Parts.{Small, tokens-from, a-name, a-name-back, Owing};
+use instruction::OpCode;
 use meaning::Cause;
 use meaning::Literal;
 use meaning::Outcome;
@@ -19,29 +20,29 @@ use store::Step;
 
 // The lowering between two children, by the calls that the Rust makes there: the parts of the `visit_` routines that are straight lines of steps.
 
-const MOVE: u32 = 0;
+const MOVE: u32 = OpCode::Move as u32;
 
-const LOAD_K: u32 = 1;
+const LOAD_K: u32 = OpCode::LoadK as u32;
 
-const LT: u32 = 11;
+const LT: u32 = OpCode::Lt as u32;
 
-const CALL: u32 = 19;
+const CALL: u32 = OpCode::Call as u32;
 
-const GET_ITER: u32 = 38;
+const GET_ITER: u32 = OpCode::GetIter as u32;
 
-const GET_ITERK: u32 = 39;
+const GET_ITERK: u32 = OpCode::GetIterk as u32;
 
-const GET_ITERI: u32 = 40;
+const GET_ITERI: u32 = OpCode::GetIteri as u32;
 
-const LENGTH: u32 = 41;
+const LENGTH: u32 = OpCode::Length as u32;
 
-const SET_GLOBAL: u32 = 45;
+const SET_GLOBAL: u32 = OpCode::SetGlobal as u32;
 
-const GET_CURRENT_FUNC: u32 = 46;
+const GET_CURRENT_FUNC: u32 = OpCode::GetCurrentFunc as u32;
 
-const DEREGISTER_TRY_CATCH: u32 = 49;
+const DEREGISTER_TRY_CATCH: u32 = OpCode::DeregisterTryCatch as u32;
 
-const GET_EXCEPT: u32 = 50;
+const GET_EXCEPT: u32 = OpCode::GetExcept as u32;
 
 const NO_MARK: u32 = 65535;
 

@@ -378,6 +378,7 @@ pub +addi+arguments+binary+block+body+both+call+class+elifs+expr-stmt+expression
     if-stmt.Post
     (if-stmt-proof.words-of-requires t)
     (if-stmt-proof.branches-of-requires t)
+    (if-stmt-proof.in-branch-requires t)
     (if-stmt-proof.expression-requires t)
     (if-stmt-proof.test-and-jump-requires t)
     (if-stmt-proof.row-requires t)
