@@ -68,17 +68,23 @@ module _ {w w' : List ℕ} {p : Scope} (h : Sound w p) (lim : p .block < p .node
         starts = st;
         count = omega (arith, opened-top, h .count);
         linked =
-            rw opened-top
-            (linked-same w w' (p .nodes) (edge w (p .nodes) (p .block)) (omega (arith, h .count))
+            linked-same w w' (p .nodes) (p .block) (p .block + 1) (omega (arith, h .count))
             (record { same = λ i a b. g .other i (omega arith) (omega arith) })
             (record { same = λ i a b. g .other i (omega arith) (omega arith) })
             lower
-            (h .linked));
+            opened-top
+            (λ e x y. older e x y (decLt e (p .block + 1)))
+            (h .linked);
       }
     where
       rises : (i : ℕ) → i < p .block + 1 → Dec (i < p .block) → edge w' (p .nodes) i ≤ edge w' (p .nodes) (suc i)
       rises i x (yes a) = rw (opened-edge i (omega arith), opened-edge (suc i) a) (h .sorted i a)
       rises i x (no a) = let e : i ≡ p .block = omega arith in rw e (omega (arith, opened-edge (p .block) (omega arith), g .here))
+
+      -- the new edge is where the locals end
+      older : (e : ℕ) → e ≤ p .block + 1 → edge w' (p .nodes) e < edge w (p .nodes) (p .block) → Dec (e < p .block + 1) → (e ≤ p .block) × (edge w' (p .nodes) e ≡ edge w (p .nodes) e)
+      older e x y (yes a) = (omega arith, opened-edge e (omega arith))
+      older e x y (no a) = let z : e ≡ p .block + 1 = omega arith in absurd (omega (arith, opened-top, ap (λ k. edge w' (p .nodes) k) z))
 
 -- ---- enter_block
 
@@ -167,9 +173,10 @@ pub record Leaving (w : List ℕ) (p : Scope) : Type 0 where
   pub some : 1 ≤ p .nodes
   pub few : p .nodes ≤ 32768
   pub long : 12288 + 16 * p .nodes ≤ length w
+  pub ends : getD w (5708 + p .nodes + p .block + 1) 0 ≡ edge w (p .nodes) (p .block + 1)
   pub rises : edge w (p .nodes) (p .block) ≤ getD w (5708 + p .nodes + p .block + 1) 0
   pub fits : getD w (5708 + p .nodes + p .block + 1) 0 ≤ p .nodes + 2040
-  pub linked : Linked w (p .nodes) (getD w (5708 + p .nodes + p .block + 1) 0)
+  pub linked : Linked w (p .nodes) (p .block + 1)
 
 pub leaving : {w : List ℕ} {p : Scope} → Sound w (deeper p) → Leaving w p
 leaving {w} {p} h =
@@ -179,7 +186,8 @@ leaving {w} {p} h =
       some = h .some;
       few = h .few;
       long = h .long;
+      ends = e;
       rises = rw f (h .sorted (p .block) (omega arith));
       fits = rw e (h .count);
-      linked = rw e (h .linked);
+      linked = h .linked;
     }

@@ -16,7 +16,7 @@ use Rattle.store.proofs.Links.{in-blocks, seek-small}
 use Rattle.meaning.specs.State.{Proto, local-of, get-var-register}
 
 pub walkable-of : {w : List ℕ} {p : Scope} → Sound w p → Walkable w (p .nodes) (edge w (p .nodes) (p .block))
-walkable-of {w} {p} h = record { some = h .some; few = h .few; long = h .long; count = edge w (p .nodes) (p .block); within = omega arith; fits = h .count; linked = h .linked }
+walkable-of {w} {p} h = record { some = h .some; few = h .few; long = h .long; blocks = p .block; block = p .block; among = omega arith; ends = refl; within = omega arith; fits = h .count; linked = h .linked }
 
 pub option-found : (x : Option ℕ) → option-of (found-of x) ≡ x
 option-found none = refl

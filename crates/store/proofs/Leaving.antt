@@ -60,7 +60,7 @@ module _ {w w' : List ℕ} (p : Scope) (h : Sound w (deeper p)) (g : Popped w p 
         main = word 3075 (omega arith) ∙ h .main;
         starts = λ j l. let a = starts j l in omega (arith, a, word (3075 + 8 * j) (omega arith));
         count = omega (arith, popped-edge (p .block) (omega arith), popped-rises, h .count);
-        linked = rw (popped-edge (p .block) (omega arith)) (g .linked);
+        linked = g .linked;
       }
 
   pub popped-kept : (q : Scope) → q .nodes ≡ p .nodes → q .depth ≤ 8 → q .block ≤ p .block + 1 → Kept w q w'

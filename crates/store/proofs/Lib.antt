@@ -16,6 +16,7 @@ pub mod Captures
 pub mod Registers
 pub mod Pools
 pub mod Searching
+pub mod Shadows
 pub mod Upvalues
 pub mod Opening
 pub mod Functions

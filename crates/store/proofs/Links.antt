@@ -1,4 +1,5 @@
--- Locals by name: nothing between the latest local of a bucket and the end has a name in it, so a walk along the links meets every local of that name.
+-- Locals by name: nothing between the latest local of a bucket and the end has a name in it, and what a link passes over is shadowed, so a walk along the links
+-- meets the latest local of a name.
 use mathlib.Core.Path.{_≡_, refl, sym, ap, _∙_}
 use mathlib.Core.Bool.{Bool, true, false, cond}
 use mathlib.Core.Option.{Option, none, some}
@@ -12,11 +13,11 @@ use borrow.Author.Tests.{lt-ltb, le-ltb, eq-eqb, ne-eqb}
 use Rattle.store.specs.Half.{with-half}
 use Rattle.store.specs.Table.{span}
 use Rattle.store.specs.Layout.{edge, local-at, block, latest, link, head}
-use Rattle.store.specs.Store.{Linked}
+use Rattle.store.specs.Store.{Shadowed, Leads, Linked}
 use Rattle.store.specs.Search.{seek}
 use Rattle.store.proofs.Tables.{span-more, span-none}
 use Rattle.store.proofs.Halves.{half-same, half-other, half-small, half-word, word-other, length-half}
-use Rattle.store.proofs.Regions.{Same, same-part, local-same, latest-same, edges-below}
+use Rattle.store.proofs.Regions.{Same, same-part, latest-same, leads-same, edges-below}
 use Rattle.meaning.specs.State.{Local, local-in-block, local-of}
 
 -- ---- the latest of a bucket
@@ -52,6 +53,9 @@ module _ (w : List ℕ) (n b : ℕ) where
       cases ih (no x) (yes y) = absurd (omega (arith, latest-hit k y))
       cases ih (no x) (no y) = let m = latest-miss k y in ih (omega arith) (omega arith) ∙ sym m
 
+  pub latest-gap : (k m : ℕ) → latest w n b k ≤ m → m < k → ¬ (local-at w n m .name % (8 * n) ≡ b)
+  latest-gap k m l h e = omega (arith, latest-hit m e, latest-between k (suc m) (omega arith) h)
+
   -- the latest is in the bucket
   pub latest-in : (k i : ℕ) → latest w n b k ≡ suc i → local-at w n i .name % (8 * n) ≡ b
   latest-in zero i e = absurd (omega (arith, latest-none))
@@ -82,6 +86,15 @@ module _ (name : ℕ) (f : ℕ → Local) where
       cases : Dec (n < a) → seek name f a (suc n) o ≡ seek name f a n o
       cases (yes l) = seek-none a (suc n) o l ∙ sym (seek-none a n o (omega arith))
       cases (no l) = seek-more a n o (omega arith) ∙ rw (ne-eqb name (f n .name) e)
+
+  -- none of that name from m up to n
+  pub seek-pass : (a m n : ℕ) (o : Option ℕ) → m ≤ n → ((j : ℕ) → m ≤ j → j < n → ¬ (name ≡ f j .name)) → seek name f a m o ≡ seek name f a n o
+  seek-pass a m zero o l h = let e : m ≡ 0 = omega arith in rw e
+  seek-pass a m (suc n) o l h = cases (λ x. seek-pass a m n o x (λ j y z. h j y (omega arith))) (decLt n m)
+    where
+      cases : (m ≤ n → seek name f a m o ≡ seek name f a n o) → Dec (n < m) → seek name f a m o ≡ seek name f a (suc n) o
+      cases ih (yes k) = let e : m ≡ suc n = omega arith in rw e
+      cases ih (no k) = ih (omega arith) ∙ sym (seek-miss a n o (h n (omega arith) (omega arith)))
 
   in-span : (a n : ℕ) (o : Option ℕ) → local-in-block name (span f a n) o ≡ seek name f a n o
   in-span a zero o = rw (span-none f a zero (omega arith), seek-none a zero o (omega arith))
@@ -116,64 +129,89 @@ in-blocks w n name a (suc m) ha he = cases (in-blocks w n name a m ha (λ i k. h
         rw (span-more (block w n) a m l, in-span name (local-at w n) (edge w n m) (edge w n (suc m)) (local-of name (span (block w n) a m)), ih)
         (seek-join name (local-at w n) (edge w n a) (edge w n m) (edge w n (suc m)) none (edges-below w n m (λ i x. he i (omega arith)) a l) (he m (omega arith)))
 
--- THE WALK: from the end to the latest of the name's bucket there is no local of that name
-pub seek-latest : (w : List ℕ) (n name a k : ℕ) → seek name (local-at w n) a (latest w n (name % (8 * n)) k) none ≡ seek name (local-at w n) a k none
-seek-latest w n name a zero = rw (latest-none w n (name % (8 * n)))
-seek-latest w n name a (suc k) = cases (seek-latest w n name a k) (ℕ-discrete (local-at w n k .name % (8 * n)) (name % (8 * n)))
-  where
-    cases : seek name (local-at w n) a (latest w n (name % (8 * n)) k) none ≡ seek name (local-at w n) a k none → Dec (local-at w n k .name % (8 * n) ≡ name % (8 * n))
-        → seek name (local-at w n) a (latest w n (name % (8 * n)) (suc k)) none ≡ seek name (local-at w n) a (suc k) none
-    cases ih (yes e) = rw (latest-hit w n (name % (8 * n)) k e)
-    cases ih (no e) =
-        rw (latest-miss w n (name % (8 * n)) k e)
-        (ih ∙ sym (seek-miss name (local-at w n) a k none (λ g. e (ap (λ x. x % (8 * n)) (sym g)))))
+-- ---- the walk
 
--- a turn of the walk: from the latest of the bucket to the one before it
-module _ (w : List ℕ) (n count b : ℕ) (h : Linked w n count) where
-  pub walk-next : (i : ℕ) → 0 < i → i ≤ count → latest w n b i ≡ i → link w (i - 1) ≡ latest w n b (i - 1)
-  walk-next i p l e =
-      let s : i ≡ suc (i - 1) = omega arith in
-      h .links (i - 1) (omega arith) ∙ ap (λ x. latest w n x (i - 1)) (latest-in w n b i (i - 1) (e ∙ s))
+-- the walk starts at the head, the latest of all
+module _ (w : List ℕ) (n b k : ℕ) (h : Linked w n b) (range : k < 8 * n) where
+  pub head-within : head w n k ≤ edge w n b
+  head-within = let e = h .heads k range in omega (arith, latest-le w n k (edge w n b))
 
   -- what is passed over at first: the locals from `end` on
-  pub skip-start : (end : ℕ) → end ≤ count → b < 8 * n → latest w n b (max (head w n b) end) ≡ head w n b
-  skip-start end l m =
-      let e = h .heads b m in
-      let u = latest-le w n b count in
-      latest-between w n b count (max (head w n b) end) (omega arith) (omega arith) ∙ sym e
+  pub skip-start : (end : ℕ) → end ≤ edge w n b → latest w n k (max (head w n k) end) ≡ head w n k
+  skip-start end l =
+      let e = h .heads k range in
+      let u = latest-le w n k (edge w n b) in
+      latest-between w n k (edge w n b) (max (head w n k) end) (omega arith) (omega arith) ∙ sym e
 
-  pub head-within : b < 8 * n → head w n b ≤ count
-  head-within m = let e = h .heads b m in omega (arith, latest-le w n b count)
+pub walk-self : (w : List ℕ) (n k i m : ℕ) → latest w n k m ≡ i → latest w n k i ≡ i
+walk-self w n k i m e = let u = latest-le w n k m in latest-between w n k m i (omega arith) (omega arith) ∙ e
 
-  pub skip-self : (i end : ℕ) → end < i → latest w n b (max i end) ≡ i → latest w n b i ≡ i
-  skip-self i end l e = let m : max i end ≡ i = omega arith in rw m at e
+pub skip-self : (w : List ℕ) (n k i end : ℕ) → end < i → latest w n k (max i end) ≡ i → latest w n k i ≡ i
+skip-self w n k i end l e = let m : max i end ≡ i = omega arith in rw m at e
 
-  pub skip-next : (i end : ℕ) → end < i → i ≤ count → latest w n b (max i end) ≡ i → latest w n b (max (link w (i - 1)) end) ≡ link w (i - 1)
-  skip-next i end l u e =
-      let s = walk-next i (omega arith) u (skip-self i end l e) in
-      let v = latest-le w n b (i - 1) in
-      latest-between w n b (i - 1) (max (link w (i - 1)) end) (omega arith) (omega arith) ∙ sym s
+pub skip-end : (w : List ℕ) (n k i end : ℕ) → i ≤ end → latest w n k (max i end) ≡ i → latest w n k end ≡ i
+skip-end w n k i end l e = let m : max i end ≡ end = omega arith in rw m at e
 
-  pub skip-end : (i end : ℕ) → i ≤ end → latest w n b (max i end) ≡ i → latest w n b end ≡ i
-  skip-end i end l e = let m : max i end ≡ end = omega arith in rw m at e
+-- a turn of the walk, from i, the latest of its bucket: to the latest before `back`
+module _ (w : List ℕ) (n b k i : ℕ) (h : Linked w n b) (some : 0 < i) (within : i ≤ edge w n b) (own : latest w n k i ≡ i) where
+  turn : Leads w n b (i - 1)
+  turn = h .links (i - 1) (omega arith)
 
-  pub walk-self : (i k : ℕ) → latest w n b k ≡ i → latest w n b i ≡ i
-  walk-self i k e = let u = latest-le w n b k in latest-between w n b k i (omega arith) (omega arith) ∙ e
+  in-bucket : local-at w n (i - 1) .name % (8 * n) ≡ k
+  in-bucket = let s : i ≡ suc (i - 1) = omega arith in latest-in w n k i (i - 1) (own ∙ s)
 
-pub walk-start : (w : List ℕ) (n name start end i : ℕ) → latest w n (name % (8 * n)) end ≡ i → seek name (local-at w n) start i none ≡ seek name (local-at w n) start end none
-walk-start w n name start end i e = rw (← e) (seek-latest w n name start end)
+  to : link w (i - 1) ≡ latest w n k (turn .back)
+  to = turn .leads ∙ ap (λ x. latest w n x (turn .back)) in-bucket
+
+  pub turn-less : link w (i - 1) < i
+  turn-less = omega (arith, to, turn .before, latest-le w n k (turn .back))
+
+  pub turn-self : latest w n k (link w (i - 1)) ≡ link w (i - 1)
+  turn-self = walk-self w n k (link w (i - 1)) (turn .back) (sym to)
+
+  -- beyond the edge of a block all that is passed over is beyond it too
+  pub skip-next : (e end : ℕ) → e ≤ b → end ≡ edge w n e → end < i → latest w n k (max (link w (i - 1)) end) ≡ link w (i - 1)
+  skip-next e end l g m =
+      let v = latest-le w n k (turn .back) in
+      let u = turn .within e l (omega arith) in
+      latest-between w n k (turn .back) (max (link w (i - 1)) end) (omega (arith, to)) (omega (arith, to)) ∙ sym to
+
+  -- below `end`, where all from i on have another name than the one that is sought: what is passed over is shadowed by one of them
+  pub walk-miss : (name e end : ℕ) → name % (8 * n) ≡ k → e ≤ b → end ≡ edge w n e → i ≤ end → ((m : ℕ) → i ≤ m → m < end → ¬ (local-at w n m .name ≡ name)) → ¬ (local-at w n (i - 1) .name ≡ name)
+      → (m : ℕ) → link w (i - 1) ≤ m → m < end → ¬ (local-at w n m .name ≡ name)
+  walk-miss name e end kn eb ee le all ne m lo hi g = cases (decLt m (turn .back)) (decLt m (i - 1))
+    where
+      from-here : (j : ℕ) → i - 1 ≤ j → j < end → local-at w n j .name ≡ name → Dec (j ≡ i - 1) → ⊥
+      from-here j x y z (yes q) = ne (ap (λ r. local-at w n r .name) (sym q) ∙ z)
+      from-here j x y z (no q) = all j (omega arith) y z
+
+      in-k : local-at w n m .name % (8 * n) ≡ k
+      in-k = ap (λ x. x % (8 * n)) g ∙ kn
+
+      below : (s : Shadowed w n b (i - 1) m) → m < i - 1 → Dec (s .by < end) → ⊥
+      below s x (yes q) = from-here (s .by) (s .later) q (s .same ∙ g) (ℕ-discrete (s .by) (i - 1))
+      below s x (no q) = omega (arith, s .together e eb (omega arith))
+
+      cases : Dec (m < turn .back) → Dec (m < i - 1) → ⊥
+      cases (yes x) y = latest-gap w n k (turn .back) m (omega (arith, to)) x in-k
+      cases (no x) (yes y) = let s = turn .shadowed m (omega arith) y (in-k ∙ sym in-bucket) in below s y (decLt (s .by) end)
+      cases (no x) (no y) = from-here m (omega arith) hi g (ℕ-discrete m (i - 1))
+
+pub walk-start : (w : List ℕ) (n name end i : ℕ) → latest w n (name % (8 * n)) end ≡ i → (m : ℕ) → i ≤ m → m < end → ¬ (local-at w n m .name ≡ name)
+walk-start w n name end i e m l h g = latest-gap w n (name % (8 * n)) end m (omega arith) h (ap (λ x. x % (8 * n)) g)
 
 unsuc : (i a : ℕ) → a < i → i ≡ suc (i - 1)
 unsuc i a h = omega arith
 
-pub walk-hit : (w : List ℕ) (n name start i : ℕ) → start < i → local-at w n (i - 1) .name ≡ name → seek name (local-at w n) start i none ≡ some (local-at w n (i - 1) .register)
-walk-hit w n name start i l e = ap (λ k. seek name (local-at w n) start k none) (unsuc i start l) ∙ seek-hit name (local-at w n) start (i - 1) none (omega arith) (sym e)
+module _ (w : List ℕ) (n name start end i : ℕ) (le : i ≤ end) (all : (m : ℕ) → i ≤ m → m < end → ¬ (local-at w n m .name ≡ name)) where
+  passed : seek name (local-at w n) start end none ≡ seek name (local-at w n) start i none
+  passed = sym (seek-pass name (local-at w n) start i end none le (λ j x y z. all j x y (sym z)))
 
-pub walk-miss : (w : List ℕ) (n name start i j : ℕ) → start < i → ¬ (local-at w n (i - 1) .name ≡ name) → j ≡ latest w n (name % (8 * n)) (i - 1) → seek name (local-at w n) start j none ≡ seek name (local-at w n) start i none
-walk-miss w n name start i j l e m =
-    rw m
-    (seek-latest w n name start (i - 1)
-    ∙ sym (ap (λ k. seek name (local-at w n) start k none) (unsuc i start l) ∙ seek-miss name (local-at w n) start (i - 1) none (λ g. e (sym g))))
+  pub walk-hit : start < i → local-at w n (i - 1) .name ≡ name → seek name (local-at w n) start end none ≡ some (local-at w n (i - 1) .register)
+  walk-hit l e = passed ∙ ap (λ k. seek name (local-at w n) start k none) (unsuc i start l) ∙ seek-hit name (local-at w n) start (i - 1) none (omega arith) (sym e)
+
+  pub walk-none : i ≤ start → seek name (local-at w n) start end none ≡ none
+  walk-none l = passed ∙ seek-none name (local-at w n) start i none l
 
 pub seek-small : (w : List ℕ) (n name a k : ℕ) (i : ℕ) → seek name (local-at w n) a k none ≡ some i → i < 255
 unfolding seek
@@ -185,49 +223,83 @@ seek-small w n name a (suc k) i e = go (ltb k a) (eqb name (local-at w n k .name
     go false true ih g = let h : local-at w n k .register ≡ i = cc in omega arith
     go false false ih g = ih g
 
--- ---- popping: of w the first i locals are left, the heads in w1 are theirs, and nothing else changed
+-- ---- popping: of w the locals up to i are left, the heads in w1 lead to some between `from` and i, and nothing else changed
 
-pub record Popping (w w1 : List ℕ) (n i : ℕ) : Type 0 where
+pub record Heads (w w1 : List ℕ) (n from i c : ℕ) : Type 0 where
+  pub back : ℕ
+  pub low : from ≤ back
+  pub high : back ≤ i
+  pub leads : head w1 n c ≡ latest w n c back
+
+pub record Popping (w w1 : List ℕ) (n from i : ℕ) : Type 0 where
   pub same : length w1 ≡ length w
   pub other : (j : ℕ) → (12288 + 11 * n ≤ j → 12288 + 15 * n ≤ j) → getD w1 j 0 ≡ getD w j 0
-  pub heads : (c : ℕ) → c < 8 * n → head w1 n c ≡ latest w n c i
+  pub heads : (c : ℕ) → c < 8 * n → Heads w w1 n from i c
 
-pub popping-start : {w : List ℕ} {n i : ℕ} → Linked w n i → Popping w w n i
-popping-start h = record { same = refl; other = λ j l. refl; heads = h .heads }
+pub popping-start : {w : List ℕ} {n b : ℕ} (from i : ℕ) → from ≤ i → i ≡ edge w n b → Linked w n b → Popping w w n from i
+popping-start {w} {n} from i l e h = record { same = refl; other = λ j l. refl; heads = λ c m. record { back = i; low = l; high = omega arith; leads = h .heads c m ∙ ap (λ k. latest w n c k) (sym e) } }
 
--- the link of the local that is popped becomes the head of its bucket
-module _ (w w1 : List ℕ) (n i b v count : ℕ) (linked : Linked w n count) (within : i < count) (few : count ≤ n + 2040) (long : 12288 + 16 * n ≤ length w) (range : b < 8 * n) (own : local-at w n i .name % (8 * n) ≡ b) (back : v ≡ link w1 i) (g : Popping w w1 n (suc i)) where
-  link-back : v ≡ latest w n b i
-  link-back = back ∙ half-word w w1 (9376 + i) (g .other ((9376 + i) / 2) (λ z. absurd (omega arith))) ∙ linked .links i within ∙ ap (λ c. latest w n c i) own
+-- the link of the local that is popped becomes the head of its bucket; its block starts at edge e
+module _ (w w1 : List ℕ) (n e i k v b : ℕ) (linked : Linked w n b) (inner : e ≤ b) (from : edge w n e ≤ i) (within : i < edge w n b) (few : edge w n b ≤ n + 2040) (long : 12288 + 16 * n ≤ length w) (range : k < 8 * n) (own : local-at w n i .name % (8 * n) ≡ k) (back : v ≡ link w1 i)
+    (g : Popping w w1 n (edge w n e) (suc i)) where
+  old : Leads w n b i
+  old = linked .links i within
 
-  inside : (24576 + 22 * n + b) / 2 < length w1
+  link-back : v ≡ latest w n k (old .back)
+  link-back = back ∙ half-word w w1 (9376 + i) (g .other ((9376 + i) / 2) (λ z. absurd (omega arith))) ∙ old .leads ∙ ap (λ c. latest w n c (old .back)) own
+
+  inside : (24576 + 22 * n + k) / 2 < length w1
   inside = omega (arith, g .same)
 
   tiny : v < 65536
   tiny = omega (arith, back, half-small w1 (9376 + i))
 
-  pub popping-next : Popping w (with-half w1 (24576 + 22 * n + b) v) n i
+  pub popping-next : Popping w (with-half w1 (24576 + 22 * n + k) v) n (edge w n e) i
   popping-next =
       record {
-        same = length-half w1 (24576 + 22 * n + b) v ∙ g .same;
-        other = λ j l. word-other w1 (24576 + 22 * n + b) j v (λ e. let x = l (omega arith) in omega arith) ∙ g .other j l;
-        heads = λ c l. cases c l (ℕ-discrete c b);
+        same = length-half w1 (24576 + 22 * n + k) v ∙ g .same;
+        other = λ j l. word-other w1 (24576 + 22 * n + k) j v (λ e. let x = l (omega arith) in omega arith) ∙ g .other j l;
+        heads = λ c l. cases c l (ℕ-discrete c k) (g .heads c l) (decLt i (g .heads c l .back));
       }
     where
-      cases : (c : ℕ) → c < 8 * n → Dec (c ≡ b) → head (with-half w1 (24576 + 22 * n + b) v) n c ≡ latest w n c i
-      cases c l (yes e) = rw e (half-same w1 (24576 + 22 * n + b) v inside tiny ∙ link-back)
-      cases c l (no e) = half-other w1 (24576 + 22 * n + b) v inside tiny (24576 + 22 * n + c) (omega arith) ∙ g .heads c l ∙ latest-miss w n c i (λ z. e (sym z ∙ own))
+      cases : (c : ℕ) → c < 8 * n → Dec (c ≡ k) → (h : Heads w w1 n (edge w n e) (suc i) c) → Dec (i < h .back) → Heads w (with-half w1 (24576 + 22 * n + k) v) n (edge w n e) i c
+      cases c l (yes x) h y =
+          record { back = old .back; low = old .within e inner from; high = old .before; leads = rw x (half-same w1 (24576 + 22 * n + k) v inside tiny ∙ link-back) }
+      cases c l (no x) h (no y) =
+          record { back = h .back; low = h .low; high = omega arith; leads = half-other w1 (24576 + 22 * n + k) v inside tiny (24576 + 22 * n + c) (omega arith) ∙ h .leads }
+      cases c l (no x) h (yes y) =
+          let z : h .back ≡ suc i = omega (arith, h .high) in
+          record {
+            back = i;
+            low = from;
+            high = omega arith;
+            leads = half-other w1 (24576 + 22 * n + k) v inside tiny (24576 + 22 * n + c) (omega arith) ∙ h .leads ∙ ap (λ m. latest w n c m) z ∙ latest-miss w n c i (λ q. x (sym q ∙ own));
+          }
 
 -- the locals that are left are linked
-pub popping-end : {w w1 : List ℕ} {n i count : ℕ} → i ≤ count → count ≤ n + 2040 → Linked w n count → Popping w w1 n i → Linked w1 n i
-popping-end {w} {w1} {n} {i} {count} le few h g =
+pub popping-end : {w w1 : List ℕ} {n i : ℕ} (b : ℕ) → i ≡ edge w n b → b ≤ n + 10 → edge w n b ≤ edge w n (b + 1) → edge w n (b + 1) ≤ n + 2040 → Linked w n (b + 1) → Popping w w1 n (edge w n b) i → Linked w1 n b
+popping-end {w} {w1} {n} {i} b e blocks rises few h g =
     record {
       links = λ j l.
-          half-word w w1 (9376 + j) (g .other ((9376 + j) / 2) (λ z. absurd (omega arith)))
-          ∙ h .links j (omega arith)
-          ∙ sym (ap (λ y. latest w1 n (y .name % (8 * n)) j) (local-same w w1 n i lo j l) ∙ latest-same w w1 n (local-at w n j .name % (8 * n)) j (same-part (5724 + 2 * n) (5724 + 2 * n + j) (omega arith) (omega arith) lo));
-      heads = λ c l. g .heads c l ∙ sym (latest-same w w1 n c i lo);
+          leads-same w w1 n (b + 1) b locals (λ x y z. (omega arith, edges x y)) j (omega (arith, edges b (omega arith))) (half-word w w1 (9376 + j) (g .other ((9376 + j) / 2) (λ z. absurd (omega (arith, edges b (omega arith))))))
+          (λ m x s. left j m l x s (decLt (s .by) (edge w n b)))
+          (h .links j (omega (arith, edges b (omega arith))));
+      heads = λ c l.
+          let q = g .heads c l in
+          let z : q .back ≡ edge w n b = omega (arith, q .low, q .high) in
+          q .leads ∙ ap (λ m. latest w n c m) z ∙ sym (ap (λ m. latest w1 n c m) (edges b (omega arith)) ∙ latest-same w w1 n c (edge w n b) lo);
     }
   where
-    lo : Same w w1 (5724 + 2 * n) (5724 + 2 * n + i)
-    lo = record { same = λ j a b. g .other j (λ z. absurd (omega arith)) }
+    edges : (x : ℕ) → x ≤ b → edge w1 n x ≡ edge w n x
+    edges x y = g .other (5708 + n + x) (λ z. absurd (omega arith))
+
+    locals : Same w w1 (5724 + 2 * n) (5724 + 2 * n + edge w n (b + 1))
+    locals = record { same = λ j a c. g .other j (λ z. absurd (omega arith)) }
+
+    lo : Same w w1 (5724 + 2 * n) (5724 + 2 * n + edge w n b)
+    lo = same-part (5724 + 2 * n) (5724 + 2 * n + edge w n b) (omega arith) (omega arith) locals
+
+    -- what shadows one that is left is left too
+    left : (j m : ℕ) → j < edge w1 n b → m < j → (s : Shadowed w n (b + 1) j m) → Dec (s .by < edge w n b) → s .by < edge w1 n b
+    left j m l x s (yes y) = omega (arith, edges b (omega arith))
+    left j m l x s (no y) = absurd (omega (arith, edges b (omega arith), s .together b (omega arith) (omega arith)))

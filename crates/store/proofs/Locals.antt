@@ -3,7 +3,7 @@ use mathlib.Core.Path.{_≡_, refl, sym, ap, _∙_}
 use mathlib.Core.List.{List, _∷_}
 use Prim.Native.Nat.{ℕ, suc, _+_, _*_, _-_, _/_, _%_, _<_, _≤_}
 use native.Mathlib.Omega.{arith}
-use native.Mathlib.Decide.{ℕ-discrete}
+use native.Mathlib.Decide.{decLt, ℕ-discrete}
 use native.Mathlib.Numerals.{add-one}
 use lib.ListN.{length, getD, set, length-set}
 use lib.Seq.{getD-set-same, getD-set-other}
@@ -12,11 +12,11 @@ use Rattle.store.specs.declared.Scope.{Scope}
 use Rattle.store.specs.Half.{half, with-half}
 use Rattle.store.specs.Table.{tab, span}
 use Rattle.store.specs.Layout.{registers, first, edge, local-at, local-of-word, block, latest, link, head, inst-at, top}
-use Rattle.store.specs.Store.{open-at, around, state-of, Linked, Sound, Fine, Kept}
-use Rattle.store.specs.Promise.{a-local, Roomy, Used, Moves, Leaf}
+use Rattle.store.specs.Store.{open-at, around, state-of, Leads, Linked, Sound, Fine, Kept}
+use Rattle.store.specs.Promise.{a-local, Roomy, Used, Moves, Leaf, Latest, Unlinked}
 use Rattle.store.proofs.Tables.{span-more, span-ext}
 use Rattle.store.proofs.Halves.{half-same, half-other, half-apart, half-small, word-other, length-half}
-use Rattle.store.proofs.Regions.{Same, same-part, local-same, blocks-same, latest-same, edges-below, constants-same, globals-same, code-same, around-same, alike-by, open-by}
+use Rattle.store.proofs.Regions.{Same, local-same, blocks-same, latest-same, leads-same, edges-below, constants-same, globals-same, code-same, around-same, alike-by, open-by}
 use Rattle.store.proofs.Steady.{kept-by, taken-same}
 use Rattle.store.proofs.Runs.{promised, ran}
 use Rattle.store.proofs.Compose.{taken-few}
@@ -25,12 +25,15 @@ use Rattle.meaning.specs.State.{Local, Proto, done, and-then, _>>=_, get, set-c
 use Rattle.meaning.specs.declared.Outcome.the-variants.{Accepted}
 use Rattle.forward.specs.Forward.{fwd-unit}
 
--- local i, of bucket b, is pushed as the word x; its block's edge stands at `at`
-pub record Pushed (w w' : List ℕ) (n at i b x : ℕ) : Type 0 where
+-- local i is pushed as the word x; its block's edge stands at `at`
+pub record Pushed (w w' : List ℕ) (n at i x : ℕ) : Type 0 where
   pub length : length w' ≡ length w
   pub other : (j : ℕ) → (4688 ≤ j → 5708 + n ≤ j) → ¬ (j ≡ at) → ¬ (j ≡ 5724 + 2 * n + i) → (12288 + 11 * n ≤ j → 12288 + 15 * n ≤ j) → getD w' j 0 ≡ getD w j 0
   pub edge : getD w' at 0 ≡ i + 1
   pub local : getD w' (5724 + 2 * n + i) 0 ≡ x
+
+-- it is linked into bucket b
+pub record Hung (w w' : List ℕ) (n i b : ℕ) : Type 0 where
   pub link-here : link w' i ≡ head w n b
   pub link-other : (j : ℕ) → j < i → link w' j ≡ link w j
   pub head-here : head w' n b ≡ i + 1
@@ -63,7 +66,7 @@ module _ (w : List ℕ) (n at i b x : ℕ) (long : 12288 + 16 * n ≤ length w) 
   last-two : (k : ℕ) → ¬ (k / 2 ≡ at) → ¬ (k / 2 ≡ 5724 + 2 * n + i) → half w4 k ≡ half w2 k
   last-two k a c = half-apart w3 at (i + 1) k (λ e. a (sym e)) ∙ half-apart w2 (5724 + 2 * n + i) x k (λ e. c (sym e))
 
-  pub pushed-by : Pushed w w4 n at i b x
+  pub pushed-by : Pushed w w4 n at i x
   pushed-by =
       record {
         length = length-set w3 at (i + 1) ∙ l3;
@@ -74,6 +77,11 @@ module _ (w : List ℕ) (n at i b x : ℕ) (long : 12288 + 16 * n ≤ length w) 
             ∙ word-other w (9376 + i) j (head w n b) (λ z. let y = a (omega arith) in omega arith);
         edge = getD-set-same w3 at (i + 1) 0 (omega (arith, l3));
         local = getD-set-other w3 at (5724 + 2 * n + i) (i + 1) 0 (omega arith) ∙ getD-set-same w2 (5724 + 2 * n + i) x 0 (omega (arith, l2));
+      }
+
+  pub hung-by : Hung w w4 n i b
+  hung-by =
+      record {
         link-here =
             last-two (9376 + i) (omega arith) (omega arith)
             ∙ half-other w1 (24576 + 22 * n + b) (i + 1) (omega (arith, l1)) (omega arith) (9376 + i) (omega arith)
@@ -91,29 +99,54 @@ module _ (w : List ℕ) (n at i b x : ℕ) (long : 12288 + 16 * n ≤ length w) 
 
 -- ---- the links
 
-pub linked-push : {w w' : List ℕ} {n at i b x : ℕ} → i ≤ n + 2040 → 5724 + 2 * n + i < 12288 + 11 * n → at < 5724 + 2 * n → b < 8 * n → x / 255 % (8 * n) ≡ b → Pushed w w' n at i b x → Linked w n i → Linked w' n (suc i)
-linked-push {w} {w'} {n} {at} {i} {b} {x} few room low range bx g h = record { links = λ j l. link-at j l (ℕ-discrete j i); heads = λ c l. head-at c l (ℕ-discrete c b) }
-  where
-    lo : Same w w' (5724 + 2 * n) (5724 + 2 * n + i)
-    lo = record { same = λ j a c. g .other j (λ z. omega arith) (omega arith) (omega arith) (λ z. absurd (omega arith)) }
+module _ (w w' : List ℕ) (n k b x : ℕ) (few : edge w n k ≤ n + 2040) (blocks : k ≤ n + 10) (room : 5724 + 2 * n + edge w n k < 12288 + 11 * n) (range : b < 8 * n) (bx : x / 255 % (8 * n) ≡ b) (g : Pushed w w' n (5708 + n + k) (edge w n k) x) (hung : Hung w w' n (edge w n k) b) (h : Linked w n k) where
+  lo : Same w w' (5724 + 2 * n) (5724 + 2 * n + edge w n k)
+  lo = record { same = λ j a c. g .other j (λ z. omega arith) (omega arith) (omega arith) (λ z. absurd (omega arith)) }
 
-    here : local-at w' n i .name % (8 * n) ≡ b
-    here = ap (λ y. y / 255 % (8 * n)) (g .local) ∙ bx
+  here : local-at w' n (edge w n k) .name % (8 * n) ≡ b
+  here = ap (λ y. y / 255 % (8 * n)) (g .local) ∙ bx
 
-    latest-old : (c : ℕ) → latest w' n c i ≡ latest w n c i
-    latest-old c = latest-same w w' n c i lo
+  one-more : edge w' n k ≡ suc (edge w n k)
+  one-more = g .edge ∙ add-one (edge w n k)
 
-    link-at : (j : ℕ) → j < suc i → Dec (j ≡ i) → link w' j ≡ latest w' n (local-at w' n j .name % (8 * n)) j
-    link-at j l (no e) =
-        g .link-other j (omega arith)
-        ∙ h .links j (omega arith)
-        ∙ sym (ap (λ y. latest w' n (y .name % (8 * n)) j) (local-same w w' n i lo j (omega arith)) ∙ latest-same w w' n (local-at w n j .name % (8 * n)) j (same-part (5724 + 2 * n) (5724 + 2 * n + j) (omega arith) (omega arith) lo))
-    link-at j l (yes e) =
-        rw e (g .link-here ∙ h .heads b range ∙ sym (latest-old b) ∙ ap (λ y. latest w' n y i) (sym here))
+  -- the edges of the locals that were there before
+  older : (e : ℕ) → e ≤ k → edge w' n e < edge w n k → Dec (e < k) → (e ≤ k) × (edge w' n e ≡ edge w n e)
+  older e l m (yes a) = (l, g .other (5708 + n + e) (λ z. omega arith) (omega arith) (omega arith) (λ z. absurd (omega arith)))
+  older e l m (no a) = let z : e ≡ k = omega arith in absurd (omega (arith, one-more, ap (λ y. edge w' n y) z))
 
-    head-at : (c : ℕ) → c < 8 * n → Dec (c ≡ b) → head w' n c ≡ latest w' n c (suc i)
-    head-at c l (yes e) = rw e (g .head-here ∙ add-one i ∙ sym (latest-hit w' n b i here))
-    head-at c l (no e) = g .head-other c l e ∙ h .heads c l ∙ sym (latest-miss w' n c i (λ z. e (sym z ∙ here)) ∙ latest-old c)
+  latest-old : (c : ℕ) → latest w' n c (edge w n k) ≡ latest w n c (edge w n k)
+  latest-old c = latest-same w w' n c (edge w n k) lo
+
+  pub linked-push : Linked w' n k
+  linked-push = record { links = λ j l. link-at j l (ℕ-discrete j (edge w n k)); heads = λ c l. head-at c l (ℕ-discrete c b) }
+    where
+      link-at : (j : ℕ) → j < edge w' n k → Dec (j ≡ edge w n k) → Leads w' n k j
+      link-at j l (no e) =
+          let m : j < edge w n k = omega (arith, one-more) in
+          leads-same w w' n k k lo (λ e y z. older e y z (decLt e k)) j m (hung .link-other j m) (λ i y s. omega (arith, s .inside, one-more)) (h .links j m)
+      link-at j l (yes e) =
+          rw e
+          (record {
+            back = edge w n k;
+            before = omega arith;
+            within = λ q x y. y;
+            shadowed = λ i x y z. absurd (omega arith);
+            leads = hung .link-here ∙ h .heads b range ∙ sym (ap (λ y. latest w' n y (edge w n k)) here ∙ latest-old b);
+          })
+
+      head-at : (c : ℕ) → c < 8 * n → Dec (c ≡ b) → head w' n c ≡ latest w' n c (edge w' n k)
+      head-at c l (yes e) = rw (one-more, e) (hung .head-here ∙ add-one (edge w n k) ∙ sym (latest-hit w' n b (edge w n k) here))
+      head-at c l (no e) = rw one-more (hung .head-other c l e ∙ h .heads c l ∙ sym (latest-miss w' n c (edge w n k) (λ z. e (sym z ∙ here)) ∙ latest-old c))
+
+-- the links alone change once more
+pub pushed-then : {w w1 w' : List ℕ} {p : Scope} {i x : ℕ} → p .block ≤ p .nodes + 10 → Pushed w w1 (p .nodes) (5708 + p .nodes + p .block) i x → Unlinked w1 p w' → Pushed w w' (p .nodes) (5708 + p .nodes + p .block) i x
+pushed-then {p = p} {i = i} blocks g u =
+    record {
+      length = u .same ∙ g .length;
+      other = λ j a c e f. u .other j a ∙ g .other j a c e f;
+      edge = u .other (5708 + p .nodes + p .block) (λ z. omega arith) ∙ g .edge;
+      local = u .other (5724 + 2 * p .nodes + i) (λ z. omega arith) ∙ g .local;
+    }
 
 -- ---- the blocks: the innermost has one local more, in front
 
@@ -134,8 +167,7 @@ block-pushed w w' n b sorted ed lo more l here a h =
 pub local-room : {w : List ℕ} {p : Scope} {s : Step} → p .depth ≤ 7 → Roomy w p s 0 1 1 → (5725 + 2 * p .nodes + 2 * s .code + edge w (p .nodes) (p .block) ≤ top (p .nodes)) × (edge w (p .nodes) (p .block) + 1 ≤ p .nodes + 2040)
 local-room {w} {p} {s} deep room = let t = taken-few w (p .depth) in (omega (arith, room .words), omega (arith, room .locals))
 
-module _ (w w' : List ℕ) (p : Scope) (s : Step) (b x : ℕ) (fine : Fine w p s) (deep : p .depth ≤ 7) (room : Roomy w p s 0 1 1) (range : b < 8 * p .nodes) (bx : x / 255 % (8 * p .nodes) ≡ b)
-    (g : Pushed w w' (p .nodes) (5708 + p .nodes + p .block) (edge w (p .nodes) (p .block)) b x) where
+module _ (w w' : List ℕ) (p : Scope) (s : Step) (x : ℕ) (fine : Fine w p s) (deep : p .depth ≤ 7) (room : Roomy w p s 0 1 1) (g : Pushed w w' (p .nodes) (5708 + p .nodes + p .block) (edge w (p .nodes) (p .block)) x) (linked : Linked w' (p .nodes) (p .block)) where
   low-other : (j : ℕ) → j < 4688 → getD w' j 0 ≡ getD w j 0
   low-other j l = g .other j (λ z. omega arith) (omega arith) (omega arith) (λ z. absurd (omega arith))
 
@@ -163,7 +195,7 @@ module _ (w w' : List ℕ) (p : Scope) (s : Step) (b x : ℕ) (fine : Fine w p s
       let r = local-room deep room in
       kept-by (omega arith) (g .length) frames (λ i l. edges .same (5708 + p .nodes + i) (omega arith) (omega arith)) (λ i l. g .other i (λ z. omega arith) (omega arith) (omega arith) (λ z. l))
 
-  local-sound : Sound w' p
+  pub local-sound : Sound w' p
   local-sound =
       let h = fine .sound in
       let r = local-room deep room in
@@ -178,7 +210,7 @@ module _ (w w' : List ℕ) (p : Scope) (s : Step) (b x : ℕ) (fine : Fine w p s
         main = firsts 0 (omega arith) ∙ h .main;
         starts = λ j l. rw (firsts j l) (h .starts j l);
         count = omega (arith, g .edge, r .1);
-        linked = rw top-edge (linked-push (h .count) (omega (arith, r .0)) (omega (arith, h .blocks)) range bx g (h .linked));
+        linked = linked;
       }
     where
       rises : (i : ℕ) → i < p .block → Dec (suc i ≡ p .block) → edge w' (p .nodes) i ≤ edge w' (p .nodes) (suc i)
@@ -186,6 +218,16 @@ module _ (w w' : List ℕ) (p : Scope) (s : Step) (b x : ℕ) (fine : Fine w p s
       rises i l (yes a) =
           let up : edge w' (p .nodes) (suc i) ≡ suc (edge w (p .nodes) (suc i)) = ap (λ k. edge w' (p .nodes) k) a ∙ top-edge ∙ ap (λ k. suc (edge w (p .nodes) k)) (sym a) in
           omega (arith, local-kept .edges i l, up, fine .sound .sorted i l)
+
+  pub local-latest : Latest w' p (x / 255)
+  local-latest =
+      let k = fine .sound .starts 0 (omega arith) in
+      let below = edges-below w (p .nodes) (p .block) (fine .sound .sorted) (p .block - 1) (omega arith) in
+      let e : edge w' (p .nodes) (p .block) - 1 ≡ edge w (p .nodes) (p .block) = omega (arith, top-edge) in
+      record {
+        here = omega (arith, top-edge, local-kept .edges (p .block - 1) (omega arith));
+        named = ap (λ i. local-at w' (p .nodes) i .name) e ∙ ap (λ y. y / 255) (g .local);
+      }
 
   pub local-moves : Moves w p s w' p s a-local
   local-moves =

@@ -106,9 +106,13 @@ module _ (w w1 w2 w' : List ℕ) (n : ℕ) (some : 1 ≤ n) (few : n ≤ 32768) 
   same : length w' ≡ length w
   same = framed .same ∙ length-w2
 
-  start-linked : Linked w' n 0
+  start-linked : Linked w' n 1
   unfolding latest
-  start-linked = record { links = λ i h. absurd (omega arith); heads = λ b h. empty b h (ℕ-discrete ((24576 + 22 * n + b) % 2) 0) }
+  start-linked =
+      record {
+        links = λ i h. absurd (omega (arith, edges 1 (omega arith)));
+        heads = λ b h. empty b h (ℕ-discrete ((24576 + 22 * n + b) % 2) 0) ∙ sym (ap (λ k. latest w' n b k) (edges 1 (omega arith)));
+      }
     where
       empty : (b : ℕ) → b < 8 * n → Dec ((24576 + 22 * n + b) % 2 ≡ 0) → head w' n b ≡ 0
       empty b h (yes e) = omega (arith, half-even w' (24576 + 22 * n + b) e, heads ((24576 + 22 * n + b) / 2) (omega arith) (omega arith))
@@ -128,7 +132,7 @@ module _ (w w1 w2 w' : List ℕ) (n : ℕ) (some : 1 ≤ n) (few : n ≤ 32768) 
         main = framed .first-is;
         starts = λ j h. let z : j ≡ 0 = omega arith in rw z (omega (arith, framed .first-is));
         count = omega arith;
-        linked = rw e start-linked;
+        linked = start-linked;
       }
 
   start-fine : Fine w' (main-scope n) first-step

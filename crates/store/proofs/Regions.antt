@@ -7,8 +7,8 @@ use lib.ListN.{length, getD, set, length-set}
 use lib.Seq.{getD-set-other}
 use Rattle.store.specs.Half.{half}
 use Rattle.store.specs.Table.{tab, stack, span}
-use Rattle.store.specs.Layout.{constant-at, global-at, inst-at, edge, first, saved, held, capture-of, capture-at, local-at, local-of-word, block, latest, top}
-use Rattle.store.specs.Store.{open-at, around, Linked}
+use Rattle.store.specs.Layout.{constant-at, global-at, inst-at, edge, first, saved, held, capture-of, capture-at, local-at, local-of-word, block, latest, link, top}
+use Rattle.store.specs.Store.{open-at, around, Shadowed, Leads, Linked}
 use Rattle.store.proofs.Tables.{tab-ext, stack-ext, span-ext}
 use Rattle.store.proofs.Halves.{half-word}
 use Rattle.meaning.specs.State.{with-blocks}
@@ -96,16 +96,43 @@ module _ (w w' : List ℕ) where
   latest-same n b (suc k) h =
       rw (h .same (5724 + 2 * n + k) (omega arith) (omega arith), latest-same n b k (same-part (5724 + 2 * n) (5724 + 2 * n + k) (omega arith) (omega arith) h))
 
-  pub linked-same : (n k : ℕ) → k ≤ 2040 + 2 * n → Same w w' 4688 (5708 + n) → Same w w' (12288 + 11 * n) (12288 + 15 * n) → Same w w' (5724 + 2 * n) (5724 + 2 * n + k) → Linked w n k → Linked w' n k
-  linked-same n k l hl hh lo h =
+  -- among more blocks or fewer: the edges of those locals are the same
+  module _ (n b b' : ℕ) (lo : Same w w' (5724 + 2 * n) (5724 + 2 * n + edge w n b)) (es : (e : ℕ) → e ≤ b' → edge w' n e < edge w n b → (e ≤ b) × (edge w' n e ≡ edge w n e)) where
+    pub shadowed-same : (i j : ℕ) → j < edge w n b → (s : Shadowed w n b i j) → s .by < edge w' n b' → Shadowed w' n b' i j
+    shadowed-same i j l s m =
+        record {
+          by = s .by;
+          later = s .later;
+          inside = m;
+          same = rw (lo .same (5724 + 2 * n + s .by) (omega arith) (omega (arith, s .inside)), lo .same (5724 + 2 * n + j) (omega arith) (omega arith)) (s .same);
+          together = λ e x y. let z = es e x (omega (arith, s .inside)) in omega (arith, z .1, s .together e (z .0) (omega (arith, z .1)));
+        }
+
+    pub leads-same : (i : ℕ) → i < edge w n b → link w' i ≡ link w i → ((j : ℕ) → j < i → (s : Shadowed w n b i j) → s .by < edge w' n b') → Leads w n b i → Leads w' n b' i
+    leads-same i l lk fits h =
+        let wi = lo .same (5724 + 2 * n + i) (omega arith) (omega arith) in
+        record {
+          back = h .back;
+          before = h .before;
+          within = λ e x y. let z = es e x (omega arith) in omega (arith, z .1, h .within e (z .0) (omega (arith, z .1)));
+          shadowed = λ j x y z.
+              let wj = lo .same (5724 + 2 * n + j) (omega arith) (omega arith) in
+              let s = h .shadowed j x y (rw (wj, wi) at z) in
+              shadowed-same i j (omega arith) s (fits j y s);
+          leads =
+              lk
+              ∙ h .leads
+              ∙ sym
+              (ap (λ x. latest w' n (x / 255 % (8 * n)) (h .back)) wi
+              ∙ latest-same n (local-at w n i .name % (8 * n)) (h .back) (same-part (5724 + 2 * n) (5724 + 2 * n + h .back) (omega arith) (omega (arith, h .before)) lo));
+        }
+
+  pub linked-same : (n b b' : ℕ) → edge w n b ≤ 2040 + 2 * n → Same w w' 4688 (5708 + n) → Same w w' (12288 + 11 * n) (12288 + 15 * n) → Same w w' (5724 + 2 * n) (5724 + 2 * n + edge w n b) → edge w' n b' ≡ edge w n b
+      → ((e : ℕ) → e ≤ b' → edge w' n e < edge w n b → (e ≤ b) × (edge w' n e ≡ edge w n e)) → Linked w n b → Linked w' n b'
+  linked-same n b b' l hl hh lo top es h =
       record {
-        links = λ i x.
-            half-kept (9376 + i) hl (omega arith) (omega arith)
-            ∙ h .links i x
-            ∙ sym
-            (ap (λ b. latest w' n (b .name % (8 * n)) i) (local-same n k lo i x)
-            ∙ latest-same n (local-at w n i .name % (8 * n)) i (same-part (5724 + 2 * n) (5724 + 2 * n + i) (omega arith) (omega arith) lo));
-        heads = λ b x. half-kept (24576 + 22 * n + b) hh (omega arith) (omega arith) ∙ h .heads b x ∙ sym (latest-same n b k lo);
+        links = λ i x. leads-same n b b' lo es i (omega arith) (half-kept (9376 + i) hl (omega arith) (omega arith)) (λ j y s. omega (arith, s .inside)) (h .links i (omega arith));
+        heads = λ c x. half-kept (24576 + 22 * n + c) hh (omega arith) (omega arith) ∙ h .heads c x ∙ sym (ap (λ k. latest w' n c k) top ∙ latest-same n c (edge w n b) lo);
       }
 
 -- ---- edges

@@ -16,7 +16,7 @@ use Rattle.store.proofs.Regions.{Same, Only, blocks-same, linked-same, 
 
 -- other words: where functions begin, the edges, and the links of the locals
 pub sound-again : {w w' : List ℕ} {p : Scope} → Sound w p → length w' ≡ length w → ((j : ℕ) → j ≤ p .depth → first w' j ≡ first w j) → ((i : ℕ) → i ≤ p .block → edge w' (p .nodes) i ≡ edge w (p .nodes) i)
-    → Linked w' (p .nodes) (edge w (p .nodes) (p .block)) → Sound w' p
+    → Linked w' (p .nodes) (p .block) → Sound w' p
 sound-again {w} {w'} {p} h len fs es ln =
     record {
       some = h .some;
@@ -29,7 +29,7 @@ sound-again {w} {w'} {p} h len fs es ln =
       main = fs 0 (omega arith) ∙ h .main;
       starts = λ j x. rw (fs j x) (h .starts j x);
       count = omega (arith, h .count, es (p .block) (omega arith));
-      linked = rw (es (p .block) (omega arith)) ln;
+      linked = ln;
     }
 
 -- another step over the same words
@@ -79,10 +79,12 @@ module _ {w w' : List ℕ} {p : Scope} {a b : ℕ} (h : Sound w p) (only : Only 
   pub sound-clear : Sound w' p
   sound-clear =
       sound-again h (only .length) firsts clear-edges
-      (linked-same w w' (p .nodes) (edge w (p .nodes) (p .block)) (omega (arith, h .count))
+      (linked-same w w' (p .nodes) (p .block) (p .block) (omega (arith, h .count))
       (record { same = λ i x y. only .other i (clear .0 i x (omega arith)) })
       (record { same = λ i x y. only .other i (clear .1 i x) })
       clear-locals
+      (clear-edges (p .block) (omega arith))
+      (λ e l z. (l, clear-edges e l))
       (h .linked))
 
   pub kept-clear : ((j : ℕ) → j ≤ p .depth → saved w' j ≡ saved w j) → ((j : ℕ) → j < p .depth → registers w' j ≡ registers w j) → Kept w p w'

@@ -85,7 +85,7 @@ unfoldable pub latest : List ℕ → (n b k : ℕ) → ℕ
 latest w n b zero = 0
 latest w n b (suc k) = cond (eqb (local-at w n k .name % (8 * n)) b) (suc k) (latest w n b k)
 
--- the link of local i: the latest before it in its bucket
+-- the link of local i: the latest before it in its bucket, but for those that a later one of their name and block shadows
 abbrev pub link : List ℕ → ℕ → ℕ
 link w i = half w (9376 + i)
 

@@ -1,11 +1,11 @@
 -- What the functions of the store promise: one equation each, over what their words stand for, and what they use up.
-use Prim.Native.Nat.{ℕ, zero, suc, _+_, _*_, _≤_, min}
+use Prim.Native.Nat.{ℕ, zero, suc, _+_, _-_, _*_, _<_, _≤_, min}
 use mathlib.Core.Path.{_≡_}
 use mathlib.Core.List.{List}
 use lib.ListN.{length, getD}
 use Rattle.store.specs.declared.Step.{Step}
 use Rattle.store.specs.declared.Scope.{Scope}
-use Rattle.store.specs.Layout.{registers, edge, top}
+use Rattle.store.specs.Layout.{registers, edge, local-at, top}
 use Rattle.store.specs.Store.{run, goes-on, while-going, Image, Linked, Fine, Kept}
 use Rattle.meaning.specs.State.{Proto, M, next-register, allocate-register}
 use Rattle.forward.specs.Forward.{Config, Run, bind, fwd-number, fwd-unit, Answers}
@@ -129,7 +129,18 @@ pub record Does (w o : List ℕ) (p : Scope) (s : Step) (w' o' : List ℕ) (q : 
 pub record Popped (w : List ℕ) (p : Scope) (w' : List ℕ) : Type 0 where
   pub same : length w' ≡ length w
   pub other : (i : ℕ) → (12288 + 11 * p .nodes ≤ i → 12288 + 15 * p .nodes ≤ i) → getD w' i 0 ≡ getD w i 0
-  pub linked : Linked w' (p .nodes) (edge w (p .nodes) (p .block))
+  pub linked : Linked w' (p .nodes) (p .block)
+
+-- the latest local is one of that name in the innermost block
+pub record Latest (w : List ℕ) (p : Scope) (name : ℕ) : Type 0 where
+  pub here : edge w (p .nodes) (p .block - 1) < edge w (p .nodes) (p .block)
+  pub named : local-at w (p .nodes) (edge w (p .nodes) (p .block) - 1) .name ≡ name
+
+-- a local that the latest one shadows may have been taken out of the links: nothing but links changed
+pub record Unlinked (w : List ℕ) (p : Scope) (w' : List ℕ) : Type 0 where
+  pub same : length w' ≡ length w
+  pub other : (i : ℕ) → (4688 ≤ i → 5708 + p .nodes ≤ i) → getD w' i 0 ≡ getD w i 0
+  pub linked : Linked w' (p .nodes) (p .block)
 
 -- the cost of a step inside a block or a function: its locals are given back
 abbrev pub boxed : Cost → Cost

@@ -32,15 +32,18 @@ unfoldable pub seek : ℕ → (ℕ → Local) → (a n : ℕ) → Option ℕ →
 seek name f a zero o = o
 seek name f a (suc n) o = cond (ltb n a) o (cond (eqb name (f n .name)) (some (f n .register)) (seek name f a n o))
 
--- what a walk along the links up to `end` needs: the locals are linked, perhaps further ones too
+-- what a walk along the links up to `end` needs: the locals of some blocks are linked, and `end` is the edge of one of them
 pub record Walkable (w : List ℕ) (n end : ℕ) : Type 0 where
   pub some : 1 ≤ n
   pub few : n ≤ 32768
   pub long : 12288 + 16 * n ≤ length w
-  pub count : ℕ
-  pub within : end ≤ count
-  pub fits : count ≤ n + 2040
-  pub linked : Linked w n count
+  pub blocks : ℕ
+  pub block : ℕ
+  pub among : block ≤ blocks
+  pub ends : end ≡ edge w n block
+  pub within : end ≤ edge w n blocks
+  pub fits : edge w n blocks ≤ n + 2040
+  pub linked : Linked w n blocks
 
 -- ---- captures
 

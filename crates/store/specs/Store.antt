@@ -127,10 +127,26 @@ written-by (Refused cause node) = 0
 
 -- ---- what every function keeps, refused or not
 
--- the locals are linked by the bucket of their name
-pub record Linked (w : List ℕ) (n count : ℕ) : Type 0 where
-  pub links : (i : ℕ) → i < count → link w i ≡ latest w n (local-at w n i .name % (8 * n)) i
-  pub heads : (b : ℕ) → b < 8 * n → head w n b ≡ latest w n b count
+-- among the locals of the first b blocks, one from i on has the name of local j and is in its block
+pub record Shadowed (w : List ℕ) (n b i j : ℕ) : Type 0 where
+  pub by : ℕ
+  pub later : i ≤ by
+  pub inside : by < edge w n b
+  pub same : local-at w n by .name ≡ local-at w n j .name
+  pub together : (e : ℕ) → e ≤ b → edge w n e ≤ by → edge w n e ≤ j
+
+-- local i leads to the latest of its bucket before `back`, where its block starts or later; those of the bucket from there up to i are shadowed
+pub record Leads (w : List ℕ) (n b i : ℕ) : Type 0 where
+  pub back : ℕ
+  pub before : back ≤ i
+  pub within : (e : ℕ) → e ≤ b → edge w n e ≤ i → edge w n e ≤ back
+  pub shadowed : (j : ℕ) → back ≤ j → j < i → local-at w n j .name % (8 * n) ≡ local-at w n i .name % (8 * n) → Shadowed w n b i j
+  pub leads : link w i ≡ latest w n (local-at w n i .name % (8 * n)) back
+
+-- the locals of the first b blocks are linked by the bucket of their name
+pub record Linked (w : List ℕ) (n b : ℕ) : Type 0 where
+  pub links : (i : ℕ) → i < edge w n b → Leads w n b i
+  pub heads : (c : ℕ) → c < 8 * n → head w n c ≡ latest w n c (edge w n b)
 
 -- the words in a scope
 pub record Sound (w : List ℕ) (p : Scope) : Type 0 where
@@ -144,7 +160,7 @@ pub record Sound (w : List ℕ) (p : Scope) : Type 0 where
   pub main : first w 0 ≡ 0
   pub starts : (j : ℕ) → j ≤ p .depth → first w j < p .block
   pub count : edge w (p .nodes) (p .block) ≤ p .nodes + 2040
-  pub linked : Linked w (p .nodes) (edge w (p .nodes) (p .block))
+  pub linked : Linked w (p .nodes) (p .block)
 
 -- a result is a register, which is below 255, or the index of a constant or a prototype; 0 once a step is refused
 abbrev pub result-limit : Outcome → ℕ

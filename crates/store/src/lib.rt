@@ -12,7 +12,7 @@ ghost use Rattle.store.specs.Half.{half, with-half};
 ghost use Rattle.store.specs.Table.{stack};
 ghost use Rattle.store.specs.Layout.{constant-by, global-at, local-at};
 ghost use Rattle.store.specs.Store.{first-step, refused-step, with-result, while-going, global-scope, deeper, inner, Sound, Fine, Kept};
-ghost use Rattle.store.specs.Promise.{nothing, a-register, some-registers, a-local, a-constant, a-global, both, a-parameter, Room, Leaf, Told, Tells, Popped};
+ghost use Rattle.store.specs.Promise.{nothing, a-register, some-registers, a-local, a-constant, a-global, both, a-parameter, Room, Leaf, Told, Tells, Popped, Latest, Unlinked};
 ghost use Rattle.store.specs.Search.{option-of, found-of, in-byte, seek, Walkable, Added, Sought, Ready};
 ghost use Rattle.store.specs.Opening.{Zeroed, Framed, Begun, Enters};
 
@@ -195,6 +195,28 @@ pub fn get_var_register(work: &[u32], scope: Scope, name: usize) -> Found
     look(work, nodes, start, end, name)
 }
 
+// One of the latest local's name in its block is shadowed until both are popped: it is taken out of the links, so that a walk meets a name once in each block.
+fn unlink(work: &mut [u32], scope: Scope, name: usize)
+    requires { ⌜ Sound (now work) scope × Latest (now work) scope name ⌝ }
+    ensures { λ _. ⌜ Unlinked (now (work .entry)) scope (now (work .exit)) ⌝ }
+{
+    let nodes = scope.nodes;
+    let at = 5708 + nodes + scope.block;
+    let from = work[at - 1] as usize;
+    let mut last = work[at] as usize - 1;
+    let mut next = half_at(work, 9376 + last) as usize;
+    while from < next {
+        let beyond = half_at(work, 9376 + (next - 1));
+        let its = (work[5724 + 2 * nodes + (next - 1)] / 255) as usize;
+        if its == name {
+            set_half(work, 9376 + last, beyond);
+            return;
+        }
+        last = next - 1;
+        next = beyond as usize;
+    }
+}
+
 // fn allocate_register: the local `name` names `register`, in the innermost block. It becomes the head of its bucket and links to the one before.
 pub fn allocate_register(work: &mut [u32], step: Step, scope: Scope, name: usize, register: u32)
     requires { ⌜ Fine (now work) scope step × Room (now work) scope step 0 1 1 × (name < 65536) × while-going (step .outcome) (register < 255) ⌝ }
@@ -215,6 +237,7 @@ pub fn allocate_register(work: &mut [u32], step: Step, scope: Scope, name: usize
     set_half(work, head, count + 1);
     work[5724 + 2 * nodes + i] = (name as u32) * 255 + register;
     work[at] = count + 1;
+    unlink(work, scope, name);
 }
 
 // A register, and a local that names it: a parameter, a function's own name, a for-in's or a catch's variable.

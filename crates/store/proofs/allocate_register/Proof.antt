@@ -1,8 +1,8 @@
--- Refused at entry; else the four stores of `pushed-by` (Locals.antt): link, head, word, edge. Registers and nodes have paid for the word.
+-- Refused at entry; else the four stores of `pushed-by` (Locals.antt): link, head, word, edge; then `unlink`. Registers and nodes have paid for the word.
 use borrow.Author.Needs.{needs}
 use Rattle.store.proofs.allocate_register.Statement.{statement}
 use Rattle.store.proofs.allocate_register.Tie as tie
-use Prim.Native.Nat.{ℕ, _+_, _*_, _/_, _%_}
+use Prim.Native.Nat.{ℕ, _+_, _*_, _/_, _%_, _<_}
 use mathlib.Core.Path.{_≡_, sym, ap, _∙_}
 use native.Mathlib.Omega.{arith}
 use lib.ListN.{length-set}
@@ -12,7 +12,7 @@ use Rattle.store.specs.Promise.{a-local}
 use Rattle.store.proofs.Halves.{half-small}
 use Rattle.store.proofs.Runs.{due, goes, leaf-absorbed}
 use Rattle.store.proofs.Steps.{shallow}
-use Rattle.store.proofs.Locals.{pushed-by, local-room, local-leaf}
+use Rattle.store.proofs.Locals.{pushed-by, hung-by, linked-push, pushed-then, local-room, local-sound, local-latest, local-leaf}
 use Rattle.meaning.specs.State.{allocate-register}
 use Rattle.forward.specs.Forward.{fwd-unit}
 
@@ -44,20 +44,50 @@ slice-write-work-2 c =
     let start = c .before .before .before .before .before .before .before .before .before .before .before .before .before .before .before .before in
     simp length-set (omega (arith, set-half2 .kept .0, set-half .kept .0, start .pre .0 .sound .long, start .pre .0 .sound .blocks))
 
+unlink-requires : tie.Need-unlink-requires
+unlink-requires c κs =
+    let start = c .before .before .before .before .before .before .before .before .before .before .before .before .before .before .before .before .before in
+    let bucket = c .before .before .before .before .before .before .before .before .before .before .before .bucket in
+    let enum-told = c .before .before .before .before .before .before .before .before .before .before .before .before .before .before .enum-told in
+    let set-half2 = c .before .before .before .set-half2 in
+    let set-half = c .before .before .before .before .before .before .before .set-half in
+    let half-at = c .before .before .before .before .before .before .before .before .before .half-at in
+    let a = start .args in
+    let w = now (a .work) in
+    let p = a .scope in
+    let n = p .nodes in
+    let i : ℕ = edge w n (p .block) in
+    let b = bucket .result in
+    let x : ℕ = a .name * 255 + a .register in
+    let fine = start .pre .0 in
+    let s = fine .sound in
+    let deep = shallow (a .step) fine (enum-told .given .1) in
+    let room = due (a .step .outcome) (start .pre .1 .roomy) (goes (enum-told .given .1)) in
+    let small = due (a .step .outcome) (start .pre .3) (goes (enum-told .given .1)) in
+    let e1 : x / 255 ≡ a .name = omega arith in
+    let bx : x / 255 % (8 * n) ≡ b = ap (λ y. y % (8 * n)) e1 ∙ sym (bucket .ensures .0) in
+    let r : 5724 + 2 * n + i < 12288 + 11 * n = omega (arith, local-room deep room .0) in
+    let pushed = pushed-by w n (5708 + n + p .block) i b x (s .long) (s .count) (s .few) (omega arith) (omega (arith, s .blocks)) r (bucket .ensures .1) in
+    let hung = hung-by w n (5708 + n + p .block) i b x (s .long) (s .count) (s .few) (omega arith) (omega (arith, s .blocks)) r (bucket .ensures .1) in
+    let linked = linked-push w _ n (p .block) b x (s .count) (s .blocks) r (bucket .ensures .1) bx pushed hung (s .linked) in
+    rw (set-half2 .ensures, set-half .ensures, half-at .ensures) (local-sound w _ p (a .step) x fine deep room pushed linked, rw e1 at (local-latest w _ p (a .step) x fine deep room pushed linked))
+
 same-length : tie.Need-same-length
 same-length c =
-    let set-half2 = c .before .before .set-half2 in
-    let set-half = c .before .before .before .before .before .before .set-half in
-    simp length-set (set-half2 .kept .0 ∙ set-half .kept .0)
+    let unlink = c .before .before .unlink in
+    let set-half2 = c .before .before .before .before .before .before .set-half2 in
+    let set-half = c .before .before .before .before .before .before .before .before .before .before .set-half in
+    unlink .kept .0 ∙ simp length-set (set-half2 .kept .0 ∙ set-half .kept .0)
 
 returns-2 : tie.Need-returns-2
 returns-2 c =
-    let start = c .before .before .before .before .before .before .before .before .before .before .before .before .before .before .before .before in
-    let bucket = c .before .before .before .before .before .before .before .before .before .before .bucket in
-    let enum-told = c .before .before .before .before .before .before .before .before .before .before .before .before .before .enum-told in
-    let set-half2 = c .before .before .set-half2 in
-    let set-half = c .before .before .before .before .before .before .set-half in
-    let half-at = c .before .before .before .before .before .before .before .before .half-at in
+    let unlink = c .before .before .unlink in
+    let start = c .before .before .before .before .before .before .before .before .before .before .before .before .before .before .before .before .before .before .before .before in
+    let bucket = c .before .before .before .before .before .before .before .before .before .before .before .before .before .before .bucket in
+    let enum-told = c .before .before .before .before .before .before .before .before .before .before .before .before .before .before .before .before .before .enum-told in
+    let set-half2 = c .before .before .before .before .before .before .set-half2 in
+    let set-half = c .before .before .before .before .before .before .before .before .before .before .set-half in
+    let half-at = c .before .before .before .before .before .before .before .before .before .before .before .before .half-at in
     let a = start .args in
     let w = now (a .work) in
     let p = a .scope in
@@ -72,10 +102,9 @@ returns-2 c =
     let small = due (a .step .outcome) (start .pre .3) (goes (enum-told .given .1)) in
     let e1 : x / 255 ≡ a .name = omega arith in
     let e2 : x % 255 ≡ a .register = omega arith in
-    let bx : x / 255 % (8 * n) ≡ b = ap (λ y. y % (8 * n)) e1 ∙ sym (bucket .ensures .0) in
     let pushed = pushed-by w n (5708 + n + p .block) i b x (s .long) (s .count) (s .few) (omega arith) (omega (arith, s .blocks)) (omega (arith, local-room deep room .0)) (bucket .ensures .1) in
-    rw (set-half2 .ensures, set-half .ensures, half-at .ensures)
-    (rw (e1, e2) at (local-leaf w _ p (a .step) b x fine deep room (bucket .ensures .1) bx pushed _ (enum-told .given .1)))
+    let u = rw (set-half2 .ensures, set-half .ensures, half-at .ensures) at (unlink .ensures) in
+    rw (e1, e2) at (local-leaf w _ p (a .step) x fine deep room (pushed-then (s .blocks) pushed u) (u .linked) _ (enum-told .given .1))
 
 pub allocate-register-spec : {M : Type 1} → statement M
 allocate-register-spec =
@@ -109,5 +138,6 @@ allocate-register-spec =
     (λ c. search needs)
     (λ c. search needs)
     slice-write-work-2
+    unlink-requires
     same-length
     returns-2)

@@ -1,4 +1,5 @@
--- The loop pops one local a turn (Links.antt, Popping): of the locals that were there the first i are left.
+-- The loop pops one local a turn (Links.antt, Popping): of the locals that were there the first i are left, and no head leads below the block's start
+-- before it should; at the start it leads to the latest there.
 use borrow.Author.Needs.{needs}
 use Rattle.store.proofs.leave_block.Statement.{statement}
 use Rattle.store.proofs.leave_block.Tie as tie
@@ -13,7 +14,7 @@ use Rattle.store.proofs.Links.{Popping, popping-start, popping-next, po
 use Rattle.store.proofs.Blocks.{leaving}
 
 abbrev Inv-loop : tie.InvT-loop
-Inv-loop work₀ nodes at from i₀ work i = (i ≤ i₀) × (from ≤ i) × Popping work₀ work nodes i
+Inv-loop work₀ nodes at from i₀ work i = (i ≤ i₀) × (from ≤ i) × Popping work₀ work nodes from i
 
 abbrev μ-loop : tie.MeasureT-loop
 μ-loop work₀ nodes at from i₀ work i = i
@@ -31,7 +32,7 @@ cast-i c =
 loop-holds : tie.Need-loop-holds Inv-loop μ-loop
 loop-holds c =
     let start = c .before .before .before .before in
-    (omega arith, leaving (start .pre) .rises, popping-start (leaving (start .pre) .linked))
+    (omega arith, leaving (start .pre) .rises, popping-start _ _ (leaving (start .pre) .rises) (leaving (start .pre) .ends) (leaving (start .pre) .linked))
 
 add-name-2 : tie.Need-add-name-2 Inv-loop μ-loop
 add-name-2 c =
@@ -92,7 +93,7 @@ loop-again c =
     let inv = loop .inv in
     let u : loop .i ≡ suc i = omega arith in
     let own : local-at w n i .name % (8 * n) ≡ bucket .result = ap (λ x. x / 255 % (8 * n)) (sym (inv .2 .other (5724 + 2 * n + i) (λ z. absurd (omega (arith, l .fits, inv .0))))) ∙ sym (bucket .ensures .0) in
-    (omega arith, omega arith, rw (set-half .ensures) (popping-next w (loop .work) n i (bucket .result) (half-at .result) (getD w (5708 + n + a .scope .block + 1) 0) (l .linked) (omega (arith, inv .0)) (l .fits) (l .long) (bucket .ensures .1) own (half-at .ensures) (rw u at (inv .2))))
+    (omega arith, omega arith, rw (set-half .ensures) (popping-next w (loop .work) n (a .scope .block) i (bucket .result) (half-at .result) (a .scope .block + 1) (l .linked) (omega arith) (omega (arith, inv .1)) (omega (arith, inv .0, l .ends)) (omega (arith, l .fits, l .ends)) (l .long) (bucket .ensures .1) own (half-at .ensures) (rw u at (inv .2))))
 
 same-length : tie.Need-same-length Inv-loop μ-loop
 same-length c =
@@ -108,7 +109,7 @@ returns c =
     record {
       same = loop .inv .2 .same;
       other = loop .inv .2 .other;
-      linked = rw (← e) (popping-end (loop .inv .0) (l .fits) (l .linked) (loop .inv .2));
+      linked = popping-end (start .args .scope .block) e (omega (arith, start .pre .blocks)) (omega (arith, l .rises, l .ends)) (omega (arith, l .fits, l .ends)) (l .linked) (loop .inv .2);
     }
 
 pub leave-block-spec : {M : Type 1} → statement M

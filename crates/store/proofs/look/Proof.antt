@@ -3,14 +3,13 @@
 use borrow.Author.Needs.{needs}
 use Rattle.store.proofs.look.Statement.{statement}
 use Rattle.store.proofs.look.Tie as tie
-use Prim.Native.Nat.{ℕ, _+_, _-_, _*_, _%_, _≤_, max}
+use Prim.Native.Nat.{ℕ, _+_, _-_, _*_, _%_, _<_, _≤_, max}
 use mathlib.Core.Path.{_≡_, refl, sym, ap, _∙_}
-use mathlib.Core.Option.{none}
 use native.Mathlib.Omega.{arith}
 use denote.Ref.{now}
-use Rattle.store.specs.Layout.{local-at, latest, head}
-use Rattle.store.specs.Search.{seek, found-of}
-use Rattle.store.proofs.Links.{latest-le, seek-none, head-within, walk-next, walk-self, walk-start, walk-hit, walk-miss, skip-start, skip-self, skip-next, skip-end}
+use Rattle.store.specs.Layout.{edge, local-at, latest, head}
+use Rattle.store.specs.Search.{found-of}
+use Rattle.store.proofs.Links.{head-within, turn-less, turn-self, walk-self, walk-start, walk-hit, walk-none, walk-miss, skip-start, skip-self, skip-next, skip-end}
 
 abbrev Inv-loop : tie.InvT-loop
 Inv-loop work nodes start end name b base i₀ i = (i ≤ i₀) × (latest work nodes (name % (8 * nodes)) (max i end) ≡ i)
@@ -20,7 +19,7 @@ abbrev μ-loop : tie.MeasureT-loop
 
 abbrev Inv-loop2 : tie.InvT-loop2
 Inv-loop2 work nodes start end name b base i₀ i =
-    (i ≤ end) × (latest work nodes (name % (8 * nodes)) i ≡ i) × (seek name (local-at work nodes) start i none ≡ seek name (local-at work nodes) start end none)
+    (i ≤ end) × (latest work nodes (name % (8 * nodes)) i ≡ i) × ((m : ℕ) → i ≤ m → m < end → ¬ (local-at work nodes m .name ≡ name))
 
 abbrev μ-loop2 : tie.MeasureT-loop2
 μ-loop2 work nodes start end name b base i₀ i = i
@@ -45,7 +44,7 @@ loop-holds c =
     let p = start .pre in
     let b = bucket .ensures in
     let e = c .half-at .ensures ∙ ap (λ x. head w (a .nodes) x) (b .0) in
-    (omega arith, rw e (skip-start w (a .nodes) (p .count) k (p .linked) (a .end) (p .within) (omega (arith, b .0, b .1))))
+    (omega arith, rw e (skip-start w (a .nodes) (p .blocks) k (p .linked) (omega (arith, b .0, b .1)) (a .end) (p .within)))
 
 half-at-requires-2 : tie.Need-half-at-requires-2 Inv-loop μ-loop Inv-loop2 μ-loop2
 half-at-requires-2 c κs =
@@ -57,7 +56,7 @@ half-at-requires-2 c κs =
     let w = now (a .work) in
     let p = start .pre in
     let b = bucket .ensures in
-    omega (arith, half-at .ensures, head-within w (a .nodes) (p .count) (bucket .result) (p .linked) (b .1), p .long, p .fits, loop .inv .0)
+    omega (arith, half-at .ensures, head-within w (a .nodes) (p .blocks) (bucket .result) (p .linked) (b .1), p .long, p .fits, loop .inv .0)
 
 loop-less : tie.Need-loop-less Inv-loop μ-loop Inv-loop2 μ-loop2
 loop-less c =
@@ -71,10 +70,9 @@ loop-less c =
     let k : ℕ = a .name % (8 * a .nodes) in
     let p = start .pre in
     let b = bucket .ensures in
-    let u = head-within w (a .nodes) (p .count) (bucket .result) (p .linked) (b .1) in
-    let s = skip-self w (a .nodes) (p .count) k (p .linked) (loop .i) (a .end) (loop-test .taken) (loop .inv .1) in
-    let n = walk-next w (a .nodes) (p .count) k (p .linked) (loop .i) (omega arith) (omega (arith, half-at .ensures, loop .inv .0)) s in
-    omega (arith, c .half-at2 .ensures, n, latest-le w (a .nodes) k (loop .i - 1))
+    let u = head-within w (a .nodes) (p .blocks) (bucket .result) (p .linked) (b .1) in
+    let s = skip-self w (a .nodes) k (loop .i) (a .end) (loop-test .taken) (loop .inv .1) in
+    omega (arith, c .half-at2 .ensures, turn-less w (a .nodes) (p .blocks) k (loop .i) (p .linked) (omega arith) (omega (arith, half-at .ensures, loop .inv .0)) s)
 
 loop-again : tie.Need-loop-again Inv-loop μ-loop Inv-loop2 μ-loop2
 loop-again c =
@@ -88,11 +86,11 @@ loop-again c =
     let k : ℕ = a .name % (8 * a .nodes) in
     let p = start .pre in
     let b = bucket .ensures in
-    let u = head-within w (a .nodes) (p .count) (bucket .result) (p .linked) (b .1) in
-    let s = skip-self w (a .nodes) (p .count) k (p .linked) (loop .i) (a .end) (loop-test .taken) (loop .inv .1) in
-    let n = walk-next w (a .nodes) (p .count) k (p .linked) (loop .i) (omega arith) (omega (arith, half-at .ensures, loop .inv .0)) s in (
-      omega (arith, c .half-at2 .ensures, n, loop .inv .0, latest-le w (a .nodes) k (loop .i - 1)),
-      rw (c .half-at2 .ensures) (skip-next w (a .nodes) (p .count) k (p .linked) (loop .i) (a .end) (loop-test .taken) (omega (arith, half-at .ensures, loop .inv .0)) (loop .inv .1)),
+    let u = head-within w (a .nodes) (p .blocks) (bucket .result) (p .linked) (b .1) in
+    let s = skip-self w (a .nodes) k (loop .i) (a .end) (loop-test .taken) (loop .inv .1) in
+    let l : loop .i ≤ edge w (a .nodes) (p .blocks) = omega (arith, half-at .ensures, loop .inv .0) in (
+      omega (arith, c .half-at2 .ensures, loop .inv .0, turn-less w (a .nodes) (p .blocks) k (loop .i) (p .linked) (omega arith) l s),
+      rw (c .half-at2 .ensures) (skip-next w (a .nodes) (p .blocks) k (loop .i) (p .linked) (omega arith) l s (p .block) (a .end) (p .among) (p .ends) (loop-test .taken)),
     )
 
 loop2-holds : tie.Need-loop2-holds Inv-loop μ-loop Inv-loop2 μ-loop2
@@ -103,8 +101,8 @@ loop2-holds c =
     let w = now (a .work) in
     let k : ℕ = a .name % (8 * a .nodes) in
     let p = start .pre in
-    let e = skip-end w (a .nodes) (p .count) k (p .linked) (loop .i) (a .end) (c .loop-test .left) (loop .inv .1) in
-    (c .loop-test .left, walk-self w (a .nodes) (p .count) k (p .linked) (loop .i) (a .end) e, walk-start w (a .nodes) (a .name) (a .start) (a .end) (loop .i) e)
+    let e = skip-end w (a .nodes) k (loop .i) (a .end) (c .loop-test .left) (loop .inv .1) in
+    (c .loop-test .left, walk-self w (a .nodes) k (loop .i) (a .end) e, walk-start w (a .nodes) (a .name) (a .end) (loop .i) e)
 
 shared-slice-read-x : tie.Need-shared-slice-read-x Inv-loop μ-loop Inv-loop2 μ-loop2
 shared-slice-read-x c =
@@ -125,7 +123,7 @@ returns c =
     let loop2-test = c .before .before .loop2-test in
     let a = start .args in
     let w = now (a .work) in
-    ap found-of (sym (sym (loop2 .inv .2) ∙ walk-hit w (a .nodes) (a .name) (a .start) (loop2 .i) (loop2-test .taken) (c .if1 .taken)))
+    ap found-of (sym (walk-hit w (a .nodes) (a .name) (a .start) (a .end) (loop2 .i) (loop2 .inv .0) (loop2 .inv .2) (loop2-test .taken) (c .if1 .taken)))
 
 half-at-requires-3 : tie.Need-half-at-requires-3 Inv-loop μ-loop Inv-loop2 μ-loop2
 half-at-requires-3 c κs =
@@ -141,8 +139,7 @@ loop2-less c =
     let w = now (a .work) in
     let k : ℕ = a .name % (8 * a .nodes) in
     let p = start .pre in
-    let n = walk-next w (a .nodes) (p .count) k (p .linked) (loop2 .i) (omega arith) (omega (arith, p .within, loop2 .inv .0)) (loop2 .inv .1) in
-    omega (arith, c .half-at3 .ensures, n, latest-le w (a .nodes) k (loop2 .i - 1))
+    omega (arith, c .half-at3 .ensures, turn-less w (a .nodes) (p .blocks) k (loop2 .i) (p .linked) (omega arith) (omega (arith, p .within, loop2 .inv .0)) (loop2 .inv .1))
 
 loop2-again : tie.Need-loop2-again Inv-loop μ-loop Inv-loop2 μ-loop2
 loop2-again c =
@@ -154,11 +151,11 @@ loop2-again c =
     let w = now (a .work) in
     let k : ℕ = a .name % (8 * a .nodes) in
     let p = start .pre in
-    let n = walk-next w (a .nodes) (p .count) k (p .linked) (loop2 .i) (omega arith) (omega (arith, p .within, loop2 .inv .0)) (loop2 .inv .1) in
-    let e = c .half-at3 .ensures ∙ n in (
-      omega (arith, e, loop2 .inv .0, latest-le w (a .nodes) k (loop2 .i - 1)),
-      rw e (walk-self w (a .nodes) (p .count) k (p .linked) (latest w (a .nodes) k (loop2 .i - 1)) (loop2 .i - 1) refl),
-      walk-miss w (a .nodes) (a .name) (a .start) (loop2 .i) (c .half-at3 .result) (loop2-test .taken) (if1 .left) e ∙ loop2 .inv .2,
+    let e = c .half-at3 .ensures in
+    let l : loop2 .i ≤ edge w (a .nodes) (p .blocks) = omega (arith, p .within, loop2 .inv .0) in (
+      omega (arith, e, loop2 .inv .0, turn-less w (a .nodes) (p .blocks) k (loop2 .i) (p .linked) (omega arith) l (loop2 .inv .1)),
+      rw e (turn-self w (a .nodes) (p .blocks) k (loop2 .i) (p .linked) (omega arith) l (loop2 .inv .1)),
+      rw e (walk-miss w (a .nodes) (p .blocks) k (loop2 .i) (p .linked) (omega arith) l (loop2 .inv .1) (a .name) (p .block) (a .end) refl (p .among) (p .ends) (loop2 .inv .0) (loop2 .inv .2) (if1 .left)),
     )
 
 returns-2 : tie.Need-returns-2 Inv-loop μ-loop Inv-loop2 μ-loop2
@@ -167,7 +164,7 @@ returns-2 c =
     let loop2 = c .before .loop2 in
     let a = start .args in
     let w = now (a .work) in
-    ap found-of (sym (sym (loop2 .inv .2) ∙ seek-none (a .name) (local-at w (a .nodes)) (a .start) (loop2 .i) none (c .loop2-test .left)))
+    ap found-of (sym (walk-none w (a .nodes) (a .name) (a .start) (a .end) (loop2 .i) (loop2 .inv .0) (loop2 .inv .2) (c .loop2-test .left)))
 
 pub look-spec : {M : Type 1} → statement M
 look-spec =
