@@ -44,7 +44,7 @@ pub fn page(rows: &[Row], rounds: usize, date: &str) -> String {
     format!(
         "# Benchmark
 
-Written by `bench/run` on {date}. Processor: {processor}. Rust: {rustc}, for release. Rattle: {kit}.
+Written by `bench/run` on {date}. Processor: {processor}. Rust: {rustc}, for release, with overflow checks. Rattle: {kit}.
 
 Nanoseconds a node: the median of {rounds} rounds, and the least in brackets. Ratios and growth are of the medians, from this one run.
 

@@ -2,13 +2,13 @@
 use meaning::Answer;
 
 // One line on standard error.
-pub fn say(words: &[u8]) {
+pub(crate) fn say(words: &[u8]) {
     io::write_all(2, words);
     io::write_all(2, b"\n");
 }
 
 // The table of causes.
-pub fn refused(a: Answer) {
+pub(crate) fn refused(a: Answer) {
     let number = a.number;
     match number {
         1 => frame(a),

@@ -17,7 +17,7 @@ pub struct Case {
 }
 
 // So many bytes on, or the end.
-pub fn forth(at: usize, n: usize) -> usize
+pub(crate) fn forth(at: usize, n: usize) -> usize
     ensures { λ r. ⌜ r ≤ 800000 ⌝ }
 {
     if 800000 < at {
@@ -29,25 +29,25 @@ pub fn forth(at: usize, n: usize) -> usize
     at + n
 }
 
-pub fn byte(text: &[u8; 800000], at: usize) -> u8 {
+pub(crate) fn byte(text: &[u8; 800000], at: usize) -> u8 {
     if at < 800000 { text[at] } else { 0 }
 }
 
-pub fn wide(x: u8) -> usize
+pub(crate) fn wide(x: u8) -> usize
     ensures { λ r. ⌜ r < 256 ⌝ }
 {
     x as usize
 }
 
 // Two bytes, the high one first.
-pub fn short(text: &[u8; 800000], at: usize) -> usize
+pub(crate) fn short(text: &[u8; 800000], at: usize) -> usize
     ensures { λ r. ⌜ r < 65536 ⌝ }
 {
     wide(byte(text, at)) * 256 + wide(byte(text, forth(at, 1)))
 }
 
 // Four bytes.
-pub fn long(text: &[u8; 800000], at: usize) -> usize
+pub(crate) fn long(text: &[u8; 800000], at: usize) -> usize
     ensures { λ r. ⌜ r < 4294967296 ⌝ }
 {
     short(text, at) * 65536 + short(text, forth(at, 2))
@@ -76,7 +76,7 @@ fn after_parts(text: &[u8; 800000], at: usize) -> usize {
     part
 }
 
-pub fn case_at(text: &[u8; 800000], at: usize) -> Case {
+pub(crate) fn case_at(text: &[u8; 800000], at: usize) -> Case {
     let numbers = after_parts(text, at);
     let shown = long(text, forth(numbers, 28));
     let image = forth(numbers, 32);
@@ -173,7 +173,7 @@ fn expand(text: &[u8; 800000], part: usize, tree: &mut [u8], from: usize) -> usi
 }
 
 // The tree whose parts stand at a place; its length.
-pub fn build(text: &[u8; 800000], at: usize, tree: &mut [u8]) -> usize {
+pub(crate) fn build(text: &[u8; 800000], at: usize, tree: &mut [u8]) -> usize {
     let count = short(text, at);
     let mut part = forth(at, 2);
     let mut end: usize = 0;

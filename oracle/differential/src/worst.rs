@@ -13,26 +13,20 @@ use std::process::ExitCode;
 const LIMIT: f64 = 2.0;
 
 fn main() -> ExitCode {
-    let words: Vec<String> = std::env::args().skip(1).collect();
-    let slow = words == ["--slow", "yes"];
     let Some(lower) = linked::lower() else {
         eprintln!("worst: no library is linked: set YENGRAZUL_LIB to the folder of liblower.a");
         return ExitCode::from(2);
     };
-    if !slow && !words.is_empty() {
-        eprintln!("worst: no option {}", words.join(" "));
-        return ExitCode::from(2);
-    }
     println!("{:44} {:>6} {:>9} {:>8}", "tree", "nodes", "ms", "stack");
     let (mut stack, mut rng, mut faults, mut deepest) = (Stack::new(), Rng::new(1), 0, 0);
-    let trees: Vec<Worst> = worst().into_iter().filter(|w| slow || !w.slow).collect();
+    let trees = worst();
     for w in &trees {
         let (mut took, mut verdict) = call(lower, w, &mut stack, &mut rng);
-        if in_time(w, &took).is_err() {
+        if in_time(&took).is_err() {
             // once more: the machine may have been busy
             (took, verdict) = call(lower, w, &mut stack, &mut rng);
         }
-        let verdict = verdict.and(in_time(w, &took)).and(in_stack(&took));
+        let verdict = verdict.and(in_time(&took)).and(in_stack(&took));
         let words = verdict.as_ref().map_or_else(|fault| format!("  WRONG: {fault}"), |()| String::new());
         println!("{:44} {:6} {:9.1} {:8}{words}", w.name, w.tree.size(), took.seconds * 1000.0, took.stack_bytes);
         faults += usize::from(verdict.is_err());
@@ -42,8 +36,8 @@ fn main() -> ExitCode {
     ExitCode::from(u8::from(faults > 0))
 }
 
-fn in_time(w: &Worst, took: &Took) -> Result<(), String> {
-    match took.seconds < LIMIT || w.slow {
+fn in_time(took: &Took) -> Result<(), String> {
+    match took.seconds < LIMIT {
         true => Ok(()),
         false => Err(format!("over {LIMIT} seconds")),
     }

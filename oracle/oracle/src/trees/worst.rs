@@ -11,8 +11,6 @@ pub struct Worst {
     pub tree: Node,
     pub room: usize,
     pub due: u8,
-    /// Whether it takes more than two seconds, as README.md says.
-    pub slow: bool,
 }
 
 pub(super) const M: u16 = 7;
@@ -23,7 +21,7 @@ pub(super) fn a() -> Node {
 }
 
 pub(super) fn of(name: &'static str, tree: Node) -> Worst {
-    Worst { name, tree, room: 400_000, due: 0, slow: false }
+    Worst { name, tree, room: 400_000, due: 0 }
 }
 
 /// With an output for the code of up to 193 functions.
@@ -167,7 +165,7 @@ fn names() -> Vec<Worst> {
         of("250 captures by 64 functions, through 6", through(5, times(64, || expression(user())))),
         large("250 captures through 6 functions, 64 times", through(5, vec![expression(minuses(6, user()))])),
         large("a bucket of 400 locals, 1,024 times", bucket_of_lets(1_640, 400)),
-        Worst { slow: true, ..large("a bucket of 2,000 locals, 1,024 times", bucket_of_lets(8_191, 2_000)) },
+        large("a bucket of 2,000 locals, 1,024 times", bucket_of_lets(8_191, 2_000)),
         large("captures behind a bucket of 2,000 locals", bucket_of_captures(8_191, 2_000)),
     ]
 }
