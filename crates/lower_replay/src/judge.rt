@@ -117,7 +117,13 @@ fn call(text: &[u8; 800000], c: Case, tree: &[u8], work: &mut [u32], out: &mut [
 }
 
 // The same with buffers that are large enough; 1 where a size is not as the case says.
-pub(crate) fn ask(text: &[u8; 800000], c: Case, tree: &mut [u8], work: &mut [u32], out: &mut [u8]) -> u8 {
+pub(crate) fn ask(
+    text: &[u8; 800000],
+    c: Case,
+    tree: &mut [u8],
+    work: &mut [u32],
+    out: &mut [u8],
+) -> u8 {
     let length = file::build(text, c.parts, tree);
     let words = c.work;
     let room = c.room;
