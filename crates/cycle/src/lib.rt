@@ -1,28 +1,33 @@
+// Module 4 of document 01: statements and expressions are lowered by functions that call each other; the node's number falls at each call.
+// A function is the straight line of its calls. Each passes a refused step on; the two dispatchers return it at once.
+mod operators;
+mod reading;
+mod scopes;
+
 ghost use mathlib.Core.Path.{_≡_};
-ghost use mathlib.Core.Bool.{cond};
-ghost use Prim.Native.Nat.{_+_, _-_, _*_, _/_, _<_, _≤_};
-ghost use lib.ListN.{length};
-ghost use lib.Dec.{eqb};
-ghost use Rattle.meaning.specs.Fields.{fields, field-at, words};
-ghost use Rattle.meaning.specs.Read.{at};
-ghost use Rattle.meaning.specs.Grammar.{absent};
-ghost use Rattle.meaning.specs.At.{tag-of, count-of, expr-at};
-ghost use Rattle.meaning.specs.Syntax.{small-if};
-ghost use Rattle.meaning.specs.Opcode.{unary-opcode, binary-opcode, or};
-ghost use Rattle.meaning.specs.Expressions.{or-flag};
-ghost use Rattle.meaning.specs.Functions.{first-mark};
-ghost use Rattle.nodes.specs.Offsets.{Readable};
-ghost use Rattle.store.specs.Store.{looped};
-ghost use Rattle.parts.specs.Parts.{tokens-from};
-ghost use Rattle.leaves.specs.Node.{Lawful, small-of};
-ghost use Rattle.cycle.specs.Cycle.{GivenExpr, GivenStmt, AskExpr, AskStmt, AskFun, AskRow, AskElifs, AskMethods, AskArguments, AskBody, LowersExpr, LowersStmt, LowersFun, LowersRow, LowersElifs, LowersMethods, LowersArguments, LowersBody, LowersAddi, LowersMinus, LowersBoth, first-words, branches-of, branched};
+ghost use Prim.Native.Nat.{_<_, _≤_};
+ghost use Rattle.meaning.specs.Fields.{fields};
+ghost use Rattle.meaning.specs.At.{tag-of};
+ghost use Rattle.cycle.specs.Cycle.{GivenExpr, GivenStmt, AskExpr, AskStmt, AskFun, AskRow, AskElifs, AskMethods, AskArguments, AskBody, LowersExpr, LowersStmt, LowersFun, LowersRow, LowersElifs, LowersMethods, LowersArguments, LowersBody, LowersAddi, LowersMinus, LowersBoth};
+use crate::operators::binary_opcode;
+use crate::operators::immediate;
+use crate::operators::or_flag;
+use crate::operators::unary_opcode;
+use crate::reading::arguments_in;
+use crate::reading::branches_of;
+use crate::reading::count_of;
+use crate::reading::first_mark;
+use crate::reading::initializer_end;
+use crate::reading::names_in;
+use crate::reading::payload_of;
+use crate::reading::tag_of;
+use crate::reading::words_of;
+use crate::scopes::in_branch;
+use crate::scopes::in_loop;
 use instruction::OpCode;
 use meaning::Outcome;
 use store::Scope;
 use store::Step;
-
-// Module 4 of document 01: statements and expressions are lowered by functions that call each other; the node's number falls at each call.
-// A function is the straight line of its calls. Each passes a refused step on; the two dispatchers return it at once.
 
 // The first words of a node, and the same as children.
 pub struct Words {
@@ -50,34 +55,6 @@ const MINUS: u32 = 8;
 
 const MOVE: u32 = OpCode::Move as u32;
 
-const ADD: u32 = OpCode::Add as u32;
-
-const SUB: u32 = OpCode::Sub as u32;
-
-const DIV: u32 = OpCode::Div as u32;
-
-const MOD: u32 = OpCode::Mod as u32;
-
-const MUL: u32 = OpCode::Mul as u32;
-
-const POW: u32 = OpCode::Pow as u32;
-
-const LT: u32 = OpCode::Lt as u32;
-
-const GT: u32 = OpCode::Gt as u32;
-
-const LTE: u32 = OpCode::Lte as u32;
-
-const GTE: u32 = OpCode::Gte as u32;
-
-const EQ: u32 = OpCode::Eq as u32;
-
-const NEQ: u32 = OpCode::Neq as u32;
-
-const NOT: u32 = OpCode::Not as u32;
-
-const NEG: u32 = OpCode::Neg as u32;
-
 const CLASS_METH: u32 = OpCode::ClassMeth as u32;
 
 const CLASS_ST_METH: u32 = OpCode::ClassStMeth as u32;
@@ -92,193 +69,6 @@ const BRANCH_BLOCKS: usize = 0;
 const NO_NAME: usize = 65535;
 
 const NO_MARK: u32 = 65535;
-
-// ---- reading a node
-
-// Word k of a payload, or 0 where it has fewer.
-fn word_at(payload: &[u8], k: usize) -> usize
-    ensures { λ r. ⌜ (r ≡ at (words (now (payload .entry))) k) × (r < 65536) ⌝ }
-{
-    if k < nodes::count(payload) {
-        nodes::child(payload, k)
-    } else {
-        0
-    }
-}
-
-fn payload_of<'a>(tree: &'a [u8], work: &[u32], scope: Scope, node: usize) -> &'a [u8]
-    requires { ⌜ Readable (now tree) (now work) (12288 + 15 * scope .nodes) node × (scope .nodes ≤ 32768) ⌝ }
-    ensures { λ r. ⌜ now r ≡ field-at (fields (now (tree .entry))) node .payload ⌝ }
-{
-    nodes::payload_of(tree, work, 12288 + 15 * scope.nodes, node)
-}
-
-// The first words of a node.
-fn words_of(tree: &[u8], work: &[u32], scope: Scope, node: usize) -> Words
-    requires { ⌜ Readable (now tree) (now work) (12288 + 15 * scope .nodes) node × (scope .nodes ≤ 32768) ⌝ }
-    ensures { λ r. ⌜ (r ≡ first-words (fields (now (tree .entry))) node) × (r .child0 < 65536) × (r .child1 < 65536) × (r .child2 < 65536) × (r .child3 < 65536) ⌝ }
-{
-    let payload = payload_of(tree, work, scope, node);
-    let x0 = word_at(payload, 0);
-    let x1 = word_at(payload, 1);
-    let x2 = word_at(payload, 2);
-    let x3 = word_at(payload, 3);
-    let x4 = word_at(payload, 4);
-    Words {
-        a: x0 as u32,
-        b: x1 as u32,
-        c: x2 as u32,
-        child0: x0,
-        child1: x1,
-        child2: x2,
-        child3: x3,
-        child4: x4,
-    }
-}
-
-fn tag_of(tree: &[u8], work: &[u32], scope: Scope, node: usize) -> u8
-    requires { ⌜ Readable (now tree) (now work) (12288 + 15 * scope .nodes) node × (scope .nodes ≤ 32768) ⌝ }
-    ensures { λ r. ⌜ r ≡ tag-of (fields (now (tree .entry))) node ⌝ }
-{
-    nodes::tag_of(tree, work, 12288 + 15 * scope.nodes, node)
-}
-
-// How many words a node has.
-fn count_of(tree: &[u8], work: &[u32], scope: Scope, node: usize) -> usize
-    requires { ⌜ Readable (now tree) (now work) (12288 + 15 * scope .nodes) node × (scope .nodes ≤ 32768) ⌝ }
-    ensures { λ r. ⌜ (r ≡ count-of (fields (now (tree .entry))) node) × (r < 65536) ⌝ }
-{
-    nodes::count_of(tree, work, 12288 + 15 * scope.nodes, node)
-}
-
-// Where the parts of an if end.
-fn branches_of(tree: &[u8], work: &[u32], scope: Scope, node: usize) -> Branches
-    requires { ⌜ Readable (now tree) (now work) (12288 + 15 * scope .nodes) node × (scope .nodes ≤ 32768) ⌝ }
-    ensures { λ r. ⌜ (r ≡ branches-of (fields (now (tree .entry))) node) × (r .thens < 65539) ⌝ }
-{
-    let payload = payload_of(tree, work, scope, node);
-    let t = word_at(payload, 2);
-    let e = word_at(payload, 3 + t);
-    Branches {
-        thens: 3 + t,
-        elifs: 4 + t + e,
-        all: nodes::count(payload),
-    }
-}
-
-// How many pairs follow the first three words of a for-in.
-fn names_in(payload: &[u8]) -> usize
-    ensures { λ r. ⌜ r ≡ (length (words (now (payload .entry))) - 3) / 2 ⌝ }
-{
-    let n = nodes::count(payload);
-    if n < 3 { 0 } else { (n - 3) / 2 }
-}
-
-// How many arguments follow the first two words of a call.
-fn arguments_in(tree: &[u8], work: &[u32], scope: Scope, node: usize) -> usize
-    requires { ⌜ Readable (now tree) (now work) (12288 + 15 * scope .nodes) node × (scope .nodes ≤ 32768) ⌝ }
-    ensures { λ r. ⌜ (r ≡ count-of (fields (now (tree .entry))) node - 2) × (r < 65536) ⌝ }
-{
-    let n = count_of(tree, work, scope, node);
-    if n < 2 { 0 } else { n - 2 }
-}
-
-// The end of a for's initializer, which is word 1 or absent.
-fn initializer_end(child: usize) -> usize
-    ensures { λ r. ⌜ r ≡ cond (absent child) 1 2 ⌝ }
-{
-    if child == 65535 { 1 } else { 2 }
-}
-
-// The mark of the first of n parameters.
-fn first_mark(payload: &[u8], n: usize) -> u32
-    ensures { λ r. ⌜ (1 + 2 * n ≤ length (words (now (payload .entry))) → r ≡ first-mark (tokens-from (now (payload .entry)) 1 n)) ⌝ }
-{
-    if n == 0 {
-        NO_MARK
-    } else {
-        word_at(payload, 2) as u32
-    }
-}
-
-// ---- operators
-
-// Token::Not, Token::Minus
-fn unary_opcode(op: u32) -> u32
-    ensures { λ r. ⌜ (r ≡ unary-opcode op) × (r < 256) ⌝ }
-{
-    match op {
-        1 => NOT,
-        2 => NEG,
-        _ => 0,
-    }
-}
-
-// The opcode of a binary operator.
-fn binary_opcode(op: u32) -> u32
-    ensures { λ r. ⌜ (r ≡ binary-opcode op) × (r < 256) ⌝ }
-{
-    match op {
-        1 => ADD,
-        2 => LT,
-        3 => EQ,
-        4 => NEQ,
-        5 => GT,
-        6 => GTE,
-        7 => LTE,
-        8 => SUB,
-        9 => DIV,
-        10 => MOD,
-        11 => MUL,
-        12 => POW,
-        _ => 0,
-    }
-}
-
-// Test's c: 1 at Or, 0 at And.
-fn or_flag(op: u32) -> u32
-    ensures { λ r. ⌜ (r ≡ or-flag (eqb op or)) × (r < 256) ⌝ }
-{
-    if op == 1 { 1 } else { 0 }
-}
-
-// The small number that the operand of operator `op` is, where that is the operator `asked` with an immediate form; else 256.
-fn immediate(tree: &[u8], work: &[u32], scope: Scope, op: u32, asked: u32, child: usize) -> u32
-    requires { ⌜ Lawful (now tree) (now work) (scope .nodes) × (child < scope .nodes) × (scope .nodes ≤ 32768) ⌝ }
-    ensures { λ r. ⌜ small-if (eqb op asked) (expr-at (fields (now (tree .entry))) child) ≡ small-of r ⌝ }
-{
-    if op == asked {
-        leaves::small_operand(tree, work, scope, child)
-    } else {
-        256
-    }
-}
-
-// The scope of a loop's body.
-fn in_loop(scope: Scope) -> Scope
-    requires { ⌜ (scope .loops < scope .nodes + 10) × (scope .nodes ≤ 32768) ⌝ }
-    ensures { λ r. ⌜ r ≡ looped scope ⌝ }
-{
-    Scope {
-        nodes: scope.nodes,
-        depth: scope.depth,
-        block: scope.block,
-        loops: scope.loops + 1,
-    }
-}
-
-// The scope of an if branch that opens so many blocks.
-fn in_branch(scope: Scope, blocks: usize) -> Scope
-    requires { ⌜ (blocks ≤ 1) × (scope .block ≤ scope .nodes + 10) × (scope .nodes ≤ 32768) ⌝ }
-    ensures { λ r. ⌜ r ≡ branched blocks scope ⌝ }
-{
-    Scope {
-        nodes: scope.nodes,
-        depth: scope.depth,
-        block: blocks + scope.block,
-        loops: scope.loops,
-    }
-}
 
 // ---- rows of children
 

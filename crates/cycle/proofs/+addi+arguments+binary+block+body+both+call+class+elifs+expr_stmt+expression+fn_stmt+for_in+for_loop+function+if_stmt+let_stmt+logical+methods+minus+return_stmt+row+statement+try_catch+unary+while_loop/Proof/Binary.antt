@@ -5,8 +5,8 @@ use Rattle.cycle.proofs.binary.Reads as binary
 use Rattle.cycle.proofs.+addi+arguments+binary+block+body+both+call+class+elifs+expr_stmt+expression+fn_stmt+for_in+for_loop+function+if_stmt+let_stmt+logical+methods+minus+return_stmt+row+statement+try_catch+unary+while_loop.Lts-binary as lts
 use Rattle.cycle.proofs.both.Reads as both
 use Rattle.cycle.proofs.minus.Reads as minus
-use Rattle.cycle.proofs.immediate.Reads as immediate-reads
-use Rattle.cycle.proofs.words_of.Reads as words-of-reads
+use Rattle.cycle.proofs.operators.immediate.Reads as immediate-reads
+use Rattle.cycle.proofs.reading.words_of.Reads as words-of-reads
 use Rattle.cycle.proofs.+addi+arguments+binary+block+body+both+call+class+elifs+expr_stmt+expression+fn_stmt+for_in+for_loop+function+if_stmt+let_stmt+logical+methods+minus+return_stmt+row+statement+try_catch+unary+while_loop.Proof.Order.{addi-below, binary-at, both-below, minus-below}
 use Rattle.meaning.specs.Opcode.{minus}
 use Rattle.cycle.proofs.Nodes.{a-binary}

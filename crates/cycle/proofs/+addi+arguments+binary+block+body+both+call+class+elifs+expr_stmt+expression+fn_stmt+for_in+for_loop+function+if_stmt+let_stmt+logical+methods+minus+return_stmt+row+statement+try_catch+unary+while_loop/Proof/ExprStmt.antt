@@ -3,7 +3,7 @@ use Prim.Native.Nat.{ℕ}
 use Rattle.cycle.proofs.expr_stmt.Reads as expr-stmt
 use Rattle.cycle.proofs.+addi+arguments+binary+block+body+both+call+class+elifs+expr_stmt+expression+fn_stmt+for_in+for_loop+function+if_stmt+let_stmt+logical+methods+minus+return_stmt+row+statement+try_catch+unary+while_loop.Lts-expr_stmt as lts
 use Rattle.cycle.proofs.expression.Reads as expression
-use Rattle.cycle.proofs.words_of.Reads as words-of-reads
+use Rattle.cycle.proofs.reading.words_of.Reads as words-of-reads
 use Rattle.cycle.proofs.+addi+arguments+binary+block+body+both+call+class+elifs+expr_stmt+expression+fn_stmt+for_in+for_loop+function+if_stmt+let_stmt+logical+methods+minus+return_stmt+row+statement+try_catch+unary+while_loop.Proof.Order.{expr-stmt-at, expression-below}
 use Rattle.cycle.proofs.Nodes.{an-expression}
 use Rattle.cycle.proofs.Sizes.{expression-size}

@@ -3,9 +3,9 @@ use Prim.Native.Nat.{ℕ, _+_, _*_, _<_, _≤_}
 use Rattle.cycle.proofs.body.Reads as body
 use Rattle.cycle.proofs.function.Reads as function
 use Rattle.cycle.proofs.+addi+arguments+binary+block+body+both+call+class+elifs+expr_stmt+expression+fn_stmt+for_in+for_loop+function+if_stmt+let_stmt+logical+methods+minus+return_stmt+row+statement+try_catch+unary+while_loop.Lts-function as lts
-use Rattle.cycle.proofs.first_mark.Reads as first-mark-reads
-use Rattle.cycle.proofs.payload_of.Reads as payload-of-reads
-use Rattle.cycle.proofs.words_of.Reads as words-of-reads
+use Rattle.cycle.proofs.reading.first_mark.Reads as first-mark-reads
+use Rattle.cycle.proofs.reading.payload_of.Reads as payload-of-reads
+use Rattle.cycle.proofs.reading.words_of.Reads as words-of-reads
 use Rattle.parts.proofs.end_function.Reads as end-function-reads
 use Rattle.parts.proofs.open_function.Reads as open-function-reads
 use Rattle.store.proofs.enter_function.Reads as enter-function-reads

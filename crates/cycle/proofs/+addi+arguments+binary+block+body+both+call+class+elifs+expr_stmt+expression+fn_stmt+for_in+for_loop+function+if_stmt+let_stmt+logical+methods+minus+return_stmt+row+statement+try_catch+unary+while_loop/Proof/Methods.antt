@@ -3,8 +3,8 @@ use Prim.Native.Nat.{ℕ, _+_, _-_, _*_, _<_, _≤_}
 use Rattle.cycle.proofs.fn_stmt.Reads as fn-stmt
 use Rattle.cycle.proofs.methods.Reads as methods
 use Rattle.cycle.proofs.+addi+arguments+binary+block+body+both+call+class+elifs+expr_stmt+expression+fn_stmt+for_in+for_loop+function+if_stmt+let_stmt+logical+methods+minus+return_stmt+row+statement+try_catch+unary+while_loop.Lts-methods as lts
-use Rattle.cycle.proofs.payload_of.Reads as payload-of-reads
-use Rattle.cycle.proofs.words_of.Reads as words-of-reads
+use Rattle.cycle.proofs.reading.payload_of.Reads as payload-of-reads
+use Rattle.cycle.proofs.reading.words_of.Reads as words-of-reads
 use Rattle.nodes.proofs.child.Reads as child-reads
 use Rattle.parts.proofs.add_method.Reads as add-method-reads
 use Rattle.store.proofs.settle.Reads as settle-reads

@@ -6,7 +6,7 @@ use Rattle.cycle.proofs.+addi+arguments+binary+block+body+both+call+cla
 use Rattle.code.proofs.end_try.Reads as end-try-reads
 use Rattle.code.proofs.end_try_body.Reads as end-try-body-reads
 use Rattle.code.proofs.open_try_body.Reads as open-try-body-reads
-use Rattle.cycle.proofs.words_of.Reads as words-of-reads
+use Rattle.cycle.proofs.reading.words_of.Reads as words-of-reads
 use Rattle.parts.proofs.open_catch.Reads as open-catch-reads
 use Rattle.store.proofs.enter_block.Reads as enter-block-reads
 use Rattle.store.proofs.leave_block.Reads as leave-block-reads

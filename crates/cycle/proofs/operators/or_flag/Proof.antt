@@ -1,10 +1,10 @@
--- `cycle::or_flag` meets its contract.
+-- `cycle::operators::or_flag` meets its contract.
 use borrow.Author.Tests.{eq-eqb, ne-eqb}
 use mathlib.Core.Path.{refl}
 use lib.Dec.{lit<}
 use Rattle.meaning.specs.Opcode.{or}
-use Rattle.cycle.proofs.or_flag.Statement.{statement}
-use Rattle.cycle.proofs.or_flag.Tie as tie
+use Rattle.cycle.proofs.operators.or_flag.Statement.{statement}
+use Rattle.cycle.proofs.operators.or_flag.Tie as tie
 
 returns : tie.Need-returns
 returns c = rw (eq-eqb (c .before .args .op) or (c .if1 .taken)) (refl, lit< tt)

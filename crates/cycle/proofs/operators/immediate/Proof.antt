@@ -1,9 +1,9 @@
--- `cycle::immediate` meets its contract: where the operator is the one asked for, the operand is tried.
+-- `cycle::operators::immediate` meets its contract: where the operator is the one asked for, the operand is tried.
 use borrow.Author.Tests.{eq-eqb, ne-eqb}
 use mathlib.Core.Path.{refl}
 use Rattle.meaning.specs.Syntax.{small-if}
-use Rattle.cycle.proofs.immediate.Statement.{statement}
-use Rattle.cycle.proofs.immediate.Tie as tie
+use Rattle.cycle.proofs.operators.immediate.Statement.{statement}
+use Rattle.cycle.proofs.operators.immediate.Tie as tie
 
 returns : tie.Need-returns
 unfolding small-if

@@ -1,4 +1,4 @@
--- `cycle::first_mark` meets its contract: the first pair's second word.
+-- `cycle::reading::first_mark` meets its contract: the first pair's second word.
 use native.Mathlib.Omega.{arith}
 use mathlib.Core.Path.{_≡_, sym, ap, _∙_}
 use Prim.Native.Nat.{ℕ}
@@ -9,8 +9,8 @@ use Rattle.meaning.specs.Read.{tokens}
 use Rattle.meaning.specs.Functions.{first-mark}
 use Rattle.parts.specs.Parts.{tokens-from}
 use Rattle.parts.proofs.Tokens.{first-token}
-use Rattle.cycle.proofs.first_mark.Statement.{statement}
-use Rattle.cycle.proofs.first_mark.Tie as tie
+use Rattle.cycle.proofs.reading.first_mark.Statement.{statement}
+use Rattle.cycle.proofs.reading.first_mark.Tie as tie
 
 none : (p : List ℕ) → tokens-from p 1 0 ≡ []
 unfolding tokens-from

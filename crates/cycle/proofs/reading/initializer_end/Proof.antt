@@ -1,8 +1,8 @@
--- `cycle::initializer_end` meets its contract.
+-- `cycle::reading::initializer_end` meets its contract.
 use borrow.Author.Tests.{eq-eqb, ne-eqb}
 use mathlib.Core.Path.{refl}
-use Rattle.cycle.proofs.initializer_end.Statement.{statement}
-use Rattle.cycle.proofs.initializer_end.Tie as tie
+use Rattle.cycle.proofs.reading.initializer_end.Statement.{statement}
+use Rattle.cycle.proofs.reading.initializer_end.Tie as tie
 
 returns : tie.Need-returns
 returns c = rw (eq-eqb (c .before .args .child) 65535 (c .if1 .taken)) refl

@@ -1,12 +1,12 @@
--- `cycle::word_at` meets its contract: past the end stands 0.
+-- `cycle::reading::word_at` meets its contract: past the end stands 0.
 use mathlib.Core.Path.{sym}
 use native.Mathlib.Omega.{arith}
 use lib.ListN.{List·getD-eq-default}
 use lib.Dec.{lit<}
 use denote.Ref.{now}
 use Rattle.meaning.specs.Fields.{words}
-use Rattle.cycle.proofs.word_at.Statement.{statement}
-use Rattle.cycle.proofs.word_at.Tie as tie
+use Rattle.cycle.proofs.reading.word_at.Statement.{statement}
+use Rattle.cycle.proofs.reading.word_at.Tie as tie
 
 child-requires : tie.Need-child-requires
 child-requires c κs = omega (arith, c .if1 .taken, c .before .count .ensures)

@@ -1,4 +1,4 @@
--- `cycle::binary_opcode` meets its contract: the definition's table, entry by entry; past its end and at 0 stands 0.
+-- `cycle::operators::binary_opcode` meets its contract: the definition's table, entry by entry; past its end and at 0 stands 0.
 use Prim.Native.Nat.{ℕ, _+_, _<_, _≤_}
 use mathlib.Core.Path.{_≡_, refl, sym}
 use mathlib.Core.Logic.{⊎-elim}
@@ -8,8 +8,8 @@ use lib.ListN.{List·getD-eq-default}
 use lib.Dec.{lit<}
 use Rattle.meaning.specs.Opcode.{binary-opcode}
 use Rattle.meaning.proofs.Lists.{lt-or-le}
-use Rattle.cycle.proofs.binary_opcode.Statement.{statement}
-use Rattle.cycle.proofs.binary_opcode.Tie as tie
+use Rattle.cycle.proofs.operators.binary_opcode.Statement.{statement}
+use Rattle.cycle.proofs.operators.binary_opcode.Tie as tie
 
 -- past one key
 up : (k op : ℕ) → k ≤ op → (op ≡ k → ⊥) → k + 1 ≤ op

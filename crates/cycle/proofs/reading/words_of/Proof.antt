@@ -1,8 +1,8 @@
--- `cycle::words_of` meets its contract, word by word.
+-- `cycle::reading::words_of` meets its contract, word by word.
 use native.Mathlib.Omega.{arith}
 use mathlib.Core.Path.{refl}
-use Rattle.cycle.proofs.words_of.Statement.{statement}
-use Rattle.cycle.proofs.words_of.Tie as tie
+use Rattle.cycle.proofs.reading.words_of.Statement.{statement}
+use Rattle.cycle.proofs.reading.words_of.Tie as tie
 
 returns : tie.Need-returns
 returns c =

@@ -1,8 +1,8 @@
--- `cycle::branches_of` meets its contract.
+-- `cycle::reading::branches_of` meets its contract.
 use native.Mathlib.Omega.{arith}
 use mathlib.Core.Path.{refl}
-use Rattle.cycle.proofs.branches_of.Statement.{statement}
-use Rattle.cycle.proofs.branches_of.Tie as tie
+use Rattle.cycle.proofs.reading.branches_of.Statement.{statement}
+use Rattle.cycle.proofs.reading.branches_of.Tie as tie
 
 returns : tie.Need-returns
 returns c =

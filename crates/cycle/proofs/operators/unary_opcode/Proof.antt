@@ -1,4 +1,4 @@
--- `cycle::unary_opcode` meets its contract: the definition's table, entry by entry; past its end and at 0 stands 0.
+-- `cycle::operators::unary_opcode` meets its contract: the definition's table, entry by entry; past its end and at 0 stands 0.
 use Prim.Native.Nat.{ℕ, _<_, _≤_}
 use mathlib.Core.Path.{_≡_, refl, sym}
 use mathlib.Core.Logic.{⊎-elim}
@@ -8,8 +8,8 @@ use lib.ListN.{List·getD-eq-default}
 use lib.Dec.{lit<}
 use Rattle.meaning.specs.Opcode.{unary-opcode}
 use Rattle.meaning.proofs.Lists.{lt-or-le}
-use Rattle.cycle.proofs.unary_opcode.Statement.{statement}
-use Rattle.cycle.proofs.unary_opcode.Tie as tie
+use Rattle.cycle.proofs.operators.unary_opcode.Statement.{statement}
+use Rattle.cycle.proofs.operators.unary_opcode.Tie as tie
 
 none-here : (op : ℕ) → (1 ≤ op → 3 ≤ op) → 0 ≡ unary-opcode op
 none-here op h = ⊎-elim (λ (l : op < 1). let z : op ≡ 0 = omega arith in rw z) (λ (l : 1 ≤ op). sym (List·getD-eq-default (0 ∷ 17 ∷ 18 ∷ []) 0 (h l))) (lt-or-le op 1)

@@ -1,0 +1,32 @@
+// The scopes of loop bodies and if branches.
+ghost use mathlib.Core.Path.{_≡_};
+ghost use Prim.Native.Nat.{_+_, _<_, _≤_};
+ghost use Rattle.store.specs.Store.{looped};
+ghost use Rattle.cycle.specs.Cycle.{branched};
+use store::Scope;
+
+// The scope of a loop's body.
+pub(crate) fn in_loop(scope: Scope) -> Scope
+    requires { ⌜ (scope .loops < scope .nodes + 10) × (scope .nodes ≤ 32768) ⌝ }
+    ensures { λ r. ⌜ r ≡ looped scope ⌝ }
+{
+    Scope {
+        nodes: scope.nodes,
+        depth: scope.depth,
+        block: scope.block,
+        loops: scope.loops + 1,
+    }
+}
+
+// The scope of an if branch that opens so many blocks.
+pub(crate) fn in_branch(scope: Scope, blocks: usize) -> Scope
+    requires { ⌜ (blocks ≤ 1) × (scope .block ≤ scope .nodes + 10) × (scope .nodes ≤ 32768) ⌝ }
+    ensures { λ r. ⌜ r ≡ branched blocks scope ⌝ }
+{
+    Scope {
+        nodes: scope.nodes,
+        depth: scope.depth,
+        block: blocks + scope.block,
+        loops: scope.loops,
+    }
+}
