@@ -1,23 +1,20 @@
 -- The dropped pass costs nothing: its code is cut off, and where it made no local all that stays are registers. Assumes nothing.
-use mathlib.Core.Path.{_≡_, refl, sym, ap, _∙_}
+use mathlib.Core.Path.{_≡_, refl}
 use mathlib.Core.List.{List}
-use Prim.Native.Nat.{ℕ, _+_, _*_, _-_, _<_, _≤_}
+use Prim.Native.Nat.{ℕ, _+_, _-_, _≤_}
 use native.Mathlib.Omega.{arith}
-use lib.ListN.{length, take}
+use lib.ListN.{take}
 use Rattle.store.specs.declared.Step.{Step}
 use Rattle.store.specs.declared.Scope.{Scope}
 use Rattle.store.specs.Table.{tab}
-use Rattle.store.specs.Layout.{edge, inst-at}
-use Rattle.store.specs.Store.{state-of, config-of, run-by, run, image-by, Image, goes-on, while-going, result-limit, Fine}
-use Rattle.store.specs.Promise.{Cost, nothing, Used, Moves, After, Does}
+use Rattle.store.specs.Layout.{inst-at}
+use Rattle.store.specs.Store.{state-of, config-of, run, Image, goes-on, Fine}
+use Rattle.store.specs.Promise.{nothing}
 use Rattle.store.proofs.Tables.{tab-take}
-use Rattle.store.proofs.Runs.{due, promised}
-use Rattle.meaning.specs.State.{State, Proto}
-use Rattle.meaning.specs.declared.Instruction.{Instruction}
+use Rattle.meaning.specs.State.{Proto}
 use Rattle.meaning.specs.declared.Outcome.{Outcome}
 use Rattle.meaning.specs.declared.Outcome.the-variants.{Accepted, Refused}
-use Rattle.forward.specs.Forward.{Config, config, Run, going, bind, sure, roll-back}
-use Rattle.forward.proofs.Steps.{bind-assoc}
+use Rattle.forward.specs.Forward.{bind, sure, roll-back}
 use Rattle.code.specs.Cuts.{rolled-by, rolled-step}
 
 pub cut-tab : {X : Type 0} (f : ℕ → X) (first k : ℕ) → first ≤ k → take first (tab f k) ≡ tab f first
@@ -89,45 +86,3 @@ module _ (s : Step) (first : ℕ) where
 
   pub rolled-pools : (rolled-step s first .constants ≡ s .constants) × (rolled-step s first .globals ≡ s .globals)
   rolled-pools = pools-by (s .outcome)
-
--- ---- a pass that is dropped
-
-module _ {w w' : List ℕ} {p : Scope} {s s1 : Step} {u : Cost} (no-local : u .locals ≡ 0) (no-name : u .names ≡ 0) where
-  pub moves-dropped : Moves w p s w' p s1 u → Moves w p s w' p (rolled-step s1 (s .code)) nothing
-  moves-dropped m =
-      let r : Step = rolled-step s1 (s .code) in
-      let e = m .still no-local in
-      let o = rolled-outcome s1 (s .code) in
-      record {
-        fine = rolled-fine s1 (s .code) w' p (m .longer) (m .fine);
-        kept = m .kept;
-        back = λ g. m .back (rw o at g);
-        used = promised (r .outcome)
-            (λ g.
-            let h : goes-on (s1 .outcome) = rw o at g in
-            let v = due (s1 .outcome) (m .used) h in
-            let k = rolled-code s1 (s .code) h in
-            let q = rolled-pools s1 (s .code) in
-            record {
-              words = omega (arith, e, k, v .registers);
-              locals = omega (arith, e, v .registers);
-              names = omega (arith, v .names, no-name, q .0, q .1);
-              registers = v .registers;
-            });
-        longer = rolled-least s1 (s .code) (m .longer);
-        still = λ z. e;
-      }
-
-  pub does-dropped : {o o' : List ℕ} {op : Config → Run} → Does w o p s w' o' p s1 u op → Does w o p s w' o' p (rolled-step s1 (s .code)) nothing (λ c. bind (op c) (sure (roll-back (s .code))))
-  does-dropped {op = op} d =
-      record {
-        moves = moves-dropped (d .moves);
-        same = d .same;
-        does = λ ps i.
-            let a = d .does ps i in
-            record {
-              protos = a .protos;
-              image = rolled-image s1 (s .code) _ (a .protos) (a .image);
-              runs = rolled-runs s1 (s .code) w' p (a .protos) (d .moves .longer) ∙ ap (λ x. bind x (sure (roll-back (s .code)))) (a .runs) ∙ bind-assoc (run w p s ps) op (sure (roll-back (s .code)));
-            };
-      }

@@ -1,13 +1,13 @@
 -- A function is left: its prototype is there, its code is cut off, its locals are popped, and the words stand for the function around it. Assumes nothing.
 use mathlib.Core.Path.{refl, ap, _∙_}
 use mathlib.Core.List.{List}
-use Prim.Native.Nat.{ℕ, _≤_}
+use Prim.Native.Nat.{ℕ}
 use native.Mathlib.Omega.{arith}
 use Rattle.store.specs.declared.Step.{Step}
 use Rattle.store.specs.declared.Scope.{Scope}
 use Rattle.store.specs.Store.{run, inner, deeper, Sound}
 use Rattle.store.specs.Promise.{nothing, Popped}
-use Rattle.store.specs.Opening.{Leavable, Closed}
+use Rattle.store.specs.Opening.{Leavable}
 use Rattle.store.proofs.Runs.{due, promised}
 use Rattle.store.proofs.Leaving.{popped-edge, popped-taken, popped-kept}
 use Rattle.store.proofs.Inside.{inner-deeper, closed-fine, closed-runs}
@@ -53,7 +53,3 @@ module _ {w w' o o' : List ℕ} {p : Scope} {s r : Step} {first node params : �
                   ∙ bind-assoc (run w (inner p) s ps) (adding first node params) (fwd-unit close-function);
             };
       }
-
-  -- what the law of a whole function asks of its end (store/proofs/Inside, function-around)
-  pub closed-by : first ≤ s .code → Closed s first r
-  closed-by le = record { code = adds .code; longer = adds .longer le; back = adds .back; constants = adds .constants; globals = adds .globals }

@@ -6,15 +6,15 @@
 --   (b ≡ true → ..) × (b ≡ false → ..)                          for `choose b`
 --   (r9 : Run) → r9 ≡ bind r8 f → r9 ≡ bind r F                 for `finally f`
 -- so a citation is `while-chain node mark x y r _ n0 _ e1 _ n1 _ e2 _ e3 _ e4 _ e5 _ e6`.
-use Prim.Native.Nat.{ℕ, suc}
+use Prim.Native.Nat.{ℕ}
 use mathlib.Core.Path.{_≡_, refl, ap, _∙_}
 use mathlib.Core.List.{List, [], _∷_}
-use mathlib.Core.Option.{Option, none, some}
+use mathlib.Core.Option.{none, some}
 use Rattle.meaning.specs.Constant.{Constant}
 use Rattle.meaning.specs.Syntax.{Token, Super, no-super, super, Stmts}
 use Rattle.meaning.specs.Opcode.{inst, Return}
 use Rattle.meaning.specs.State.{Chunk, M, pure}
-use Rattle.meaning.specs.Expressions.{visit-literal, named, visit-outside, visit-variable, visit-unary, visit-addi, visit-both, visit-dropped, visit-binary, visit-logical, next-registers, visit-call, visit-argument}
+use Rattle.meaning.specs.Expressions.{visit-literal, named, visit-outside, visit-variable, visit-unary, visit-addi, visit-both, visit-binary, visit-logical, visit-call, visit-argument}
 use Rattle.meaning.specs.Functions.{parameters, visit-body, visit-function, declare-name, visit-fun}
 use Rattle.meaning.specs.Statements.{new-global, visit-let-as, visit-let-only, visit-block, visit-while, visit-classic-for, iterate-each, iterate, visit-for-in, visit-jump, visit-return, visit-if, visit-elif, visit-try, visit-return-none, visit-super, visit-method, visit-class}
 use Rattle.meaning.specs.Lower.{row, lower-stmts, start, lower-program}
@@ -22,10 +22,10 @@ use Rattle.meaning.specs.declared.Instruction.{Instruction}
 use Rattle.forward.specs.Forward.{config, Run, stopped, going, bind, on, sure, give, put, fwd, fwd-code, fwd-row, fwd-number, fwd-unit, fwd-zero, end-program}
 use Rattle.forward.proofs.Steps.{bind-ext, step, tail}
 use Rattle.forward.proofs.Calls.{finally, Chain, chain}
-use Rattle.forward.proofs.Lines.{literal-calls, named-calls, outside-calls, variable-calls, unary-calls, addi-calls, both-calls, dropped-calls, minus-calls, logical-calls, register-calls, call-calls, argument-calls, parameter-calls, body-calls, function-calls, fun-calls, declare-name-calls, new-global-calls, let-as-calls, let-only-calls, block-calls, row-calls, return-calls, jump-calls, while-calls, for-calls, for-in-calls, iterate-each-calls, iterate-one-calls, iterate-many-calls, if-calls, elif-calls, try-calls, class-calls, super-none-calls, method-calls}
-use Rattle.forward.proofs.ExpressionsForward.{literal-forward, named-forward, outside-forward, variable-forward, unary-forward, addi-forward, both-forward, dropped-forward, plus-forward, minus-forward, plain-forward, logical-forward, register-none, register-forward, call-forward, code-none, argument-forward}
+use Rattle.forward.proofs.Lines.{literal-calls, named-calls, outside-calls, variable-calls, unary-calls, addi-calls, both-calls, minus-calls, logical-calls, call-calls, argument-calls, parameter-calls, body-calls, function-calls, fun-calls, declare-name-calls, new-global-calls, let-as-calls, let-only-calls, block-calls, row-calls, return-calls, jump-calls, while-calls, for-calls, for-in-calls, iterate-each-calls, iterate-one-calls, iterate-many-calls, if-calls, elif-calls, try-calls, class-calls, super-none-calls, method-calls}
+use Rattle.forward.proofs.ExpressionsForward.{literal-forward, named-forward, outside-forward, variable-forward, unary-forward, addi-forward, both-forward, minus-forward, logical-forward, call-forward, code-none, argument-forward}
 use Rattle.forward.proofs.FunctionsForward.{Rows, parameter-none, parameter-forward, body-forward, function-forward, fun-forward, declare-name-forward}
-use Rattle.forward.proofs.StatementsForward.{new-global-forward, let-as-forward, let-only-forward, block-forward, row-none, row-forward, return-forward, return-none-forward, jump-forward, while-forward, for-forward, for-in-forward, iterate-each-none, iterate-each-forward, iterate-none, iterate-one-forward, iterate-many-forward, if-forward, elif-forward, try-forward, class-forward, super-forward, super-none-forward, method-forward}
+use Rattle.forward.proofs.StatementsForward.{new-global-forward, let-as-forward, let-only-forward, block-forward, row-none, row-forward, return-forward, return-none-forward, jump-forward, while-forward, for-forward, for-in-forward, iterate-each-none, iterate-each-forward, iterate-one-forward, iterate-many-forward, if-forward, elif-forward, try-forward, class-forward, super-forward, super-none-forward, method-forward}
 
 -- ---- expressions
 
@@ -50,18 +50,8 @@ addi-chain node mark k x = chain (addi-calls node mark k x) _ (addi-forward node
 pub both-chain : (node op mark : ℕ) (x y : M Chunk) (r : Run) → Chain (both-calls node op mark x y) r (fwd (visit-both node op mark x y))
 both-chain node op mark x y = chain (both-calls node op mark x y) _ (both-forward node op mark x y)
 
-pub dropped-chain : (node : ℕ) (y : M Chunk) (r : Run) → Chain (dropped-calls node y) r (fwd-zero (visit-dropped node y))
-dropped-chain node y = chain (dropped-calls node y) _ (dropped-forward node y)
-
--- the three forms of a binary: a small number on the right of Plus, on the left of Minus, neither
-pub plus-chain : (node op mark k : ℕ) (j : Option ℕ) (x y : M Chunk) (r : Run) → Chain (addi-calls node mark k x) r (fwd (visit-binary node op mark (some k) j x y))
-plus-chain node op mark k j x y = chain (addi-calls node mark k x) _ (plus-forward node op mark k j x y)
-
 pub minus-chain : (node op mark k : ℕ) (x y : M Chunk) (r : Run) → Chain (minus-calls node op mark x y) r (fwd (visit-binary node op mark none (some k) x y))
 minus-chain node op mark k x y = chain (minus-calls node op mark x y) _ (minus-forward node op mark k x y)
-
-pub plain-chain : (node op mark : ℕ) (x y : M Chunk) (r : Run) → Chain (both-calls node op mark x y) r (fwd (visit-binary node op mark none none x y))
-plain-chain node op mark x y = chain (both-calls node op mark x y) _ (plain-forward node op mark x y)
 
 pub logical-chain : (node op mark : ℕ) (x y : M Chunk) (r : Run) → Chain (logical-calls op mark x y) r (fwd (visit-logical node op mark x y))
 logical-chain node op mark x y = chain (logical-calls op mark x y) _ (logical-forward node op mark x y)
@@ -146,9 +136,6 @@ pub method-chain : (node mark op class tmp name : ℕ) (x : M Chunk) (others : M
     → Chain (method-calls node mark op class tmp name x others) r (fwd-code (visit-method node mark op class tmp name x others))
 method-chain node mark op class tmp name x others = chain (method-calls node mark op class tmp name x others) _ (method-forward node mark op class tmp name x others)
 
-pub register-chain : (node n : ℕ) (r : Run) → Chain (register-calls node n) r (fwd-zero (next-registers node (suc n)))
-register-chain node n = chain (register-calls node n) _ (register-forward node n)
-
 pub parameter-chain : (node : ℕ) (p : Token) (ps : List Token) (r : Run) → Chain (parameter-calls node p ps) r (fwd-zero (parameters node (p ∷ ps)))
 parameter-chain node p ps = chain (parameter-calls node p ps) _ (parameter-forward node p ps)
 
@@ -179,17 +166,11 @@ row-same (going c) = refl
 pub row-end : (r : Run) → r ≡ bind r (fwd-row (pure []))
 row-end r = row-same r ∙ bind-ext r _ _ row-none
 
-pub register-end : (node : ℕ) (r : Run) → Chain (finally (sure (give 0))) r (fwd-zero (next-registers node 0))
-register-end node = chain (finally (sure (give 0))) _ (register-none node)
-
 pub parameter-end : (node : ℕ) (r : Run) → Chain (finally (sure (give 0))) r (fwd-zero (parameters node []))
 parameter-end node = chain (finally (sure (give 0))) _ (parameter-none node)
 
 pub iterate-each-end : (node mark element i : ℕ) (r : Run) → Chain (finally (sure (give 0))) r (fwd-code (iterate-each node mark element i []))
 iterate-each-end node mark element i = chain (finally (sure (give 0))) _ (iterate-each-none node mark element i)
-
-pub iterate-end : (node mark element collection counter : ℕ) (r : Run) → Chain (finally (sure (give 0))) r (fwd-code (iterate node mark element collection counter []))
-iterate-end node mark element collection counter = chain (finally (sure (give 0))) _ (iterate-none node mark element collection counter)
 
 -- ---- a whole program: its statements from the start, then leave_function of the main function
 

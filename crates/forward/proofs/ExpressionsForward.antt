@@ -14,7 +14,7 @@ use Rattle.meaning.specs.declared.Instruction.{Instruction}
 use Rattle.forward.specs.Forward.{Config, config, going, give, fwd, fwd-code, fwd-zero, test-and-jump, jump-here, roll-back, end-logical, open-call, end-call}
 use Rattle.forward.proofs.Steps.{group-then, pass-next, now, inner, same, start, step, step-known, step-as, next, asked, tail, last, halt, either, more}
 use Rattle.forward.proofs.Calls.{does}
-use Rattle.forward.proofs.Lines.{literal-calls, named-calls, outside-calls, captured-calls, local-calls, variable-calls, unary-calls, addi-calls, both-calls, dropped-calls, minus-calls, logical-calls, register-calls, argument-calls, call-calls}
+use Rattle.forward.proofs.Lines.{literal-calls, named-calls, outside-calls, captured-calls, local-calls, variable-calls, unary-calls, addi-calls, both-calls, minus-calls, logical-calls, register-calls, argument-calls, call-calls}
 use Rattle.forward.proofs.Jumps.{leap}
 use Rattle.forward.proofs.Registers.{registers-follow}
 
@@ -63,26 +63,12 @@ both-forward node op mark x y c =
     start _ _ _ _ (step _ _ _ _ _ _ λ a t. step _ _ _ _ _ _ λ b u. step _ _ _ _ _ _ λ r v. last _ _ _ _ (same _ _ _ _
     (append-assoc (c .code ++ a .code) (b .code) _ ∙ append-assoc (c .code) (a .code) _)))
 
-pub dropped-forward : (node : ℕ) (x : M Chunk) (c : Config) → does (dropped-calls node x) c ≡ fwd-zero (visit-dropped node x) c
-unfolding visit-dropped roll-back
-dropped-forward node x c = start _ _ _ _ (step _ _ _ _ _ _ λ a t. step _ _ _ _ _ _ λ r u. last _ _ _ _ (same _ _ _ _ (take-at (c .code) (a .code) (length (c .code)) refl)))
-
--- a small number on the right of Plus
-pub plus-forward : (node op mark k : ℕ) (j : Option ℕ) (x y : M Chunk) (c : Config) → does (addi-calls node mark k x) c ≡ fwd (visit-binary node op mark (some k) j x y) c
-unfolding visit-binary
-plus-forward node op mark k j x y c = addi-forward node mark k x c
-
 -- on the left of Minus
 pub minus-forward : (node op mark k : ℕ) (x y : M Chunk) (c : Config) → does (minus-calls node op mark x y) c ≡ fwd (visit-binary node op mark none (some k) x y) c
 unfolding visit-binary visit-dropped roll-back
 minus-forward node op mark k x y c =
     start _ _ _ _ (group-then _ _ _ _ _ _ (step _ _ _ _ _ _ λ a t. group-then _ _ _ _ _ _ (step _ _ _ _ _ _ λ r u. now _ _ _ (pass-next _ _ _ _ _
     (ap (λ l. fwd (visit-both node op mark x y) (config l 0 u)) (take-at (c .code) (a .code) (length (c .code)) refl) ∙ tail _ _ _)))))
-
--- neither
-pub plain-forward : (node op mark : ℕ) (x y : M Chunk) (c : Config) → does (both-calls node op mark x y) c ≡ fwd (visit-binary node op mark none none x y) c
-unfolding visit-binary
-plain-forward node op mark x y c = both-forward node op mark x y c
 
 pub logical-forward : (node op mark : ℕ) (x y : M Chunk) (c : Config) → does (logical-calls op mark x y) c ≡ fwd (visit-logical node op mark x y) c
 unfolding visit-logical test-and-jump end-logical jump-here

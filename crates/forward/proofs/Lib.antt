@@ -11,4 +11,3 @@ pub mod StatementsForward
 pub mod Chains
 pub mod Leaves
 pub mod Opened
-pub mod Scan

@@ -70,13 +70,6 @@ both-calls node op mark x y = do
   s3 ← fwd-number (next-register node)
   finally (sure (emit (inst (binary-opcode op) (s3 .result) (s1 .result) (s2 .result) mark)))
 
--- the right side and a register, whose code is cut off
-abbrev pub dropped-calls : ℕ → M Chunk → Calls
-dropped-calls node y = entry λ s. do
-  fwd y
-  fwd-number (next-register node)
-  finally (sure (roll-back (s .code)))
-
 abbrev pub minus-calls : (node op mark : ℕ) → (x y : M Chunk) → Calls
 minus-calls node op mark x y = entry λ s. do
   fwd y

@@ -1,22 +1,20 @@
 -- The smallest steps, opened: what the functions of the store have to do. A step that may be refused is `pick test (stopped cause node) (going ..)`, one
 -- that is never refused is `going ..`; a question answers with what it finds in the state.
-use Prim.Native.Nat.{ℕ, _+_, _-_, _≤_}
+use Prim.Native.Nat.{ℕ, _+_, _-_}
 use mathlib.Core.Path.{_≡_, refl, sym, ap, _∙_}
 use mathlib.Core.Bool.{Bool, true, false}
 use mathlib.Core.List.{List, [], _∷_, _++_}
 use mathlib.Core.Option.{Option, none, some}
 use native.Mathlib.Omega.{arith}
-use lib.ListN.{length, take, drop, length-drop}
-use lib.Seq.{drop-append-le}
-use lib.Dec.{eqb, leb, ltb}
+use lib.ListN.{length}
+use lib.Dec.{eqb, ltb}
 use Rattle.meaning.specs.Opcode.{inst, no-mark, Return}
 use Rattle.meaning.specs.Constant.{Constant}
-use Rattle.meaning.specs.State.{State, Open, Proto, M, refused, done, and-then, _>>=_, _>>_, pure, refuse, if-then, get, set-current, with-registers, with-blocks, with-loops, with-local, rest, around, fresh, next-register, allocate-register, enter-block, leave-block, enter-loop, leave-loop, add-constant, add-global, not-found, full, found, search-outward, searched, get-upvalue, enter-function, add-prototype, close-function}
+use Rattle.meaning.specs.State.{State, Open, Proto, M, refused, done, and-then, _>>=_, _>>_, pure, refuse, if-then, get, set-current, with-registers, with-blocks, with-local, rest, around, next-register, allocate-register, add-constant, add-global, not-found, full, found, search-outward, searched, get-upvalue, add-prototype}
 use Rattle.meaning.specs.declared.Cause.{Cause}
-use Rattle.meaning.specs.declared.Cause.the-variants.{Registers, Captures, Constants, Prototypes, Nesting, Long}
+use Rattle.meaning.specs.declared.Cause.the-variants.{Registers, Captures, Constants, Prototypes, Long}
 use Rattle.meaning.specs.declared.Instruction.{Instruction}
-use Rattle.forward.specs.Forward.{Config, config, Run, stopped, going, bind, pick, on, at, fwd-by, emit, cut, fwd-number, fwd-unit, leave-function, end-program, Answers}
-use Rattle.forward.proofs.Steps.{bind-pick}
+use Rattle.forward.specs.Forward.{Config, config, Run, stopped, going, bind, pick, on, at, fwd-by, cut, fwd-number, fwd-unit, Answers}
 
 -- ---- registers, locals, blocks, loops
 
@@ -40,22 +38,6 @@ pub allocate-opened : (name r : ℕ) (c : Config)
     → fwd-unit (allocate-register name r) c ≡ going (at (with-current (c .state) (with-blocks (c .state .current) (with-local (c .state .current .blocks) (record { name = name; register = r })))) c)
 unfolding fwd-by allocate-register _>>=_ and-then get set-current on
 allocate-opened name r c = refl
-
-pub enter-block-opened : (c : Config) → fwd-unit enter-block c ≡ going (at (with-current (c .state) (with-blocks (c .state .current) ([] ∷ c .state .current .blocks))) c)
-unfolding fwd-by enter-block _>>=_ and-then get set-current on
-enter-block-opened c = refl
-
-pub leave-block-opened : (c : Config) → fwd-unit leave-block c ≡ going (at (with-current (c .state) (with-blocks (c .state .current) (rest (c .state .current .blocks)))) c)
-unfolding fwd-by leave-block _>>=_ and-then get set-current on
-leave-block-opened c = refl
-
-pub enter-loop-opened : (c : Config) → fwd-unit enter-loop c ≡ going (at (with-current (c .state) (with-loops (c .state .current) (c .state .current .loops + 1))) c)
-unfolding fwd-by enter-loop _>>=_ and-then get set-current on
-enter-loop-opened c = refl
-
-pub leave-loop-opened : (c : Config) → fwd-unit leave-loop c ≡ going (at (with-current (c .state) (with-loops (c .state .current) (c .state .current .loops - 1))) c)
-unfolding fwd-by leave-loop _>>=_ and-then get set-current on
-leave-loop-opened c = refl
 
 -- ---- constants, globals
 
@@ -119,13 +101,6 @@ upvalue-found node name c i f fs h = answers-done c (get-upvalue node name) (som
 
 -- ---- functions
 
-pub enter-opened : (node name : ℕ) (c : Config)
-    → fwd-unit (enter-function node name) c
-    ≡ pick (leb 7 (length (c .state .outer))) (stopped Nesting node)
-    (going (at (record { constants = c .state .constants; prototypes = c .state .prototypes; globals = c .state .globals; current = fresh name; outer = c .state .current ∷ c .state .outer }) c))
-unfolding fwd-by enter-function on
-enter-opened node name c = either-run (leb 7 (length (c .state .outer))) Nesting node _ (c .state) _
-
 -- the prototype of the current function, with that code
 abbrev pub finished : ℕ → List Instruction → State → Proto
 finished params code s = record { name = s .current .name; params = params; registers = s .current .registers; captures = s .current .captures; code = code }
@@ -149,25 +124,3 @@ unfolding fwd-by add-prototype on
 prototype-opened node params code c =
     either-run (ltb 32767 (length code + 1)) Long node _ (c .state) _
     ∙ ap (λ r. pick (ltb 32767 (length code + 1)) (stopped Long node) r) (either-run (eqb (length (c .state .prototypes)) 256) Prototypes node _ (c .state) _)
-
-pub leave-opened : (first node params : ℕ) (e : Config) → first ≤ length (e .code)
-    → leave-function first node params e
-    ≡ pick (ltb 32767 (length (e .code) - first + 1)) (stopped Long node)
-    (pick (eqb (length (e .state .prototypes)) 256) (stopped Prototypes node)
-    (going (config (take first (e .code)) (length (e .state .prototypes)) (after params (drop first (emit (inst Return 0 0 0 no-mark) e .code)) (e .state)))))
-unfolding leave-function fwd-by close-function on bind
-leave-opened first node params e h =
-    let close : Config → Run = λ f. fwd-unit close-function f in
-    let n : ℕ = length (drop first (e .code)) + 1 in
-    rw (drop-append-le first (e .code) (inst Return 0 0 0 no-mark ∷ []) h, sym (length-drop first (e .code)))
-    (ap (λ r. bind r close) (prototype-opened node params (drop first (e .code)) (cut first e))
-    ∙ bind-pick (ltb 32767 n) Long node _ close
-    ∙ ap (λ r. pick (ltb 32767 n) (stopped Long node) r) (bind-pick (eqb (length (e .state .prototypes)) 256) Prototypes node _ close))
-
-pub end-program-opened : (node : ℕ) (e : Config)
-    → end-program node e
-    ≡ pick (ltb 32767 (length (e .code) + 1)) (stopped Long node)
-    (pick (eqb (length (e .state .prototypes)) 256) (stopped Prototypes node)
-    (going (config [] (length (e .state .prototypes)) (with-prototype 0 (emit (inst Return 0 0 0 no-mark) e .code) (e .state)))))
-unfolding end-program
-end-program-opened node e = prototype-opened node 0 (e .code) (cut 0 e)

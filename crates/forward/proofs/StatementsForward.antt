@@ -113,10 +113,6 @@ unfolding iterate-each
 iterate-each-forward node mark element i x xs c =
     start _ _ _ _ (step _ _ _ _ _ _ λ r t. next _ _ _ _ _ _ λ z u. now _ _ _ (more _ _ _ _ _ λ l v. same _ _ _ _ (append-assoc (c .code) (_ ∷ []) l)))
 
-pub iterate-none : (node mark element collection counter : ℕ) (c : Config) → going (give 0 c) ≡ fwd-code (iterate node mark element collection counter []) c
-unfolding iterate
-iterate-none node mark element collection counter c = start _ _ _ _ (last _ _ _ _ (same _ _ _ _ (sym (append-nil (c .code)))))
-
 pub iterate-one-forward : (node mark element collection counter : ℕ) (x : Token) (c : Config) → does (iterate-one-calls mark element collection counter x) c ≡ fwd-code (iterate node mark element collection counter (x ∷ [])) c
 unfolding iterate
 iterate-one-forward node mark element collection counter x c = start _ _ _ _ (next _ _ _ _ _ _ λ z t. last _ _ _ _ refl)

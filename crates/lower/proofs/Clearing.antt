@@ -4,7 +4,7 @@ use mathlib.Core.List.{List, [], _∷_, _++_, append-assoc, append-nil}
 use Prim.Native.Nat.{ℕ, suc, _+_, _-_, _<_, _≤_}
 use native.Mathlib.Omega.{arith}
 use native.Mathlib.Numerals.{add-one}
-use lib.ListN.{length, take, drop, replicate, set, length-append, length-drop, length-replicate, take-append-drop, replicate-append-replicate, drop-of-length-le}
+use lib.ListN.{length, take, drop, replicate, set, length-append, length-replicate, take-append-drop, replicate-append-replicate, drop-of-length-le}
 use lib.Seq.{length-take-le, drop-cons, set-at}
 
 abbrev front : (o : List ℕ) (from i : ℕ) → List ℕ
@@ -16,9 +16,6 @@ cleared-to o from i = front o from i ++ drop i o
 module _ (o : List ℕ) (from : ℕ) where
   front-length : (i : ℕ) → from ≤ i → i ≤ length o → length (front o from i) ≡ i
   front-length i f h = omega (arith, length-append (take from o) (replicate (i - from) 0), length-take-le from o (omega arith), length-replicate {A = ℕ} (i - from) 0)
-
-  pub cleared-length : (i : ℕ) → from ≤ i → i ≤ length o → length (cleared-to o from i) ≡ length o
-  cleared-length i f h = omega (arith, length-append (front o from i) (drop i o), front-length i f h, length-drop i o)
 
   pub cleared-none : o ≡ cleared-to o from from
   cleared-none =

@@ -1,21 +1,20 @@
 -- A block and a loop around a step, for those who call enter and leave around it: what is inside is promised in the scope inside, the whole in the scope around.
-use mathlib.Core.Path.{_≡_, refl, ap, _∙_}
+use mathlib.Core.Path.{_≡_, refl, _∙_}
 use mathlib.Core.List.{List}
 use Prim.Native.Nat.{ℕ, suc, _+_, _-_, _<_, _≤_}
 use native.Mathlib.Omega.{arith}
 use Rattle.store.specs.declared.Step.{Step}
 use Rattle.store.specs.declared.Scope.{Scope}
 use Rattle.store.specs.Layout.{first}
-use Rattle.store.specs.Store.{open-at, state-of, run, deeper, looped, Image, Sound, Fine, Kept}
-use Rattle.store.specs.Promise.{Cost, nothing, boxed, Used, Moves, Leaf, After, Does, Popped}
+use Rattle.store.specs.Store.{open-at, state-of, run, deeper, looped, Sound, Fine, Kept}
+use Rattle.store.specs.Promise.{Cost, nothing, boxed, Used, Moves, Leaf, Popped}
 use Rattle.store.proofs.Runs.{due, promised, stays, ran, kept-refl}
 use Rattle.store.proofs.Compose.{moves-then, moves-by}
 use Rattle.store.proofs.Leaving.{left-moves, left-runs}
-use Rattle.meaning.specs.State.{Proto, and-then, _>>=_, get, set-current, enter-block, leave-block, enter-loop, leave-loop}
+use Rattle.meaning.specs.State.{Proto, and-then, _>>=_, get, set-current, leave-block, enter-loop, leave-loop}
 use Rattle.meaning.specs.declared.Outcome.{Outcome}
 use Rattle.meaning.specs.declared.Outcome.the-variants.{Accepted, Refused}
-use Rattle.forward.specs.Forward.{Config, Run, bind, fwd-unit}
-use Rattle.forward.proofs.Steps.{bind-assoc}
+use Rattle.forward.specs.Forward.{bind, fwd-unit}
 
 -- ---- blocks
 
@@ -32,26 +31,6 @@ block-left {w} {w1} {w2} {w3} {p} {s} {r} h k m g =
   where
     start : (j : ℕ) → j ≤ p .depth → first w2 j ≤ p .block
     start j l = let a = h .sound .starts j l in omega (arith, a, m .kept .firsts j l, k .firsts j l)
-
--- both
-pub blocked : {w w1 w2 w3 o o' : List ℕ} {p : Scope} {s r : Step} {u : Cost} (op : Config → Run) → Fine w p s → Kept w (deeper p) w1 → Leaf w p s w1 (deeper p) s nothing (fwd-unit enter-block) → Does w1 o (deeper p) s w2 o' (deeper p) r u op → Popped w2 p w3
-    → Does w o p s w3 o' p r (boxed u) (λ c. bind (fwd-unit enter-block c) (λ d. bind (op d) (fwd-unit leave-block)))
-blocked {w} {w1} {w2} {w3} {o} {o'} {p} {s} {r} {u} op h k e m g = record { moves = block-around h k (e .moves) (m .moves) g; same = m .same; does = does }
-  where
-    left : (ps : List Proto) (a : After w2 o' (deeper p) r (bind (run w1 (deeper p) s ps) op)) → After w3 o' p r (bind (run w p s ps) (λ c. bind (fwd-unit enter-block c) (λ d. bind (op d) (fwd-unit leave-block))))
-    left ps a =
-        record {
-          protos = a .protos;
-          image = a .image;
-          runs =
-              block-left h k (m .moves) g (a .protos)
-              ∙ ap (λ x. bind x (fwd-unit leave-block)) (a .runs ∙ ap (λ x. bind x op) (e .runs ps))
-              ∙ bind-assoc (bind (run w p s ps) (fwd-unit enter-block)) op (fwd-unit leave-block)
-              ∙ bind-assoc (run w p s ps) (fwd-unit enter-block) (λ d. bind (op d) (fwd-unit leave-block));
-        }
-
-    does : (ps : List Proto) → Image o s ps → After w3 o' p r (bind (run w p s ps) (λ c. bind (fwd-unit enter-block c) (λ d. bind (op d) (fwd-unit leave-block))))
-    does ps i = left ps (m .does ps (e .image o ps i))
 
 -- ---- loops: another scope, no code
 

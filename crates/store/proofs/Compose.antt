@@ -21,7 +21,6 @@ use Rattle.meaning.specs.declared.Cause.{Cause}
 use Rattle.meaning.specs.declared.Outcome.{Outcome}
 use Rattle.meaning.specs.declared.Outcome.the-variants.{Accepted, Refused}
 use Rattle.forward.specs.Forward.{Config, config, Run, stopped, going, bind, sure, give}
-use Rattle.forward.proofs.Steps.{bind-assoc}
 use Rattle.forward.proofs.Calls.{Seen, seen, Known, finally, read, chain}
 use Rattle.forward.proofs.Opened.{answers-get}
 
@@ -80,29 +79,12 @@ room-by {w} {p} {s} {k} {a} {b} k' a' b' x y h = record { roomy = promised (s .o
 
 -- ---- runs
 
-pub leaf-then : {w w1 w2 : List ℕ} {p q t : Scope} {s s1 s2 : Step} {u v : Cost} (f g : Config → Run) → p .nodes ≡ q .nodes → p .depth ≤ q .depth → p .block ≤ q .block → Leaf w p s w1 q s1 u f → Leaf w1 q s1 w2 t s2 v g → Leaf w p s w2 t s2 (both u v) (λ c. bind (f c) g)
-leaf-then {w} {w1} {w2} {p} {q} {t} {s} {s1} {s2} f g n d b x y =
-    record {
-      moves = moves-then n d b (x .moves) (y .moves);
-      runs = λ ps. y .runs ps ∙ ap (λ z. bind z g) (x .runs ps) ∙ bind-assoc (run w p s ps) f g;
-      image = λ o ps i. y .image o ps (x .image o ps i);
-    }
-
 -- a leaf, among steps that write to the output
 pub leaf-after : {w w' : List ℕ} {p q : Scope} {s r : Step} {u : Cost} {op : Config → Run} → Leaf w p s w' q r u op → (o : List ℕ) (ps : List Proto) → Image o s ps → After w' o q r (bind (run w p s ps) op)
 leaf-after g o ps i = record { protos = ps; image = g .image o ps i; runs = g .runs ps }
 
 pub leaf-does : {w w' : List ℕ} {p q : Scope} {s r : Step} {u : Cost} {op : Config → Run} → Leaf w p s w' q r u op → (o : List ℕ) → Does w o p s w' o q r u op
 leaf-does g o = record { moves = g .moves; same = refl; does = leaf-after g o }
-
-pub does-then : {w w1 w2 o o1 o2 : List ℕ} {p q t : Scope} {s s1 s2 : Step} {u v : Cost} (f g : Config → Run) → p .nodes ≡ q .nodes → p .depth ≤ q .depth → p .block ≤ q .block → Does w o p s w1 o1 q s1 u f → Does w1 o1 q s1 w2 o2 t s2 v g → Does w o p s w2 o2 t s2 (both u v) (λ c. bind (f c) g)
-does-then {w} {w1} {w2} {o} {o1} {o2} {p} {q} {t} {s} {s1} {s2} f g n d b x y = record { moves = moves-then n d b (x .moves) (y .moves); same = y .same ∙ x .same; does = does }
-  where
-    next : (ps : List Proto) (a : After w1 o1 q s1 (bind (run w p s ps) f)) → After w2 o2 t s2 (bind (run w1 q s1 (a .protos)) g) → After w2 o2 t s2 (bind (run w p s ps) (λ c. bind (f c) g))
-    next ps a c = record { protos = c .protos; image = c .image; runs = c .runs ∙ ap (λ z. bind z g) (a .runs) ∙ bind-assoc (run w p s ps) f g }
-
-    does : (ps : List Proto) → Image o s ps → After w2 o2 t s2 (bind (run w p s ps) (λ c. bind (f c) g))
-    does ps i = let a = x .does ps i in next ps a (y .does (a .protos) (a .image))
 
 -- what the code reads from a step
 abbrev pub seen-of : Step → Seen

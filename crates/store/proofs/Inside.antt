@@ -9,14 +9,13 @@ use native.Mathlib.Numerals.{add-one}
 use lib.ListN.{getD}
 use Rattle.store.specs.declared.Step.{Step}
 use Rattle.store.specs.declared.Scope.{Scope}
-use Rattle.store.specs.Layout.{registers, first, edge}
+use Rattle.store.specs.Layout.{first}
 use Rattle.store.specs.Store.{open-at, around, state-of, run, deeper, inner, Sound, Fine, Kept}
-use Rattle.store.specs.Promise.{Cost, nothing, taken, Used, Moves, Popped}
-use Rattle.store.specs.Opening.{Enters, Leavable, Closed, inside}
+use Rattle.store.specs.Promise.{Cost, nothing, Moves, Popped}
+use Rattle.store.specs.Opening.{Enters, Leavable}
 use Rattle.store.proofs.Regions.{constants-same, globals-same}
 use Rattle.store.proofs.Runs.{due, promised, goes, kept-in, stays, ran}
-use Rattle.store.proofs.Steady.{taken-by}
-use Rattle.store.proofs.Leaving.{popped-same, popped-edge, popped-rises, popped-taken, popped-kept, popped-code, sound-left, left-around}
+use Rattle.store.proofs.Leaving.{popped-same, popped-edge, popped-rises, popped-code, sound-left, left-around}
 use Rattle.meaning.specs.State.{Proto, done, close-function}
 use Rattle.meaning.specs.declared.Outcome.{Outcome}
 use Rattle.meaning.specs.declared.Outcome.the-variants.{Accepted, Refused}
@@ -108,37 +107,3 @@ module _ {w w1 w2 : List ℕ} {p : Scope} {s s1 s2 : Step} {v : Cost} {node name
         first-is = m .kept .firsts (suc (p .depth)) (omega arith) ∙ enters .first-is;
         saved-is = m .kept .saves (suc (p .depth)) (omega arith) ∙ enters .saved-is;
       }
-
-  module _ {w3 : List ℕ} (g : Popped w2 p w3) where
-    inner-sound : Sound w2 (deeper p)
-    inner-sound = inner-deeper (m .fine .sound) leavable
-
-    around-edge : edge w3 (p .nodes) (p .block) ≡ edge w (p .nodes) (p .block)
-    around-edge = popped-edge p inner-sound g (p .block) (omega arith) ∙ m .kept .edges (p .block) (omega arith) ∙ enters .start
-
-    around-taken : taken w3 (p .depth) ≡ taken w (p .depth)
-    around-taken =
-        popped-taken p inner-sound g (p .depth) (fine .sound .deep)
-        ∙ taken-by w1 w2 (p .depth) (λ j l. m .kept .outer j (omega arith))
-        ∙ taken-by w w1 (p .depth) (λ j l. same j l (decLt j (p .depth)))
-      where
-        same : (j : ℕ) → j ≤ p .depth → Dec (j < p .depth) → registers w1 j ≡ registers w j
-        same j l (yes a) = enters .leaf .moves .kept .outer j a
-        same j l (no a) = let e : j ≡ p .depth = omega arith in rw e (enters .own)
-
-    pub function-around : {s3 : Step} → Fine w3 p s3 → Closed s2 (s1 .code) s3 → Moves w p s w3 p s3 (inside v)
-    function-around {s3} h c =
-        record {
-          fine = h;
-          kept = kept-in refl (omega arith) (omega arith) around-kept (popped-kept p inner-sound g p refl (fine .sound .deep) (omega arith));
-          back = λ z. enters .leaf .moves .back (m .back (c .back z));
-          used = promised (s3 .outcome) (λ z. used (due (s3 .outcome) (c .code) z) (due (s2 .outcome) (m .used) (c .back z)) (due (s1 .outcome) (enters .leaf .moves .used) (m .back (c .back z))));
-          longer = omega (arith, c .longer, enters .code);
-          still = λ z. around-edge;
-        }
-      where
-        used : s3 .code ≡ s1 .code → Used w1 (inner p) s1 w2 (inner p) s2 v → Used w p s w1 (inner p) s1 nothing → Used w p s w3 p s3 (inside v)
-        used e i j =
-            let t = around-taken in
-            let a = around-edge in
-            record { words = omega (arith, e, enters .code); locals = omega arith; names = omega (arith, i .names, j .names, c .constants, c .globals); registers = omega arith }

@@ -10,7 +10,7 @@ use Rattle.store.specs.declared.Scope.{Scope}
 use Rattle.store.specs.Table.{tab, span}
 use Rattle.store.specs.Layout.{registers, first, edge, block, inst-at, top}
 use Rattle.store.specs.Store.{open-at, around, state-of, run, deeper, Sound, Fine, Kept}
-use Rattle.store.specs.Promise.{Cost, uses, boxed, taken, Used, Moves, Leaf, Popped}
+use Rattle.store.specs.Promise.{Cost, boxed, taken, Used, Moves, Popped}
 use Rattle.store.proofs.Tables.{span-more}
 use Rattle.store.proofs.Regions.{Same, blocks-same, constants-same, globals-same, code-same, around-same, alike-by, open-by, edges-below}
 use Rattle.store.proofs.Steady.{kept-by, taken-same}
@@ -153,37 +153,3 @@ module _ (w w' : List ℕ) (p : Scope) (r : Step) (fine : Fine w (deeper p) r) (
 
   pub left-runs : (ps : List Proto) → run w' p r ps ≡ bind (run w (deeper p) r ps) (fwd-unit leave-block)
   left-runs = left-by (r .outcome) refl
-
--- leaving alone, as a step of its own: a local is charged, since the edge is another's
-pub left-leaf : {w w' : List ℕ} {p : Scope} {r : Step} → Fine w (deeper p) r → ((j : ℕ) → j ≤ p .depth → first w j < p .block) → Popped w p w' → Leaf w (deeper p) r w' p r (uses 0 1 0) (fwd-unit leave-block)
-left-leaf {w} {w'} {p} {r} h starts g =
-    record {
-      moves =
-          record {
-            fine =
-                record {
-                  sound = sound-left p (h .sound) g starts;
-                  nested = h .nested;
-                  room = omega (arith, h .room, popped-rises p (h .sound) g, popped-edge p (h .sound) g (p .block) (omega arith));
-                  constants = h .constants;
-                  globals = h .globals;
-                  functions = h .functions;
-                  written = h .written;
-                  result = h .result;
-                };
-            kept = popped-kept p (h .sound) g (deeper p) refl (h .sound .deep) (omega arith);
-            back = λ z. z;
-            used = promised (r .outcome) (λ z. used);
-            longer = omega arith;
-            still = λ z. absurd (omega arith);
-          };
-      runs = left-runs w w' p r h (let a = starts (p .depth) (omega arith) in omega arith) (λ j l. let a = starts (suc j) l in omega arith) g;
-      image = λ o ps i. i;
-    }
-  where
-    used : Used w (deeper p) r w' p r (uses 0 1 0)
-    used =
-        let t = popped-taken p (h .sound) g (p .depth) (h .sound .deep) in
-        let a = popped-rises p (h .sound) g in
-        let b = popped-edge p (h .sound) g (p .block) (omega arith) in
-        record { words = omega arith; locals = omega arith; names = omega arith; registers = omega arith }

@@ -15,12 +15,12 @@ use Rattle.store.specs.declared.Scope.{Scope}
 use Rattle.store.specs.Half.{with-half}
 use Rattle.store.specs.Table.{tab, stack, span}
 use Rattle.store.specs.Layout.{constant-by, constant-at, global-at, first, block, top}
-use Rattle.store.specs.Store.{open-at, around, state-of, while-going, global-scope, refused-step, Sound, Fine}
-use Rattle.store.specs.Promise.{a-constant, a-global, Room, Moves, Leaf, Tells}
+use Rattle.store.specs.Store.{open-at, around, state-of, global-scope, refused-step, Sound, Fine}
+use Rattle.store.specs.Promise.{a-constant, a-global, Moves, Leaf, Tells}
 use Rattle.store.proofs.Tables.{tab-suc, tab-length, stack-none, stack-suc, stack-ext, span-more, span-none}
 use Rattle.store.proofs.Halves.{length-half, word-other, half-same, half-other}
 use Rattle.store.proofs.Regions.{Same, Only, only-set, only-trans, only-wider, below, above, constants-same, globals-same, code-same}
-use Rattle.store.proofs.Runs.{due, promised, ran, ran-out, image-same, image-none}
+use Rattle.store.proofs.Runs.{promised, ran, ran-out, image-same, image-none}
 use Rattle.store.proofs.Steady.{Clear, sound-apart, kept-apart, edge-apart, open-apart, around-apart, taken-apart, fine-words, fine-step}
 use Rattle.store.proofs.Steps.{refused-outcome, refused-moves}
 use Rattle.store.proofs.Compose.{told-of}
@@ -193,10 +193,6 @@ module _ (w : List ℕ) (p : Scope) (s : Step) (fine : Fine w p s) (shallow : p 
             (code-same w global-words (p .nodes) (s .code) (omega (arith, fine .room)) (above (top (p .nodes) - 2 * s .code) (top (p .nodes)) (omega (arith, fine .room, within)) global-only)) refl (global-next ps);
         image = image-same s (global-more s) refl refl;
       }
-
--- in a global context there is room for one global more
-pub global-room : {w : List ℕ} {p : Scope} {s : Step} {k a b : ℕ} → Room w p s k a b → p .block ≡ 1 → while-going (s .outcome) (s .globals ≤ s .constants)
-global-room {w} {p} {s} h e = promised (s .outcome) (λ g. let r = due (s .outcome) (h .roomy) g in omega (arith, r .globals))
 
 pub global-here : (p : Scope) → global-scope p ≡ true → (p .depth ≡ 0) × (p .block ≡ 1)
 global-here p e = cases (ℕ-discrete (p .depth) 0) (ℕ-discrete (p .block) 1)

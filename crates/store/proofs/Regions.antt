@@ -22,12 +22,6 @@ pub record Only (w w' : List ℕ) (a b : ℕ) : Type 0 where
   pub length : length w' ≡ length w
   pub other : (i : ℕ) → (a ≤ i → b ≤ i) → getD w' i 0 ≡ getD w i 0
 
-pub same-refl : (w : List ℕ) (a b : ℕ) → Same w w a b
-same-refl w a b = record { same = λ i k l. refl }
-
-pub same-trans : {w w1 w2 : List ℕ} {a b : ℕ} → Same w w1 a b → Same w1 w2 a b → Same w w2 a b
-same-trans g h = record { same = λ i k l. h .same i k l ∙ g .same i k l }
-
 pub same-part : {w w' : List ℕ} {a b : ℕ} (c d : ℕ) → a ≤ c → d ≤ b → Same w w' a b → Same w w' c d
 same-part c d h k g = record { same = λ i x y. g .same i (omega arith) (omega arith) }
 

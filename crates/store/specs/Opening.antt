@@ -6,7 +6,7 @@ use lib.ListN.{length, getD}
 use Rattle.store.specs.declared.Step.{Step}
 use Rattle.store.specs.declared.Scope.{Scope}
 use Rattle.store.specs.Layout.{name-of, registers, held, first, saved, edge}
-use Rattle.store.specs.Store.{run, main-scope, inner, first-step, goes-on, while-going, Image, Fine}
+use Rattle.store.specs.Store.{run, main-scope, inner, first-step, Image, Fine}
 use Rattle.store.specs.Promise.{Cost, Room, nothing, Leaf}
 use Rattle.meaning.specs.Lower.{start}
 use Rattle.meaning.specs.State.{enter-function}
@@ -52,14 +52,6 @@ pub record Leavable (w : List ℕ) (p : Scope) : Type 0 where
   pub starts : (j : ℕ) → j ≤ p .depth → first w j < p .block
   pub first-is : first w (suc (p .depth)) ≡ p .block
   pub saved-is : saved w (suc (p .depth)) ≡ p .loops
-
--- a function's code is cut off, from `first` on, or a refusal stands; the pools stay
-pub record Closed (s : Step) (first : ℕ) (r : Step) : Type 0 where
-  pub code : while-going (r .outcome) (r .code ≡ first)
-  pub longer : first ≤ r .code
-  pub back : goes-on (r .outcome) → goes-on (s .outcome)
-  pub constants : r .constants ≡ s .constants
-  pub globals : r .globals ≡ s .globals
 
 -- the cost of a function inside: its code, its locals and its registers are given back
 abbrev pub inside : Cost → Cost
