@@ -1,0 +1,183 @@
+// visit_enhanced_for_stmt: the head of the loop.
+ghost use Prim.Native.Nat.{_+_, _*_, _<_, _≤_};
+ghost use lib.ListN.{length};
+ghost use Rattle.meaning.specs.Fields.{words};
+ghost use Rattle.meaning.specs.Statements.{iterate-each, iterate};
+ghost use Rattle.forward.specs.Forward.{fwd-code, open-for-in, head-for-in};
+ghost use Rattle.store.specs.Store.{while-going, Fine};
+ghost use Rattle.store.specs.Promise.{uses, some-registers, both, Room, Leaf};
+ghost use Rattle.parts.specs.Parts.{tokens-from};
+use crate::LOAD_K;
+use instruction::OpCode;
+use meaning::Literal;
+use meaning::Outcome;
+use store::Scope;
+use store::Step;
+
+const LT: u32 = OpCode::Lt as u32;
+
+const GET_ITER: u32 = OpCode::GetIter as u32;
+
+const GET_ITERK: u32 = OpCode::GetIterk as u32;
+
+const GET_ITERI: u32 = OpCode::GetIteri as u32;
+
+const LENGTH: u32 = OpCode::Length as u32;
+
+// visit_enhanced_for_stmt before the collection: registers of counter, size, condition and element; the counter is 0.
+pub fn open_for_in(work: &mut [u32], step: Step, scope: Scope, node: usize, mark: u32) -> Step
+    requires { ⌜ Fine (now work) scope step × Room (now work) scope step 0 0 0 ⌝ }
+    ensures { λ r. ⌜ Leaf (now (work .entry)) scope step (now (work .exit)) scope r (both (some-registers 4) (uses 2 0 0)) (open-for-in node mark) × while-going (r .outcome) (r .result + 3 < 255) ⌝ }
+{
+    let counter = store::next_register(work, step, scope, node);
+    let size = store::next_register(work, counter, scope, node);
+    let condition = store::next_register(work, size, scope, node);
+    let element = store::next_register(work, condition, scope, node);
+    let zero = store::add_constant(work, element, scope, Literal::Number(0.0), node);
+    code::put_wide(
+        work,
+        zero,
+        scope,
+        LOAD_K,
+        counter.result,
+        zero.result,
+        mark,
+        counter.result,
+    )
+}
+
+// A register, a local and a GetIteri for each of the n names from word `from` of the payload on.
+fn iterate_each(
+    payload: &[u8],
+    work: &mut [u32],
+    step: Step,
+    scope: Scope,
+    node: usize,
+    from: usize,
+    n: usize,
+    element: u32,
+    mark: u32,
+) -> Step
+    requires { ⌜ Fine (now work) scope step × Room (now work) scope step 0 0 0 × (from + 2 * n ≤ length (words (now payload))) × (n < 65536) × while-going (step .outcome) (element < 256) ⌝ }
+    ensures { λ r. ⌜ Leaf (now (work .entry)) scope step (now (work .exit)) scope r (both (some-registers n) (uses (3 * n) n 0)) (fwd-code (iterate-each node mark element 0 (tokens-from (now (payload .entry)) from n))) ⌝ }
+{
+    let mut last = step;
+    let mut k: usize = 0;
+    while k < n {
+        let name = nodes::child(payload, from + 2 * k);
+        let next = store::declare_parameter(work, last, scope, name, node);
+        last = code::emit(
+            work,
+            next,
+            scope,
+            GET_ITERI,
+            next.result,
+            element,
+            k as u32,
+            mark,
+        );
+        k += 1;
+    }
+    store::settle(last, 0)
+}
+
+// One name names the element, several its parts.
+fn iterate(
+    payload: &[u8],
+    work: &mut [u32],
+    step: Step,
+    scope: Scope,
+    node: usize,
+    from: usize,
+    n: usize,
+    collection: u32,
+    counter: u32,
+    mark: u32,
+) -> Step
+    requires { ⌜ Fine (now work) scope step × Room (now work) scope step 0 3 1 × (1 ≤ n) × (from + 2 * n ≤ length (words (now payload))) × (n < 65536) × (counter + 3 < 255) × (collection < 256) ⌝ }
+    ensures { λ r. ⌜ Leaf (now (work .entry)) scope step (now (work .exit)) scope r (uses 3 1 0) (fwd-code (iterate node mark (counter + 3) collection counter (tokens-from (now (payload .entry)) from n))) ⌝ }
+{
+    if n == 1 {
+        let name = nodes::child(payload, from);
+        store::allocate_register(work, step, scope, name, counter + 3);
+        code::put(
+            work,
+            step,
+            scope,
+            GET_ITERK,
+            counter + 3,
+            collection,
+            counter,
+            mark,
+            0,
+        )
+    } else {
+        let gotten = code::emit(
+            work,
+            step,
+            scope,
+            GET_ITER,
+            counter + 3,
+            collection,
+            counter,
+            mark,
+        );
+        iterate_each(
+            payload,
+            work,
+            gotten,
+            scope,
+            node,
+            from,
+            n,
+            counter + 3,
+            mark,
+        )
+    }
+}
+
+// visit_enhanced_for_stmt after the collection: the condition, then the names' registers.
+pub fn head_for_in(
+    payload: &[u8],
+    work: &mut [u32],
+    step: Step,
+    scope: Scope,
+    node: usize,
+    from: usize,
+    n: usize,
+    counter: u32,
+    mark: u32,
+) -> Step
+    requires { ⌜ Fine (now work) scope step × Room (now work) scope step 0 11 1 × (1 ≤ n) × (from + 2 * n ≤ length (words (now payload))) × (n < 65536) × while-going (step .outcome) ((counter + 3 < 255) × (step .result < 256)) ⌝ }
+    ensures { λ r. ⌜ Leaf (now (work .entry)) scope step (now (work .exit)) scope r (uses 11 1 0) (head-for-in node (tokens-from (now (payload .entry)) from n) counter mark) ⌝ }
+{
+    let o = step.outcome;
+    let Outcome::Accepted(_) = o else {
+        return step;
+    };
+    let sized = code::emit(work, step, scope, LENGTH, counter + 1, step.result, 0, mark);
+    let compared = code::put(
+        work,
+        sized,
+        scope,
+        LT,
+        counter + 2,
+        counter,
+        counter + 1,
+        mark,
+        counter + 2,
+    );
+    let tested = code::test_and_jump(work, compared, scope, 0, mark);
+    iterate(
+        payload,
+        work,
+        tested,
+        scope,
+        node,
+        from,
+        n,
+        step.result,
+        counter,
+        mark,
+    )
+}
