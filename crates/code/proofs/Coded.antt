@@ -9,7 +9,7 @@ use Rattle.store.specs.declared.Step.{Step}
 use Rattle.store.specs.declared.Scope.{Scope}
 use Rattle.store.specs.Table.{tab}
 use Rattle.store.specs.Layout.{edge, top, inst-at}
-use Rattle.store.specs.Store.{state-of, config-of, run-by, run, while-going, result-limit, refused-step, Fine}
+use Rattle.store.specs.Store.{state-of, config-of, run-by, run, while-going, result-limit, advanced, refused-step, Fine}
 use Rattle.store.specs.Promise.{uses, Cost, Room, Leaf}
 use Rattle.store.proofs.Tables.{tab-length, tab-getD}
 use Rattle.store.proofs.Regions.{Same, Only, below, constants-same, globals-same}
@@ -37,9 +37,6 @@ pub room-for : {w : List ℕ} {p : Scope} {s : Step} {x : ℕ} (a : ℕ) → Fin
 room-for {w} {p} {s} a fine on room = omega (arith, met on (room .roomy) .words, taken-few w (p .depth), shallow s fine on)
 
 -- ---- the code alone
-
-abbrev pub with-code : Step → (code result : ℕ) → Step
-with-code s k v = record { outcome = s .outcome; code = k; constants = s .constants; globals = s .globals; functions = s .functions; result = v }
 
 pub result-small : {w : List ℕ} {p : Scope} {s : Step} {x : ℕ} → Fine w p s → s .outcome ≡ Accepted x → s .result < 1024
 result-small {w} {p} {s} fine on = cases (s .outcome) on (fine .result)
@@ -81,7 +78,7 @@ module _ {w w' : List ℕ} {p : Scope} {s : Step} {x : ℕ} (fine : Fine w p s) 
 pub coded : {w w' : List ℕ} {p : Scope} {s : Step} {x k : ℕ} {l : List Instruction} (v a : ℕ) (op : Config → Run)
     → Fine w p s → s .outcome ≡ Accepted x → Spelled w w' (p .nodes) (5724 + 2 * p .nodes + edge w (p .nodes) (p .block)) k l → s .code ≤ k → 2 * k ≤ 2 * s .code + a → v < 1024
     → ((t : State) → going (config l v t) ≡ op (config (tab (inst-at w (p .nodes)) (s .code)) (s .result) t))
-    → Leaf w p s w' p (with-code s k v) (uses a 0 0) op
+    → Leaf w p s w' p (advanced s k v) (uses a 0 0) op
 unfolding run config-of state-of bind
 coded {w} {w'} {p} {s} {k = k} v a op fine on written le most small wants =
     let only = written .only in

@@ -6,7 +6,7 @@ use lib.ListN.{length, drop}
 use Rattle.store.specs.declared.Step.{Step}
 use Rattle.store.specs.declared.Scope.{Scope}
 use Rattle.store.specs.Layout.{edge}
-use Rattle.store.specs.Store.{run, goes-on, while-going, inner, Image, Fine, Kept}
+use Rattle.store.specs.Store.{run, advanced, goes-on, while-going, inner, Image, Fine, Kept}
 use Rattle.store.specs.Promise.{Cost, Used, After}
 use Rattle.meaning.specs.State.{Proto, add-prototype}
 use Rattle.meaning.specs.declared.Outcome.{Outcome}
@@ -15,11 +15,11 @@ use Rattle.forward.specs.Forward.{Config, Run, bind, fwd-number, cut, end-progr
 
 -- the code back to a length
 abbrev pub cut-step : Step → ℕ → Step
-cut-step s first = record { outcome = s .outcome; code = first; constants = s .constants; globals = s .globals; functions = s .functions; result = s .result }
+cut-step s first = advanced s first (s .result)
 
 -- binary_literal at Minus, the dropped pass: a refused step stays
 abbrev pub rolled-by : Outcome → Step → ℕ → Step
-rolled-by (Accepted written) s first = record { outcome = s .outcome; code = first; constants = s .constants; globals = s .globals; functions = s .functions; result = 0 }
+rolled-by (Accepted written) s first = advanced s first 0
 rolled-by (Refused cause node) s first = s
 
 abbrev pub rolled-step : Step → ℕ → Step

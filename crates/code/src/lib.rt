@@ -189,10 +189,7 @@ pub fn put(
     };
     let code = step.code;
     write(work, scope.nodes, code, pack(op, a, b, c), mark);
-    let mut next = step;
-    next.code = code + 1;
-    next.result = result;
-    next
+    store::advance(step, code + 1, result)
 }
 
 // The same with a 16-bit number.
@@ -215,10 +212,7 @@ pub fn put_wide(
     };
     let code = step.code;
     write(work, scope.nodes, code, pack_wide(op, a, n as usize), mark);
-    let mut next = step;
-    next.code = code + 1;
-    next.result = result;
-    next
+    store::advance(step, code + 1, result)
 }
 
 // One instruction more; the result stays.
@@ -284,10 +278,7 @@ pub fn roll_back(step: Step, first: usize) -> Step
     let Outcome::Accepted(_) = o else {
         return step;
     };
-    let mut next = step;
-    next.code = first;
-    next.result = 0;
-    next
+    store::advance(step, first, 0)
 }
 
 // ---- jumps over code that is not there yet
@@ -311,9 +302,7 @@ pub fn test_and_jump(work: &mut [u32], step: Step, scope: Scope, flag: u32, mark
         mark,
     );
     write(work, scope.nodes, code + 1, JMP, mark);
-    let mut next = step;
-    next.code = code + 2;
-    next
+    store::advance(step, code + 2, result)
 }
 
 // visit_logical_expr after its right side; the left side's result is the whole's.
@@ -347,10 +336,7 @@ pub fn end_logical(
         pack_wide(JMP, 0, code - test),
         mark,
     );
-    let mut next = step;
-    next.code = code + 1;
-    next.result = left;
-    next
+    store::advance(step, code + 1, left)
 }
 
 // visit_if_stmt after the statements of a condition: the jump to the end, which end_if sets.
@@ -371,10 +357,7 @@ pub fn end_branch(work: &mut [u32], step: Step, scope: Scope, test: usize, mark:
         pack_wide(JMP, 0, code - test),
         mark,
     );
-    let mut next = step;
-    next.code = code + 1;
-    next.result = 0;
-    next
+    store::advance(step, code + 1, 0)
 }
 
 // ---- statements that end in one instruction
@@ -400,10 +383,7 @@ pub fn end_return(work: &mut [u32], step: Step, scope: Scope, node: usize, mark:
         pack(RETURN, result, result + 2, 0),
         mark,
     );
-    let mut next = step;
-    next.code = code + 1;
-    next.result = 0;
-    next
+    store::advance(step, code + 1, 0)
 }
 
 // ---- loops
@@ -446,10 +426,7 @@ pub fn end_loop(
     };
     let code = step.code;
     close_loop(work, scope.nodes, code, first, condition, test, mark);
-    let mut next = step;
-    next.code = code + 1;
-    next.result = result;
-    next
+    store::advance(step, code + 1, result)
 }
 
 // visit_enhanced_for_stmt after the body; Length and Lt stand before the Test.
@@ -486,10 +463,7 @@ pub fn end_for_in(
         condition + 2,
         mark,
     );
-    let mut next = step;
-    next.code = code + 2;
-    next.result = 0;
-    next
+    store::advance(step, code + 2, 0)
 }
 
 // ---- if and try
@@ -504,9 +478,7 @@ pub fn end_if(work: &mut [u32], step: Step, scope: Scope, first: usize) -> Step
         return step;
     };
     patch_ends(work, scope.nodes, first, step.code);
-    let mut next = step;
-    next.result = 0;
-    next
+    store::settle(step, 0)
 }
 
 // visit_try_catch_stmt before the body.
@@ -529,9 +501,7 @@ pub fn end_try_body(work: &mut [u32], step: Step, scope: Scope) -> Step
     let code = step.code;
     write(work, scope.nodes, code, DEREGISTER_TRY_CATCH, NO_MARK);
     write(work, scope.nodes, code + 1, JMP, NO_MARK);
-    let mut next = step;
-    next.code = code + 2;
-    next
+    store::advance(step, code + 2, step.result)
 }
 
 // visit_try_catch_stmt: RegisterTryCatch at `first`, then the first jump that is not set; `body` is the length after the body.
@@ -552,9 +522,7 @@ pub fn end_try(work: &mut [u32], step: Step, scope: Scope, first: usize, body: u
         NO_MARK,
     );
     patch_first(work, scope.nodes, first, code, code - (body + 1));
-    let mut next = step;
-    next.result = 0;
-    next
+    store::settle(step, 0)
 }
 
 // ---- functions and classes
@@ -576,10 +544,7 @@ pub fn closure(work: &mut [u32], step: Step, scope: Scope, register: u32, mark: 
         pack_wide(CLOSURE, register, step.result as usize),
         mark,
     );
-    let mut next = step;
-    next.code = code + 1;
-    next.result = register;
-    next
+    store::advance(step, code + 1, register)
 }
 
 // Class, of the superclass that is the result.
@@ -599,9 +564,7 @@ pub fn make_class(work: &mut [u32], step: Step, scope: Scope, class: u32, mark: 
         pack(CLASS, class, class + 1, step.result),
         mark,
     );
-    let mut next = step;
-    next.code = code + 1;
-    next
+    store::advance(step, code + 1, step.result)
 }
 
 // The end of a body of `count` statements that begins at `first`: 13 Return, then 12 Empty, for one statement alone.
@@ -622,8 +585,6 @@ pub fn end_body(
     };
     let code = step.code;
     let result = step.result;
-    let mut next = step;
-    next.result = 0;
     if count == 1 {
         if result == 254 {
             return store::refuse(step, Cause::Returned, node);
@@ -640,10 +601,9 @@ pub fn end_body(
             pack(RETURN, result, result + 2, 0),
             mark,
         );
-        next.code = code + 1;
-        return next;
+        return store::advance(step, code + 1, 0);
     }
-    next
+    store::advance(step, code, 0)
 }
 
 // ---- finished prototypes

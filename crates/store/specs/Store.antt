@@ -81,8 +81,12 @@ global-scope p = eqb (p .depth) 0 && eqb (p .block) 1
 abbrev pub first-step : Step
 first-step = record { outcome = Accepted 0; code = 0; constants = 0; globals = 0; functions = 0; result = 0 }
 
+-- so many instructions, and this result
+abbrev pub advanced : Step → (code result : ℕ) → Step
+advanced s k r = record { outcome = s .outcome; code = k; constants = s .constants; globals = s .globals; functions = s .functions; result = r }
+
 abbrev pub with-result : Step → ℕ → Step
-with-result s r = record { outcome = s .outcome; code = s .code; constants = s .constants; globals = s .globals; functions = s .functions; result = r }
+with-result s r = advanced s (s .code) r
 
 -- refused now, or before
 abbrev pub refused-by : Outcome → Cause → ℕ → Outcome

@@ -11,7 +11,7 @@ ghost use Rattle.store.specs.declared.Step.{Step};
 ghost use Rattle.store.specs.Half.{half, with-half};
 ghost use Rattle.store.specs.Table.{stack};
 ghost use Rattle.store.specs.Layout.{constant-by, global-at, local-at};
-ghost use Rattle.store.specs.Store.{first-step, refused-step, with-result, while-going, global-scope, deeper, inner, Sound, Fine, Kept};
+ghost use Rattle.store.specs.Store.{first-step, refused-step, advanced, with-result, while-going, global-scope, deeper, inner, Sound, Fine, Kept};
 ghost use Rattle.store.specs.Promise.{nothing, a-register, some-registers, a-local, a-constant, a-global, both, a-parameter, Room, Leaf, Told, Tells, Popped, Latest, Unlinked};
 ghost use Rattle.store.specs.Search.{option-of, found-of, in-byte, seek, Walkable, Added, Sought, Ready};
 ghost use Rattle.store.specs.Opening.{Zeroed, Framed, Begun, Enters};
@@ -74,13 +74,36 @@ pub fn refuse(step: Step, cause: meaning::Cause, node: usize) -> Step
     }
 }
 
+// The same outcome, made anew: a copy is moved in odd pieces, and the next function waits for them.
+fn again(o: meaning::Outcome) -> meaning::Outcome
+    ensures { λ r. ⌜ r ≡ o ⌝ }
+{
+    match o {
+        meaning::Outcome::Accepted(bytes) => meaning::Outcome::Accepted(bytes),
+        meaning::Outcome::Refused(cause, node) => meaning::Outcome::Refused(cause, node),
+    }
+}
+
+// The step with so many instructions and this result.
+pub fn advance(step: Step, code: usize, result: u32) -> Step
+    ensures { λ r. ⌜ r ≡ advanced step code result ⌝ }
+{
+    let o = step.outcome;
+    Step {
+        outcome: again(o),
+        code: code,
+        constants: step.constants,
+        globals: step.globals,
+        functions: step.functions,
+        result: result,
+    }
+}
+
 // The result register.
 pub fn settle(step: Step, result: u32) -> Step
     ensures { λ r. ⌜ r ≡ with-result step result ⌝ }
 {
-    let mut next = step;
-    next.result = result;
-    next
+    advance(step, step.code, result)
 }
 
 // ---- words as halves
@@ -318,10 +341,14 @@ fn push_constant(
     work[at] = kind;
     work[at + 1] = high;
     work[at + 2] = low;
-    let mut next = step;
-    next.constants = k + 1;
-    next.result = k as u32;
-    next
+    Step {
+        outcome: again(o),
+        code: step.code,
+        constants: k + 1,
+        globals: step.globals,
+        functions: step.functions,
+        result: k as u32,
+    }
 }
 
 fn push_number(work: &mut [u32], step: Step, scope: Scope, bits: u64, node: usize) -> Step
@@ -398,9 +425,14 @@ pub fn add_global(work: &mut [u32], step: Step, scope: Scope, name: usize) -> St
         return step;
     };
     set_half(work, 8336 + step.globals, name as u32);
-    let mut next = step;
-    next.globals = step.globals + 1;
-    next
+    Step {
+        outcome: again(o),
+        code: step.code,
+        constants: step.constants,
+        globals: step.globals + 1,
+        functions: step.functions,
+        result: step.result,
+    }
 }
 
 // ---- captures

@@ -28,14 +28,14 @@ write-requires c κs =
 returns-2 : tie.Need-returns-2
 unfolding closure
 returns-2 c =
-    let start = c .before .before .before .before .before .before .before .before .before in
-    let told = c .before .before .before .before .before .before .enum-told in
+    let start = c .before .before .before .before .before .before .before .before .before .before in
+    let told = c .before .before .before .before .before .before .before .enum-told in
     let a = start .args in
     let fine = start .pre .0 in
     let on = told .given .1 in
     let h = met on (start .pre .1) in
-    let one = spell (starts fine) ((c .before .before .before .pack-wide) .ensures) ((c .before .before .write) .ensures) (omega (arith, h .0)) in
-    coded (a .register) 2 _ fine on one (omega arith) (omega arith) (omega (arith, h .1)) (λ t. refl)
+    let one = spell (starts fine) ((c .before .before .before .before .pack-wide) .ensures) ((c .before .before .before .write) .ensures) (omega (arith, h .0)) in
+    rw (c .advance .ensures) (coded (a .register) 2 _ fine on one (omega arith) (omega arith) (omega (arith, h .1)) (λ t. refl))
 
 pub closure-spec : {M : Type 1} → statement M
 closure-spec =
@@ -48,5 +48,6 @@ closure-spec =
     pack-wide-requires
     write-requires
     (λ c. search needs)
+    (λ c κs. search needs)
     (λ c. search needs)
     returns-2)

@@ -55,11 +55,11 @@ pack-requires c κs =
 returns-4 : tie.Need-returns-4
 unfolding end-body pick
 returns-4 c =
-    let start = c .before .before .before .before .before .before .before .before .before .before .before .before .before in
-    let told = c .before .before .before .before .before .before .before .before .before .before .enum-told in
-    let if1 = c .before .before .before .before .before .before .before .before .before .if1 in
-    let if2 = c .before .before .before .before .before .before .before .before .if2 in
-    let if3 = c .before .before .before .before .before .before .before .if3 in
+    let start = c .before .before .before .before .before .before .before .before .before .before .before .before .before .before in
+    let told = c .before .before .before .before .before .before .before .before .before .before .before .enum-told in
+    let if1 = c .before .before .before .before .before .before .before .before .before .before .if1 in
+    let if2 = c .before .before .before .before .before .before .before .before .before .if2 in
+    let if3 = c .before .before .before .before .before .before .before .before .if3 in
     let a = start .args in
     let w = now (a .work) in
     let fine = start .pre .0 in
@@ -68,17 +68,18 @@ returns-4 c =
     let room = room-for 2 fine on (start .pre .1) in
     let some : 1 ≤ a .step .code = omega (arith, h, if3 .left) in
     let size = tab-length (inst-at w (a .scope .nodes)) (a .step .code) in
-    let one = spell (starts fine) ((c .before .before .before .pack) .ensures) ((c .before .before .write) .ensures) (omega (arith, room)) in
-    coded 0 2 _ fine on one (omega arith) (omega arith) (omega arith)
-    (λ t. rw (eq-eqb (a .count) 1 (if1 .taken), ne-eqb (a .step .result) 254 (if2 .left), ← (last-mark w (a .scope .nodes) (a .step .code) some), size, ne-eqb (a .step .code) (a .first) (if3 .left)))
+    let one = spell (starts fine) ((c .before .before .before .before .pack) .ensures) ((c .before .before .before .write) .ensures) (omega (arith, room)) in
+    rw (c .advance .ensures)
+    (coded 0 2 _ fine on one (omega arith) (omega arith) (omega arith)
+    (λ t. rw (eq-eqb (a .count) 1 (if1 .taken), ne-eqb (a .step .result) 254 (if2 .left), ← (last-mark w (a .scope .nodes) (a .step .code) some), size, ne-eqb (a .step .code) (a .first) (if3 .left))))
 
 returns-5 : tie.Need-returns-5
 unfolding end-body pick
 returns-5 c =
-    let start = c .before .before .before .before in
+    let start = c .before .before .before .before .before in
     let a = start .args in
     let fine = start .pre .0 in
-    coded 0 2 _ fine ((c .before .enum-told) .given .1) (starts fine) (omega arith) (omega arith) (omega arith) (λ t. rw (ne-eqb (a .count) 1 ((c .if1) .left)))
+    rw (c .advance2 .ensures) (coded 0 2 _ fine ((c .before .before .enum-told) .given .1) (starts fine) (omega arith) (omega arith) (omega arith) (λ t. rw (ne-eqb (a .count) 1 ((c .before .if1) .left))))
 
 pub end-body-spec : {M : Type 1} → statement M
 end-body-spec =
@@ -102,6 +103,8 @@ end-body-spec =
     pack-requires
     (λ c κs. search needs)
     (λ c. search needs)
+    (λ c κs. search needs)
     (λ c. search needs)
     returns-4
+    (λ c κs. search needs)
     returns-5)

@@ -32,17 +32,17 @@ write-requires-2 c κs =
 returns-2 : tie.Need-returns-2
 unfolding end-branch
 returns-2 c =
-    let start = c .before .before .before .before .before .before .before .before .before .before .before .before in
-    let told = c .before .before .before .before .before .before .before .before .before .enum-told in
-    let write = c .before .before .before .before .before .before .before .write in
+    let start = c .before .before .before .before .before .before .before .before .before .before .before .before .before in
+    let told = c .before .before .before .before .before .before .before .before .before .before .enum-told in
+    let write = c .before .before .before .before .before .before .before .before .write in
     let a = start .args in
     let fine = start .pre .0 in
     let on = told .given .1 in
     let h = met on (start .pre .2) in
     let room = room-for 2 fine on (start .pre .1) in
     let one = spell {i = inst Jmp 0 0 0} (starts fine) (record { is = λ m. refl }) (write .ensures) (omega (arith, room)) in
-    let two = spell-over one ((c .before .before .before .pack-wide) .ensures) ((c .before .before .write2) .ensures) (omega (arith, h)) in
-    coded 0 2 _ fine on two (omega arith) (omega arith) (omega arith) (jumped _ (a .step .code) (a .test) (a .mark) 0 _ _)
+    let two = spell-over one ((c .before .before .before .before .pack-wide) .ensures) ((c .before .before .before .write2) .ensures) (omega (arith, h)) in
+    rw (c .advance .ensures) (coded 0 2 _ fine on two (omega arith) (omega arith) (omega arith) (jumped _ (a .step .code) (a .test) (a .mark) 0 _ _))
 
 pub end-branch-spec : {M : Type 1} → statement M
 end-branch-spec =
@@ -57,5 +57,6 @@ end-branch-spec =
     (λ c κs. search needs)
     write-requires-2
     (λ c. search needs)
+    (λ c κs. search needs)
     (λ c. search needs)
     returns-2)

@@ -37,17 +37,17 @@ close-loop-requires c κs =
 returns-2 : tie.Need-returns-2
 unfolding end-for-in end-loop jump-here
 returns-2 c =
-    let start = c .before .before .before .before .before .before .before .before .before .before .before .before in
-    let told = c .before .before .before .before .before .before .before .before .before .enum-told in
-    let pack = c .before .before .before .before .before .before .before .pack in
-    let write = c .before .before .before .before .before .before .write in
+    let start = c .before .before .before .before .before .before .before .before .before .before .before .before .before in
+    let told = c .before .before .before .before .before .before .before .before .before .before .enum-told in
+    let pack = c .before .before .before .before .before .before .before .before .pack in
+    let write = c .before .before .before .before .before .before .before .write in
     let a = start .args in
     let fine = start .pre .0 in
     let on = told .given .1 in
     let room = room-for 4 fine on (start .pre .1) in
     let one = spell (starts fine) (pack .ensures) (write .ensures) (omega (arith, room)) in
-    let two = spell-anew one ((c .before .before .close-loop) .ensures) (omega (arith, room)) in
-    coded 0 4 _ fine on (as-many (omega arith) two) (omega arith) (omega arith) (omega arith) (λ t. refl)
+    let two = spell-anew one ((c .before .before .before .close-loop) .ensures) (omega (arith, room)) in
+    rw (c .advance .ensures) (coded 0 4 _ fine on (as-many (omega arith) two) (omega arith) (omega arith) (omega arith) (λ t. refl))
 
 pub end-for-in-spec : {M : Type 1} → statement M
 end-for-in-spec =
@@ -62,5 +62,6 @@ end-for-in-spec =
     add-close-loop-2
     close-loop-requires
     (λ c. search needs)
+    (λ c κs. search needs)
     (λ c. search needs)
     returns-2)

@@ -22,11 +22,11 @@ patch-ends-requires c κs =
 returns-2 : tie.Need-returns-2
 unfolding end-if
 returns-2 c =
-    let start = c .before .before .before .before .before .before .before in
-    let told = c .before .before .before .before .enum-told in
+    let start = c .before .before .before .before .before .before .before .before in
+    let told = c .before .before .before .before .before .enum-told in
     let fine = start .pre .0 in
-    let one = spell-anew (starts fine) ((c .before .before .patch-ends) .ensures) (omega (arith, fine .room)) in
-    coded 0 0 _ fine (told .given .1) one (omega arith) (omega arith) (omega arith) (λ t. refl)
+    let one = spell-anew (starts fine) ((c .before .before .before .patch-ends) .ensures) (omega (arith, fine .room)) in
+    rw (c .settle .ensures) (coded 0 0 _ fine (told .given .1) one (omega arith) (omega arith) (omega arith) (λ t. refl))
 
 pub end-if-spec : {M : Type 1} → statement M
 end-if-spec =
@@ -36,5 +36,6 @@ end-if-spec =
     (λ c. search needs)
     returns
     patch-ends-requires
+    (λ c κs. search needs)
     (λ c. search needs)
     returns-2)

@@ -42,18 +42,18 @@ write-requires-2 c κs =
 returns-2 : tie.Need-returns-2
 unfolding end-logical
 returns-2 c =
-    let start = c .before .before .before .before .before .before .before .before .before .before .before .before .before in
-    let told = c .before .before .before .before .before .before .before .before .before .before .enum-told in
-    let pack = c .before .before .before .before .before .before .before .before .pack in
-    let write = c .before .before .before .before .before .before .before .write in
+    let start = c .before .before .before .before .before .before .before .before .before .before .before .before .before .before in
+    let told = c .before .before .before .before .before .before .before .before .before .before .before .enum-told in
+    let pack = c .before .before .before .before .before .before .before .before .before .pack in
+    let write = c .before .before .before .before .before .before .before .before .write in
     let a = start .args in
     let fine = start .pre .0 in
     let on = told .given .1 in
     let h = met on (start .pre .2) in
     let room = room-for 2 fine on (start .pre .1) in
     let one = spell (starts fine) (pack .ensures) (write .ensures) (omega (arith, room)) in
-    let two = spell-over one ((c .before .before .before .pack-wide) .ensures) ((c .before .before .write2) .ensures) (omega (arith, h .0)) in
-    coded (a .left) 2 _ fine on two (omega arith) (omega arith) (omega (arith, h .1)) (jumped _ (a .step .code) (a .test) (a .mark) (a .left) _ _)
+    let two = spell-over one ((c .before .before .before .before .pack-wide) .ensures) ((c .before .before .before .write2) .ensures) (omega (arith, h .0)) in
+    rw (c .advance .ensures) (coded (a .left) 2 _ fine on two (omega arith) (omega arith) (omega (arith, h .1)) (jumped _ (a .step .code) (a .test) (a .mark) (a .left) _ _))
 
 pub end-logical-spec : {M : Type 1} → statement M
 end-logical-spec =
@@ -69,5 +69,6 @@ end-logical-spec =
     (λ c κs. search needs)
     write-requires-2
     (λ c. search needs)
+    (λ c κs. search needs)
     (λ c. search needs)
     returns-2)

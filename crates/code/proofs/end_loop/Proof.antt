@@ -24,15 +24,15 @@ close-loop-requires c κs =
 returns-2 : tie.Need-returns-2
 unfolding end-loop jump-here
 returns-2 c =
-    let start = c .before .before .before .before .before .before .before in
-    let told = c .before .before .before .before .enum-told in
+    let start = c .before .before .before .before .before .before .before .before in
+    let told = c .before .before .before .before .before .enum-told in
     let a = start .args in
     let fine = start .pre .0 in
     let on = told .given .1 in
     let h = met on (start .pre .2) in
     let room = room-for 2 fine on (start .pre .1) in
-    let one = spell-anew (starts fine) ((c .before .before .close-loop) .ensures) (omega (arith, room)) in
-    coded (a .result) 2 _ fine on one (omega arith) (omega arith) (omega (arith, h .3)) (λ t. refl)
+    let one = spell-anew (starts fine) ((c .before .before .before .close-loop) .ensures) (omega (arith, room)) in
+    rw (c .advance .ensures) (coded (a .result) 2 _ fine on one (omega arith) (omega arith) (omega (arith, h .3)) (λ t. refl))
 
 pub end-loop-spec : {M : Type 1} → statement M
 end-loop-spec =
@@ -43,5 +43,6 @@ end-loop-spec =
     returns
     close-loop-requires
     (λ c. search needs)
+    (λ c κs. search needs)
     (λ c. search needs)
     returns-2)

@@ -33,15 +33,15 @@ pack-requires c κs =
 returns-3 : tie.Need-returns-3
 unfolding end-return pick
 returns-3 c =
-    let start = c .before .before .before .before .before .before .before .before .before in
-    let told = c .before .before .before .before .before .before .enum-told in
-    let if1 = c .before .before .before .before .before .if1 in
+    let start = c .before .before .before .before .before .before .before .before .before .before in
+    let told = c .before .before .before .before .before .before .before .enum-told in
+    let if1 = c .before .before .before .before .before .before .if1 in
     let a = start .args in
     let fine = start .pre .0 in
     let on = told .given .1 in
     let room = room-for 2 fine on (start .pre .1) in
-    let one = spell (starts fine) ((c .before .before .before .pack) .ensures) ((c .before .before .write) .ensures) (omega (arith, room)) in
-    coded 0 2 _ fine on one (omega arith) (omega arith) (omega arith) (λ t. rw (ne-eqb (a .step .result) 254 (if1 .left)))
+    let one = spell (starts fine) ((c .before .before .before .before .pack) .ensures) ((c .before .before .before .write) .ensures) (omega (arith, room)) in
+    rw (c .advance .ensures) (coded 0 2 _ fine on one (omega arith) (omega arith) (omega arith) (λ t. rw (ne-eqb (a .step .result) 254 (if1 .left))))
 
 pub end-return-spec : {M : Type 1} → statement M
 end-return-spec =
@@ -56,5 +56,6 @@ end-return-spec =
     pack-requires
     (λ c κs. search needs)
     (λ c. search needs)
+    (λ c κs. search needs)
     (λ c. search needs)
     returns-3)

@@ -45,17 +45,17 @@ patch-first-requires c κs =
 returns-2 : tie.Need-returns-2
 unfolding end-try
 returns-2 c =
-    let start = c .before .before .before .before .before .before .before .before .before .before .before .before in
-    let told = c .before .before .before .before .before .before .before .before .before .enum-told in
-    let pack-wide = c .before .before .before .before .before .before .before .pack-wide in
-    let write = c .before .before .before .before .before .before .write in
+    let start = c .before .before .before .before .before .before .before .before .before .before .before .before .before in
+    let told = c .before .before .before .before .before .before .before .before .before .before .enum-told in
+    let pack-wide = c .before .before .before .before .before .before .before .before .pack-wide in
+    let write = c .before .before .before .before .before .before .before .write in
     let a = start .args in
     let fine = start .pre .0 in
     let on = told .given .1 in
     let h = met on (start .pre .1) in
     let one = spell-over (starts fine) (pack-wide .ensures) (write .ensures) (omega (arith, h .0, h .1)) in
-    let two = spell-anew one ((c .before .before .patch-first) .ensures) (omega (arith, fine .room)) in
-    coded 0 0 _ fine on two (omega arith) (omega arith) (omega arith) (λ t. rw (tab-length (inst-at (now (a .work)) (a .scope .nodes)) (a .step .code)))
+    let two = spell-anew one ((c .before .before .before .patch-first) .ensures) (omega (arith, fine .room)) in
+    rw (c .settle .ensures) (coded 0 0 _ fine on two (omega arith) (omega arith) (omega arith) (λ t. rw (tab-length (inst-at (now (a .work)) (a .scope .nodes)) (a .step .code))))
 
 pub end-try-spec : {M : Type 1} → statement M
 end-try-spec =
@@ -71,5 +71,6 @@ end-try-spec =
     add-patch-first
     sub-patch-first
     patch-first-requires
+    (λ c κs. search needs)
     (λ c. search needs)
     returns-2)

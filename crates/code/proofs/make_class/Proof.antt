@@ -22,14 +22,14 @@ pack-requires c κs =
 returns-2 : tie.Need-returns-2
 unfolding make-class
 returns-2 c =
-    let start = c .before .before .before .before .before .before .before .before in
-    let told = c .before .before .before .before .before .enum-told in
+    let start = c .before .before .before .before .before .before .before .before .before in
+    let told = c .before .before .before .before .before .before .enum-told in
     let a = start .args in
     let fine = start .pre .0 in
     let on = told .given .1 in
     let room = room-for 2 fine on (start .pre .1) in
-    let one = spell (starts fine) ((c .before .before .before .pack) .ensures) ((c .before .before .write) .ensures) (omega (arith, room)) in
-    coded (a .step .result) 2 _ fine on one (omega arith) (omega arith) (result-small fine on) (λ t. refl)
+    let one = spell (starts fine) ((c .before .before .before .before .pack) .ensures) ((c .before .before .before .write) .ensures) (omega (arith, room)) in
+    rw (c .advance .ensures) (coded (a .step .result) 2 _ fine on one (omega arith) (omega arith) (result-small fine on) (λ t. refl))
 
 pub make-class-spec : {M : Type 1} → statement M
 make-class-spec =
@@ -42,5 +42,6 @@ make-class-spec =
     pack-requires
     (λ c κs. search needs)
     (λ c. search needs)
+    (λ c κs. search needs)
     (λ c. search needs)
     returns-2)

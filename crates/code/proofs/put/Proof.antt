@@ -19,14 +19,14 @@ pack-requires c κs =
 
 returns-2 : tie.Need-returns-2
 returns-2 c =
-    let start = c .before .before .before .before .before .before .before .before in
-    let told = c .before .before .before .before .before .enum-told in
+    let start = c .before .before .before .before .before .before .before .before .before in
+    let told = c .before .before .before .before .before .before .enum-told in
     let a = start .args in
     let fine = start .pre .0 in
     let on = told .given .1 in
     let room = room-for 2 fine on (start .pre .1) in
-    let one = spell (starts fine) ((c .before .before .before .pack) .ensures) ((c .before .before .write) .ensures) (omega (arith, room)) in
-    coded (a .result) 2 _ fine on one (omega arith) (omega arith) (met on (start .pre .3)) (λ t. refl)
+    let one = spell (starts fine) ((c .before .before .before .before .pack) .ensures) ((c .before .before .before .write) .ensures) (omega (arith, room)) in
+    rw (c .advance .ensures) (coded (a .result) 2 _ fine on one (omega arith) (omega arith) (met on (start .pre .3)) (λ t. refl))
 
 pub put-spec : {M : Type 1} → statement M
 put-spec =
@@ -38,5 +38,6 @@ put-spec =
     pack-requires
     (λ c κs. search needs)
     (λ c. search needs)
+    (λ c κs. search needs)
     (λ c. search needs)
     returns-2)

@@ -7,7 +7,7 @@ returns : tie.Need-returns
 returns c = rw ((c .enum-told2) .given .1)
 
 returns-2 : tie.Need-returns-2
-returns-2 c = rw ((c .enum-told) .given .1)
+returns-2 c = rw (c .advance .ensures, (c .before .enum-told) .given .1)
 
 pub roll-back-spec : {M : Type 1} → statement M
 roll-back-spec =
@@ -16,4 +16,5 @@ roll-back-spec =
     (λ c. search needs)
     (λ c. search needs)
     returns
+    (λ c κs. search needs)
     returns-2)

@@ -23,11 +23,11 @@ set-half-requires c κs =
 
 returns-2 : tie.Need-returns-2
 returns-2 c =
-    let start = c .before .before .before .before .before .before .before .before .before in
-    let on = c .before .before .before .before .before .before .enum-told .given .1 in
+    let start = c .before .before .before .before .before .before .before .before .before .before in
+    let on = c .before .before .before .before .before .before .before .enum-told .given .1 in
     let a = start .args in
     let fine = start .pre .0 in
-    rw (c .before .before .before .set-half .ensures)
+    rw (c .before .before .before .before .set-half .ensures, c .before .again .ensures)
     (global-leaf (now (a .work)) (a .scope) (a .step) fine (shallow (a .step) fine on) _ on (due (a .step .outcome) (start .pre .1) (goes on)) (a .name) (start .pre .2))
 
 pub add-global-spec : {M : Type 1} → statement M
@@ -40,6 +40,7 @@ add-global-spec =
     (λ c. search needs)
     (λ c. search needs)
     set-half-requires
+    (λ c κs. search needs)
     (λ c. search needs)
     (λ c. search needs)
     returns-2)

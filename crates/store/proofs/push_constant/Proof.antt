@@ -39,11 +39,11 @@ returns-2 c =
 
 returns-3 : tie.Need-returns-3
 returns-3 c =
-    let start = c .before .before .before .before in
-    let enum-told = c .before .enum-told in
+    let start = c .before .before .before .before .before in
+    let enum-told = c .before .before .enum-told in
     let a = start .args in
     let deep = shallow (a .step) (start .pre) (enum-told .given .1) in
-    constant-leaf (now (a .work)) (a .scope) (a .step) (start .pre) deep _ (enum-told .given .1) (a .kind) (a .high) (a .low) (c .if1 .left) (a .node)
+    rw (c .again .ensures) (constant-leaf (now (a .work)) (a .scope) (a .step) (start .pre) deep _ (enum-told .given .1) (a .kind) (a .high) (a .low) (c .before .if1 .left) (a .node))
 
 pub push-constant-spec : {M : Type 1} → statement M
 push-constant-spec =
@@ -63,6 +63,7 @@ push-constant-spec =
     (λ c. search needs)
     (λ c. search needs)
     slice-write-work-3
+    (λ c κs. search needs)
     (λ c. search needs)
     (λ c. search needs)
     (λ c. search needs)
