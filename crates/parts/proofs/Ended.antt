@@ -11,7 +11,7 @@ use Rattle.store.specs.Layout.{top}
 use Rattle.store.specs.Store.{goes-on, while-going, Fine}
 use Rattle.store.specs.Promise.{Cost, both, live, Used, Leaf}
 use Rattle.store.proofs.Runs.{due, promised, kept-in}
-use Rattle.store.proofs.Compose.{taken-few}
+use Rattle.store.proofs.Compose.{used-then, taken-few}
 use Rattle.code.specs.Cuts.{cut-step, Leaves}
 use Rattle.parts.specs.Parts.{Spare, Owing}
 use Rattle.parts.proofs.Line.{Left, Within, spare-after}
@@ -25,19 +25,10 @@ module _ {first : ℕ} {w w1 : List ℕ} {p : Scope} {s s1 : Step} {u : Cost} (x
         fine = y .fine;
         kept = kept-in refl (omega arith) (omega arith) (x .kept) (y .kept);
         back = λ g. x .back (y .back g);
-        used = promised (r .outcome) (λ g. sum (due (s1 .outcome) (x .used) (y .back g)) (due (r .outcome) (y .used) g));
+        used = promised (r .outcome) (λ g. used-then (due (s1 .outcome) (x .used) (y .back g)) (due (r .outcome) (y .used) g));
         longer = λ h. omega (arith, x .longer h, y .longer);
         still = λ z. y .still (omega arith) ∙ x .still (omega arith);
       }
-    where
-      sum : Used w p (cut-step s first) w1 p s1 u → Used w1 p s1 w2 p r v → Used w p (cut-step s first) w2 p r (both u v)
-      sum g h =
-          record {
-            words = omega (arith, g .words, h .words);
-            locals = omega (arith, g .locals, h .locals);
-            names = omega (arith, g .names, h .names);
-            registers = omega (arith, g .registers, h .registers);
-          }
 
   -- its cost is no more than v
   pub leaves-within : (v : Cost) → Within u v → Leaves first w p s w1 s1 v

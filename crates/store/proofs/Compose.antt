@@ -26,7 +26,7 @@ use Rattle.forward.proofs.Opened.{answers-get}
 
 -- ---- what was used
 
-used-then : {w w1 w2 : List ℕ} {p q t : Scope} {s s1 s2 : Step} {u v : Cost} → Used w p s w1 q s1 u → Used w1 q s1 w2 t s2 v → Used w p s w2 t s2 (both u v)
+pub used-then : {w w1 w2 : List ℕ} {p q t : Scope} {s s1 s2 : Step} {u v : Cost} → Used w p s w1 q s1 u → Used w1 q s1 w2 t s2 v → Used w p s w2 t s2 (both u v)
 used-then g h =
     record {
       words = omega (arith, g .words, h .words);
