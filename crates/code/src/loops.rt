@@ -1,0 +1,98 @@
+// The ends of visit_while_stmt, visit_classic_for_stmt and visit_enhanced_for_stmt.
+ghost use Prim.Native.Nat.{_+_, _*_, _<_, _≤_};
+ghost use lib.ListN.{length};
+ghost use Rattle.forward.specs.Forward.{sure, end-loop, end-for-in};
+ghost use Rattle.store.specs.Layout.{top};
+ghost use Rattle.store.specs.Store.{Fine, while-going};
+ghost use Rattle.store.specs.Promise.{uses, Room, Leaf};
+ghost use Rattle.code.specs.Words.{Recoded, closed-loop};
+use crate::JMP;
+use crate::patches::patch_loop;
+use crate::word::jump_back;
+use crate::word::pack;
+use crate::word::pack_wide;
+use crate::word::write;
+use instruction::OpCode;
+use meaning::Outcome;
+use store::Scope;
+use store::Step;
+
+const ADDI: u32 = OpCode::Addi as u32;
+
+// The end of a loop, behind `code` instructions: the jump back, the jump out, breaks and continues.
+fn close_loop(
+    work: &mut [u32],
+    nodes: usize,
+    code: usize,
+    first: usize,
+    condition: usize,
+    test: usize,
+    mark: u32,
+)
+    requires { ⌜ (top nodes ≤ length (now work)) × (2 * code + 2 ≤ top nodes) × (nodes ≤ 32768) × (first ≤ code) × (condition ≤ code) × (test + 2 ≤ code) ⌝ }
+    ensures { λ _. ⌜ Recoded (now (work .entry)) nodes code (code + 1) (closed-loop first condition test mark) (now (work .exit)) ⌝ }
+{
+    write(work, nodes, code, jump_back(code - condition), mark);
+    write(work, nodes, test + 1, pack_wide(JMP, 0, code - test), mark);
+    patch_loop(work, nodes, first, code + 1);
+}
+
+// The end of visit_while_stmt and visit_classic_for_stmt.
+pub fn end_loop(
+    work: &mut [u32],
+    step: Step,
+    scope: Scope,
+    first: usize,
+    condition: usize,
+    test: usize,
+    result: u32,
+    mark: u32,
+) -> Step
+    requires { ⌜ Fine (now work) scope step × Room (now work) scope step 0 2 0 × while-going (step .outcome) ((first ≤ step .code) × (condition ≤ step .code) × (test + 2 ≤ step .code) × (result < 256)) ⌝ }
+    ensures { λ r. ⌜ Leaf (now (work .entry)) scope step (now (work .exit)) scope r (uses 2 0 0) (sure (end-loop first condition test result mark)) ⌝ }
+{
+    let o = step.outcome;
+    let Outcome::Accepted(_) = o else {
+        return step;
+    };
+    let code = step.code;
+    close_loop(work, scope.nodes, code, first, condition, test, mark);
+    store::advance(step, code + 1, result)
+}
+
+// visit_enhanced_for_stmt after the body; Length and Lt stand before the Test.
+pub fn end_for_in(
+    work: &mut [u32],
+    step: Step,
+    scope: Scope,
+    first: usize,
+    condition: usize,
+    counter: u32,
+    mark: u32,
+) -> Step
+    requires { ⌜ Fine (now work) scope step × Room (now work) scope step 0 4 0 × while-going (step .outcome) ((first ≤ step .code) × (condition + 4 ≤ step .code) × (counter < 256)) ⌝ }
+    ensures { λ r. ⌜ Leaf (now (work .entry)) scope step (now (work .exit)) scope r (uses 4 0 0) (sure (end-for-in first condition counter mark)) ⌝ }
+{
+    let o = step.outcome;
+    let Outcome::Accepted(_) = o else {
+        return step;
+    };
+    let code = step.code;
+    write(
+        work,
+        scope.nodes,
+        code,
+        pack(ADDI, counter, counter, 1),
+        mark,
+    );
+    close_loop(
+        work,
+        scope.nodes,
+        code + 1,
+        first,
+        condition,
+        condition + 2,
+        mark,
+    );
+    store::advance(step, code + 2, 0)
+}

@@ -1,0 +1,106 @@
+// One instruction more, and code cut off.
+ghost use mathlib.Core.Path.{_≡_};
+ghost use Prim.Native.Nat.{_<_};
+ghost use Rattle.meaning.specs.Opcode.{inst, wide};
+ghost use Rattle.forward.specs.Forward.{sure, emit, put};
+ghost use Rattle.store.specs.Store.{Fine, while-going};
+ghost use Rattle.store.specs.Promise.{uses, Room, Leaf};
+ghost use Rattle.code.specs.Words.{Bytes};
+ghost use Rattle.code.specs.Cuts.{rolled-step};
+use crate::word::pack;
+use crate::word::pack_wide;
+use crate::word::write;
+use meaning::Outcome;
+use store::Scope;
+use store::Step;
+
+// One instruction more, and the result.
+pub fn put(
+    work: &mut [u32],
+    step: Step,
+    scope: Scope,
+    op: u32,
+    a: u32,
+    b: u32,
+    c: u32,
+    mark: u32,
+    result: u32,
+) -> Step
+    requires { ⌜ Fine (now work) scope step × Room (now work) scope step 0 2 0 × while-going (step .outcome) (Bytes op a b c) × while-going (step .outcome) (result < 1024) ⌝ }
+    ensures { λ r. ⌜ Leaf (now (work .entry)) scope step (now (work .exit)) scope r (uses 2 0 0) (sure (put result (inst op a b c mark))) ⌝ }
+{
+    let o = step.outcome;
+    let Outcome::Accepted(_) = o else {
+        return step;
+    };
+    let code = step.code;
+    write(work, scope.nodes, code, pack(op, a, b, c), mark);
+    store::advance(step, code + 1, result)
+}
+
+// The same with a 16-bit number.
+pub fn put_wide(
+    work: &mut [u32],
+    step: Step,
+    scope: Scope,
+    op: u32,
+    a: u32,
+    n: u32,
+    mark: u32,
+    result: u32,
+) -> Step
+    requires { ⌜ Fine (now work) scope step × Room (now work) scope step 0 2 0 × while-going (step .outcome) ((op < 256) × (a < 256)) × while-going (step .outcome) (result < 1024) ⌝ }
+    ensures { λ r. ⌜ Leaf (now (work .entry)) scope step (now (work .exit)) scope r (uses 2 0 0) (sure (put result (wide op a n mark))) ⌝ }
+{
+    let o = step.outcome;
+    let Outcome::Accepted(_) = o else {
+        return step;
+    };
+    let code = step.code;
+    write(work, scope.nodes, code, pack_wide(op, a, n as usize), mark);
+    store::advance(step, code + 1, result)
+}
+
+// One instruction more; the result stays.
+pub fn emit(
+    work: &mut [u32],
+    step: Step,
+    scope: Scope,
+    op: u32,
+    a: u32,
+    b: u32,
+    c: u32,
+    mark: u32,
+) -> Step
+    requires { ⌜ Fine (now work) scope step × Room (now work) scope step 0 2 0 × while-going (step .outcome) (Bytes op a b c) ⌝ }
+    ensures { λ r. ⌜ Leaf (now (work .entry)) scope step (now (work .exit)) scope r (uses 2 0 0) (sure (emit (inst op a b c mark))) ⌝ }
+{
+    put(work, step, scope, op, a, b, c, mark, step.result)
+}
+
+// The same with a 16-bit number.
+pub fn emit_wide(
+    work: &mut [u32],
+    step: Step,
+    scope: Scope,
+    op: u32,
+    a: u32,
+    n: u32,
+    mark: u32,
+) -> Step
+    requires { ⌜ Fine (now work) scope step × Room (now work) scope step 0 2 0 × while-going (step .outcome) ((op < 256) × (a < 256)) ⌝ }
+    ensures { λ r. ⌜ Leaf (now (work .entry)) scope step (now (work .exit)) scope r (uses 2 0 0) (sure (emit (wide op a n mark))) ⌝ }
+{
+    put_wide(work, step, scope, op, a, n, mark, step.result)
+}
+
+// binary_literal at Minus: the code of the dropped pass is cut off.
+pub fn roll_back(step: Step, first: usize) -> Step
+    ensures { λ r. ⌜ r ≡ rolled-step step first ⌝ }
+{
+    let o = step.outcome;
+    let Outcome::Accepted(_) = o else {
+        return step;
+    };
+    store::advance(step, first, 0)
+}

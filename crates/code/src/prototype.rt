@@ -1,0 +1,88 @@
+// Finished prototypes in the output.
+ghost use Prim.Native.Nat.{_<_, _≤_};
+ghost use Rattle.forward.specs.Forward.{leave-function};
+ghost use Rattle.store.specs.Store.{inner, Fine, while-going};
+ghost use Rattle.store.specs.Promise.{nothing};
+ghost use Rattle.store.specs.Opening.{Leavable};
+ghost use Rattle.code.specs.Cuts.{Adds, Ends, EndsProgram};
+use meaning::Cause;
+use meaning::Outcome;
+use store::Scope;
+use store::Step;
+
+// The prototype of the current function: 17 Long, then 15 Prototypes at the 257th. It is written where it fits, and counted always.
+fn add_prototype(
+    work: &[u32],
+    out: &mut [u8],
+    step: Step,
+    scope: Scope,
+    first: usize,
+    node: usize,
+    params: usize,
+) -> Step
+    requires { ⌜ Fine (now work) scope step × while-going (step .outcome) (first ≤ step .code) × (params < 65536) ⌝ }
+    ensures { λ r. ⌜ Adds first (now (work .entry)) (now (out .entry)) scope step (now (out .exit)) r node params ⌝ }
+{
+    let o = step.outcome;
+    let Outcome::Accepted(written) = o else {
+        return step;
+    };
+    let count = step.code - first;
+    let index = step.functions;
+    if 32766 < count {
+        return store::refuse(step, Cause::Long, node);
+    }
+    if index == 256 {
+        return store::refuse(step, Cause::Prototypes, node);
+    }
+    let end = image::place_prototype(
+        work,
+        out,
+        written,
+        scope.nodes,
+        scope.depth,
+        first,
+        count,
+        params as u32,
+    );
+    Step {
+        outcome: Outcome::Accepted(end),
+        code: first,
+        constants: step.constants,
+        globals: step.globals,
+        functions: index + 1,
+        result: index as u32,
+    }
+}
+
+// fn leave_function of a function inside `scope`: its prototype, its code cut off, its locals popped.
+pub fn leave_function(
+    work: &mut [u32],
+    out: &mut [u8],
+    step: Step,
+    scope: Scope,
+    first: usize,
+    node: usize,
+    params: usize,
+) -> Step
+    requires { ⌜ Fine (now work) (inner scope) step × Leavable (now work) scope × while-going (step .outcome) (first ≤ step .code) × (params < 65536) ⌝ }
+    ensures { λ r. ⌜ Ends first (now (work .entry)) (now (out .entry)) scope step (now (work .exit)) (now (out .exit)) r nothing (leave-function first node params) × (r .result < 256) ⌝ }
+{
+    let inside = Scope {
+        nodes: scope.nodes,
+        depth: scope.depth + 1,
+        block: scope.block + 1,
+        loops: 0,
+    };
+    let next = add_prototype(work, out, step, inside, first, node, params);
+    store::leave_block(work, scope);
+    next
+}
+
+// fn leave_function of the main function, with 0 parameters.
+pub fn end_program(work: &[u32], out: &mut [u8], step: Step, scope: Scope, node: usize) -> Step
+    requires { ⌜ Fine (now work) scope step ⌝ }
+    ensures { λ r. ⌜ EndsProgram (now (work .entry)) (now (out .entry)) scope step (now (out .exit)) r node ⌝ }
+{
+    add_prototype(work, out, step, scope, 0, node, 0)
+}

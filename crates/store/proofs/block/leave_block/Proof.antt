@@ -1,0 +1,148 @@
+-- The loop pops one local a turn (Links.antt, Popping): of the locals that were there the first i are left, and no head leads below the block's start
+-- before it should; at the start it leads to the latest there.
+use borrow.Author.Needs.{needs}
+use Rattle.store.proofs.block.leave_block.Statement.{statement}
+use Rattle.store.proofs.block.leave_block.Tie as tie
+use Prim.Native.Nat.{ℕ, suc, _+_, _-_, _*_, _/_, _%_, _≤_}
+use mathlib.Core.Path.{_≡_, sym, ap, _∙_}
+use native.Mathlib.Omega.{arith}
+use denote.Ref.{now}
+use lib.ListN.{getD}
+use Rattle.store.specs.Layout.{local-at}
+use Rattle.store.proofs.Halves.{half-small}
+use Rattle.store.proofs.Links.{Popping, popping-start, popping-next, popping-end}
+use Rattle.store.proofs.Blocks.{leaving}
+
+abbrev Inv-loop : tie.InvT-loop
+Inv-loop work₀ nodes at from i₀ work i = (i ≤ i₀) × (from ≤ i) × Popping work₀ work nodes from i
+
+abbrev μ-loop : tie.MeasureT-loop
+μ-loop work₀ nodes at from i₀ work i = i
+
+cast-from : tie.Need-cast-from Inv-loop μ-loop
+cast-from c =
+    let start = c .before .before .before in
+    omega (arith, leaving (start .pre) .rises, leaving (start .pre) .fits, leaving (start .pre) .few)
+
+cast-i : tie.Need-cast-i Inv-loop μ-loop
+cast-i c =
+    let start = c .before .before .before .before in
+    omega (arith, leaving (start .pre) .fits, leaving (start .pre) .few)
+
+loop-holds : tie.Need-loop-holds Inv-loop μ-loop
+loop-holds c =
+    let start = c .before .before .before .before in
+    (omega arith, leaving (start .pre) .rises, popping-start _ _ (leaving (start .pre) .rises) (leaving (start .pre) .ends) (leaving (start .pre) .linked))
+
+add-name-2 : tie.Need-add-name-2 Inv-loop μ-loop
+add-name-2 c =
+    let start = c .before .before .before .before .before .before in
+    let loop = c .before .loop in
+    omega (arith, leaving (start .pre) .fits, leaving (start .pre) .few, loop .inv .0)
+
+mul-name-2 : tie.Need-mul-name-2 Inv-loop μ-loop
+mul-name-2 c =
+    let start = c .before .before .before .before .before .before in
+    let loop = c .before .loop in
+    omega (arith, leaving (start .pre) .fits, leaving (start .pre) .few, loop .inv .0)
+
+slice-read-name : tie.Need-slice-read-name Inv-loop μ-loop
+slice-read-name c =
+    let start = c .before .before .before .before .before .before .before in
+    let loop = c .before .before .loop in
+    omega (arith, leaving (start .pre) .fits, leaving (start .pre) .long, loop .inv .0, loop .inv .2 .same)
+
+cast-name : tie.Need-cast-name Inv-loop μ-loop
+cast-name c =
+    let start = c .before .before .before .before .before .before .before in
+    let loop = c .before .before .loop in
+    omega (arith, c .slice-known4 .given (5724 + 2 * start .args .scope .nodes + (loop .i - 1)))
+
+add-half-at : tie.Need-add-half-at Inv-loop μ-loop
+add-half-at c =
+    let start = c .before .before .before .before .before .before .before .before .before in
+    let loop = c .before .before .before .before .loop in
+    omega (arith, leaving (start .pre) .fits, leaving (start .pre) .few, loop .inv .0)
+
+half-at-requires : tie.Need-half-at-requires Inv-loop μ-loop
+half-at-requires c κs =
+    let start = c .before .before .before .before .before .before .before .before .before in
+    let loop = c .before .before .before .before .loop in
+    omega (arith, leaving (start .pre) .fits, leaving (start .pre) .long, loop .inv .0, loop .inv .2 .same)
+
+set-half-requires : tie.Need-set-half-requires Inv-loop μ-loop
+set-half-requires c κs =
+    let bucket = c .before .before .before .bucket in
+    let start = c .before .before .before .before .before .before .before .before .before .before .before in
+    let loop = c .before .before .before .before .before .before .loop in
+    let half-at = c .before .half-at in
+    (omega (arith, bucket .ensures .1, leaving (start .pre) .long, loop .inv .2 .same), omega (arith, half-at .ensures, half-small (loop .work) (9376 + (loop .i - 1))))
+
+loop-again : tie.Need-loop-again Inv-loop μ-loop
+loop-again c =
+    let start = c .before .before .before .before .before .before .before .before .before .before .before .before .before .before in
+    let loop = c .before .before .before .before .before .before .before .before .before .loop in
+    let bucket = c .before .before .before .before .before .before .bucket in
+    let set-half = c .before .before .set-half in
+    let half-at = c .before .before .before .before .half-at in
+    let a = start .args in
+    let w = now (a .work) in
+    let n = a .scope .nodes in
+    let i : ℕ = loop .i - 1 in
+    let l = leaving (start .pre) in
+    let inv = loop .inv in
+    let u : loop .i ≡ suc i = omega arith in
+    let own : local-at w n i .name % (8 * n) ≡ bucket .result = ap (λ x. x / 255 % (8 * n)) (sym (inv .2 .other (5724 + 2 * n + i) (λ z. absurd (omega (arith, l .fits, inv .0))))) ∙ sym (bucket .ensures .0) in
+    (omega arith, omega arith, rw (set-half .ensures) (popping-next w (loop .work) n (a .scope .block) i (bucket .result) (half-at .result) (a .scope .block + 1) (l .linked) (omega arith) (omega (arith, inv .1)) (omega (arith, inv .0, l .ends)) (omega (arith, l .fits, l .ends)) (l .long) (bucket .ensures .1) own (half-at .ensures) (rw u at (inv .2))))
+
+same-length : tie.Need-same-length Inv-loop μ-loop
+same-length c =
+    let loop = c .before .loop in
+    loop .inv .2 .same
+
+returns : tie.Need-returns Inv-loop μ-loop
+returns c =
+    let start = c .before .before .before .before .before .before in
+    let loop = c .before .loop in
+    let l = leaving (start .pre) in
+    let e : loop .i ≡ getD (now (start .args .work)) (5708 + start .args .scope .nodes + start .args .scope .block) 0 = omega (arith, loop .inv .1) in
+    record {
+      same = loop .inv .2 .same;
+      other = loop .inv .2 .other;
+      linked = popping-end (start .args .scope .block) e (omega (arith, start .pre .blocks)) (omega (arith, l .rises, l .ends)) (omega (arith, l .fits, l .ends)) (l .linked) (loop .inv .2);
+    }
+
+pub leave-block-spec : {M : Type 1} → statement M
+leave-block-spec =
+    tie.close
+    (tie.spec
+    Inv-loop
+    μ-loop
+    (λ c. search needs)
+    (λ c. search needs)
+    (λ c. search needs)
+    (λ c. search needs)
+    cast-from
+    (λ c. search needs)
+    (λ c. search needs)
+    (λ c. search needs)
+    cast-i
+    loop-holds
+    (λ c. search needs)
+    (λ c. search needs)
+    (λ c. search needs)
+    add-name-2
+    mul-name-2
+    slice-read-name
+    cast-name
+    (λ c κs. search needs)
+    add-half-at
+    half-at-requires
+    (λ c. search needs)
+    (λ c. search needs)
+    (λ c. search needs)
+    set-half-requires
+    (λ c. search needs)
+    loop-again
+    same-length
+    returns)

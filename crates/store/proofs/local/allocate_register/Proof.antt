@@ -1,0 +1,143 @@
+-- Refused at entry; else the four stores of `pushed-by` (Locals.antt): link, head, word, edge; then `unlink`. Registers and nodes have paid for the word.
+use borrow.Author.Needs.{needs}
+use Rattle.store.proofs.local.allocate_register.Statement.{statement}
+use Rattle.store.proofs.local.allocate_register.Tie as tie
+use Prim.Native.Nat.{ℕ, _+_, _*_, _/_, _%_, _<_}
+use mathlib.Core.Path.{_≡_, sym, ap, _∙_}
+use native.Mathlib.Omega.{arith}
+use lib.ListN.{length-set}
+use denote.Ref.{now}
+use Rattle.store.specs.Layout.{edge}
+use Rattle.store.specs.Promise.{a-local}
+use Rattle.store.proofs.Halves.{half-small}
+use Rattle.store.proofs.Runs.{due, goes, leaf-absorbed}
+use Rattle.store.proofs.Steps.{shallow}
+use Rattle.store.proofs.Locals.{pushed-by, hung-by, linked-push, pushed-then, local-room, local-sound, local-latest, local-leaf}
+use Rattle.meaning.specs.State.{allocate-register}
+use Rattle.forward.specs.Forward.{fwd-unit}
+
+returns : tie.Need-returns
+returns c =
+    let start = c .before .before .before in
+    leaf-absorbed a-local (fwd-unit (allocate-register (start .args .name) (start .args .register))) (start .pre .0) (c .enum-told2 .given .1)
+
+set-half-requires : tie.Need-set-half-requires
+set-half-requires c κs =
+    let start = c .before .before .before .before .before .before .before .before .before in
+    let half-at = c .before .half-at in
+    let bucket = c .before .before .before .bucket in
+    let a = start .args in
+    let n = a .scope .nodes in
+    (omega (arith, start .pre .0 .sound .long, start .pre .0 .sound .count), omega (arith, half-at .ensures, half-small (now (a .work)) (24576 + 22 * n + bucket .result)))
+
+add-work : tie.Need-add-work
+add-work c =
+    let start = c .before .before .before .before .before .before .before .before .before .before .before .before .before .before .before .before in
+    let enum-told = c .before .before .before .before .before .before .before .before .before .before .before .before .before .enum-told in
+    let small = due (start .args .step .outcome) (start .pre .3) (goes (enum-told .given .1)) in
+    omega (arith, small, start .pre .2)
+
+slice-write-work-2 : tie.Need-slice-write-work-2
+slice-write-work-2 c =
+    let set-half2 = c .before .before .set-half2 in
+    let set-half = c .before .before .before .before .before .before .set-half in
+    let start = c .before .before .before .before .before .before .before .before .before .before .before .before .before .before .before .before in
+    simp length-set (omega (arith, set-half2 .kept .0, set-half .kept .0, start .pre .0 .sound .long, start .pre .0 .sound .blocks))
+
+unlink-requires : tie.Need-unlink-requires
+unlink-requires c κs =
+    let start = c .before .before .before .before .before .before .before .before .before .before .before .before .before .before .before .before .before in
+    let bucket = c .before .before .before .before .before .before .before .before .before .before .before .bucket in
+    let enum-told = c .before .before .before .before .before .before .before .before .before .before .before .before .before .before .enum-told in
+    let set-half2 = c .before .before .before .set-half2 in
+    let set-half = c .before .before .before .before .before .before .before .set-half in
+    let half-at = c .before .before .before .before .before .before .before .before .before .half-at in
+    let a = start .args in
+    let w = now (a .work) in
+    let p = a .scope in
+    let n = p .nodes in
+    let i : ℕ = edge w n (p .block) in
+    let b = bucket .result in
+    let x : ℕ = a .name * 255 + a .register in
+    let fine = start .pre .0 in
+    let s = fine .sound in
+    let deep = shallow (a .step) fine (enum-told .given .1) in
+    let room = due (a .step .outcome) (start .pre .1 .roomy) (goes (enum-told .given .1)) in
+    let small = due (a .step .outcome) (start .pre .3) (goes (enum-told .given .1)) in
+    let e1 : x / 255 ≡ a .name = omega arith in
+    let bx : x / 255 % (8 * n) ≡ b = ap (λ y. y % (8 * n)) e1 ∙ sym (bucket .ensures .0) in
+    let r : 5724 + 2 * n + i < 12288 + 11 * n = omega (arith, local-room deep room .0) in
+    let pushed = pushed-by w n (5708 + n + p .block) i b x (s .long) (s .count) (s .few) (omega arith) (omega (arith, s .blocks)) r (bucket .ensures .1) in
+    let hung = hung-by w n (5708 + n + p .block) i b x (s .long) (s .count) (s .few) (omega arith) (omega (arith, s .blocks)) r (bucket .ensures .1) in
+    let linked = linked-push w _ n (p .block) b x (s .count) (s .blocks) r (bucket .ensures .1) bx pushed hung (s .linked) in
+    rw (set-half2 .ensures, set-half .ensures, half-at .ensures) (local-sound w _ p (a .step) x fine deep room pushed linked, rw e1 at (local-latest w _ p (a .step) x fine deep room pushed linked))
+
+same-length : tie.Need-same-length
+same-length c =
+    let unlink = c .before .before .unlink in
+    let set-half2 = c .before .before .before .before .before .before .set-half2 in
+    let set-half = c .before .before .before .before .before .before .before .before .before .before .set-half in
+    unlink .kept .0 ∙ simp length-set (set-half2 .kept .0 ∙ set-half .kept .0)
+
+returns-2 : tie.Need-returns-2
+returns-2 c =
+    let unlink = c .before .before .unlink in
+    let start = c .before .before .before .before .before .before .before .before .before .before .before .before .before .before .before .before .before .before .before .before in
+    let bucket = c .before .before .before .before .before .before .before .before .before .before .before .before .before .before .bucket in
+    let enum-told = c .before .before .before .before .before .before .before .before .before .before .before .before .before .before .before .before .before .enum-told in
+    let set-half2 = c .before .before .before .before .before .before .set-half2 in
+    let set-half = c .before .before .before .before .before .before .before .before .before .before .set-half in
+    let half-at = c .before .before .before .before .before .before .before .before .before .before .before .before .half-at in
+    let a = start .args in
+    let w = now (a .work) in
+    let p = a .scope in
+    let n = p .nodes in
+    let i : ℕ = edge w n (p .block) in
+    let b = bucket .result in
+    let x : ℕ = a .name * 255 + a .register in
+    let fine = start .pre .0 in
+    let s = fine .sound in
+    let deep = shallow (a .step) fine (enum-told .given .1) in
+    let room = due (a .step .outcome) (start .pre .1 .roomy) (goes (enum-told .given .1)) in
+    let small = due (a .step .outcome) (start .pre .3) (goes (enum-told .given .1)) in
+    let e1 : x / 255 ≡ a .name = omega arith in
+    let e2 : x % 255 ≡ a .register = omega arith in
+    let pushed = pushed-by w n (5708 + n + p .block) i b x (s .long) (s .count) (s .few) (omega arith) (omega (arith, s .blocks)) (omega (arith, local-room deep room .0)) (bucket .ensures .1) in
+    let u = rw (set-half2 .ensures, set-half .ensures, half-at .ensures) at (unlink .ensures) in
+    rw (e1, e2) at (local-leaf w _ p (a .step) x fine deep room (pushed-then (s .blocks) pushed u) (u .linked) _ (enum-told .given .1))
+
+pub allocate-register-spec : {M : Type 1} → statement M
+allocate-register-spec =
+    tie.close
+    (tie.spec
+    (λ c. search needs)
+    (λ c. search needs)
+    returns
+    (λ c. search needs)
+    (λ c. search needs)
+    (λ c. search needs)
+    (λ c. search needs)
+    (λ c. search needs)
+    (λ c κs. search needs)
+    (λ c. search needs)
+    (λ c. search needs)
+    (λ c. search needs)
+    (λ c κs. search needs)
+    (λ c. search needs)
+    set-half-requires
+    (λ c. search needs)
+    (λ c κs. search needs)
+    (λ c. search needs)
+    (λ c. search needs)
+    add-work
+    (λ c. search needs)
+    (λ c. search needs)
+    (λ c. search needs)
+    (λ c. search needs)
+    (λ c. search needs)
+    (λ c. search needs)
+    (λ c. search needs)
+    slice-write-work-2
+    unlink-requires
+    same-length
+    returns-2)

@@ -1,0 +1,205 @@
+-- The walk along the links of the name's bucket (Links.antt). First loop: i is the latest of the bucket below the larger of i and `end`, so where it ends
+-- i is the latest below `end`. Second loop: the locals from i up to `end` have another name.
+use borrow.Author.Needs.{needs}
+use Rattle.store.proofs.local.look.Statement.{statement}
+use Rattle.store.proofs.local.look.Tie as tie
+use Prim.Native.Nat.{ℕ, _+_, _-_, _*_, _%_, _<_, _≤_, max}
+use mathlib.Core.Path.{_≡_, refl, sym, ap, _∙_}
+use native.Mathlib.Omega.{arith}
+use denote.Ref.{now}
+use Rattle.store.specs.Layout.{edge, local-at, latest, head}
+use Rattle.store.specs.Search.{found-of}
+use Rattle.store.proofs.Links.{head-within, turn-less, turn-self, walk-self, walk-start, walk-hit, walk-none, walk-miss, skip-start, skip-self, skip-next, skip-end}
+
+abbrev Inv-loop : tie.InvT-loop
+Inv-loop work nodes start end name b base i₀ i = (i ≤ i₀) × (latest work nodes (name % (8 * nodes)) (max i end) ≡ i)
+
+abbrev μ-loop : tie.MeasureT-loop
+μ-loop work nodes start end name b base i₀ i = i
+
+abbrev Inv-loop2 : tie.InvT-loop2
+Inv-loop2 work nodes start end name b base i₀ i =
+    (i ≤ end) × (latest work nodes (name % (8 * nodes)) i ≡ i) × ((m : ℕ) → i ≤ m → m < end → ¬ (local-at work nodes m .name ≡ name))
+
+abbrev μ-loop2 : tie.MeasureT-loop2
+μ-loop2 work nodes start end name b base i₀ i = i
+
+bucket-requires : tie.Need-bucket-requires Inv-loop μ-loop Inv-loop2 μ-loop2
+bucket-requires c κs =
+    let start = c .before in
+    (start .pre .some, start .pre .few)
+
+half-at-requires : tie.Need-half-at-requires Inv-loop μ-loop Inv-loop2 μ-loop2
+half-at-requires c κs =
+    let start = c .before .before in
+    omega (arith, c .bucket .ensures .1, start .pre .long)
+
+loop-holds : tie.Need-loop-holds Inv-loop μ-loop Inv-loop2 μ-loop2
+loop-holds c =
+    let start = c .before .before .before in
+    let bucket = c .before .bucket in
+    let a = start .args in
+    let w = now (a .work) in
+    let k : ℕ = a .name % (8 * a .nodes) in
+    let p = start .pre in
+    let b = bucket .ensures in
+    let e = c .half-at .ensures ∙ ap (λ x. head w (a .nodes) x) (b .0) in
+    (omega arith, rw e (skip-start w (a .nodes) (p .blocks) k (p .linked) (omega (arith, b .0, b .1)) (a .end) (p .within)))
+
+half-at-requires-2 : tie.Need-half-at-requires-2 Inv-loop μ-loop Inv-loop2 μ-loop2
+half-at-requires-2 c κs =
+    let start = c .before .before .before .before .before in
+    let bucket = c .before .before .before .bucket in
+    let half-at = c .before .before .half-at in
+    let loop = c .before .loop in
+    let a = start .args in
+    let w = now (a .work) in
+    let p = start .pre in
+    let b = bucket .ensures in
+    omega (arith, half-at .ensures, head-within w (a .nodes) (p .blocks) (bucket .result) (p .linked) (b .1), p .long, p .fits, loop .inv .0)
+
+loop-less : tie.Need-loop-less Inv-loop μ-loop Inv-loop2 μ-loop2
+loop-less c =
+    let start = c .before .before .before .before .before .before in
+    let bucket = c .before .before .before .before .bucket in
+    let loop = c .before .before .loop in
+    let loop-test = c .before .loop-test in
+    let half-at = c .before .before .before .half-at in
+    let a = start .args in
+    let w = now (a .work) in
+    let k : ℕ = a .name % (8 * a .nodes) in
+    let p = start .pre in
+    let b = bucket .ensures in
+    let u = head-within w (a .nodes) (p .blocks) (bucket .result) (p .linked) (b .1) in
+    let s = skip-self w (a .nodes) k (loop .i) (a .end) (loop-test .taken) (loop .inv .1) in
+    omega (arith, c .half-at2 .ensures, turn-less w (a .nodes) (p .blocks) k (loop .i) (p .linked) (omega arith) (omega (arith, half-at .ensures, loop .inv .0)) s)
+
+loop-again : tie.Need-loop-again Inv-loop μ-loop Inv-loop2 μ-loop2
+loop-again c =
+    let start = c .before .before .before .before .before .before in
+    let bucket = c .before .before .before .before .bucket in
+    let loop = c .before .before .loop in
+    let loop-test = c .before .loop-test in
+    let half-at = c .before .before .before .half-at in
+    let a = start .args in
+    let w = now (a .work) in
+    let k : ℕ = a .name % (8 * a .nodes) in
+    let p = start .pre in
+    let b = bucket .ensures in
+    let u = head-within w (a .nodes) (p .blocks) (bucket .result) (p .linked) (b .1) in
+    let s = skip-self w (a .nodes) k (loop .i) (a .end) (loop-test .taken) (loop .inv .1) in
+    let l : loop .i ≤ edge w (a .nodes) (p .blocks) = omega (arith, half-at .ensures, loop .inv .0) in (
+      omega (arith, c .half-at2 .ensures, loop .inv .0, turn-less w (a .nodes) (p .blocks) k (loop .i) (p .linked) (omega arith) l s),
+      rw (c .half-at2 .ensures) (skip-next w (a .nodes) (p .blocks) k (loop .i) (p .linked) (omega arith) l s (p .block) (a .end) (p .among) (p .ends) (loop-test .taken)),
+    )
+
+loop2-holds : tie.Need-loop2-holds Inv-loop μ-loop Inv-loop2 μ-loop2
+loop2-holds c =
+    let start = c .before .before .before .before .before in
+    let loop = c .before .loop in
+    let a = start .args in
+    let w = now (a .work) in
+    let k : ℕ = a .name % (8 * a .nodes) in
+    let p = start .pre in
+    let e = skip-end w (a .nodes) k (loop .i) (a .end) (c .loop-test .left) (loop .inv .1) in
+    (c .loop-test .left, walk-self w (a .nodes) k (loop .i) (a .end) e, walk-start w (a .nodes) (a .name) (a .end) (loop .i) e)
+
+shared-slice-read-x : tie.Need-shared-slice-read-x Inv-loop μ-loop Inv-loop2 μ-loop2
+shared-slice-read-x c =
+    let start = c .before .before .before .before .before .before .before .before in
+    let loop2 = c .before .before .loop2 in
+    omega (arith, start .pre .long, start .pre .within, start .pre .fits, loop2 .inv .0)
+
+cast-its : tie.Need-cast-its Inv-loop μ-loop Inv-loop2 μ-loop2
+cast-its c =
+    let start = c .before .before .before .before .before .before .before .before in
+    let loop2 = c .before .before .loop2 in
+    omega (arith, c .shared-slice-known2 .given (5724 + 2 * start .args .nodes + (loop2 .i - 1)))
+
+returns : tie.Need-returns Inv-loop μ-loop Inv-loop2 μ-loop2
+returns c =
+    let start = c .before .before .before .before .before .before .before .before .before in
+    let loop2 = c .before .before .before .loop2 in
+    let loop2-test = c .before .before .loop2-test in
+    let a = start .args in
+    let w = now (a .work) in
+    ap found-of (sym (walk-hit w (a .nodes) (a .name) (a .start) (a .end) (loop2 .i) (loop2 .inv .0) (loop2 .inv .2) (loop2-test .taken) (c .if1 .taken)))
+
+half-at-requires-3 : tie.Need-half-at-requires-3 Inv-loop μ-loop Inv-loop2 μ-loop2
+half-at-requires-3 c κs =
+    let start = c .before .before .before .before .before .before .before .before .before in
+    let loop2 = c .before .before .before .loop2 in
+    omega (arith, start .pre .long, start .pre .within, start .pre .fits, loop2 .inv .0)
+
+loop2-less : tie.Need-loop2-less Inv-loop μ-loop Inv-loop2 μ-loop2
+loop2-less c =
+    let start = c .before .before .before .before .before .before .before .before .before .before in
+    let loop2 = c .before .before .before .before .loop2 in
+    let a = start .args in
+    let w = now (a .work) in
+    let k : ℕ = a .name % (8 * a .nodes) in
+    let p = start .pre in
+    omega (arith, c .half-at3 .ensures, turn-less w (a .nodes) (p .blocks) k (loop2 .i) (p .linked) (omega arith) (omega (arith, p .within, loop2 .inv .0)) (loop2 .inv .1))
+
+loop2-again : tie.Need-loop2-again Inv-loop μ-loop Inv-loop2 μ-loop2
+loop2-again c =
+    let start = c .before .before .before .before .before .before .before .before .before .before in
+    let loop2 = c .before .before .before .before .loop2 in
+    let loop2-test = c .before .before .before .loop2-test in
+    let if1 = c .before .if1 in
+    let a = start .args in
+    let w = now (a .work) in
+    let k : ℕ = a .name % (8 * a .nodes) in
+    let p = start .pre in
+    let e = c .half-at3 .ensures in
+    let l : loop2 .i ≤ edge w (a .nodes) (p .blocks) = omega (arith, p .within, loop2 .inv .0) in (
+      omega (arith, e, loop2 .inv .0, turn-less w (a .nodes) (p .blocks) k (loop2 .i) (p .linked) (omega arith) l (loop2 .inv .1)),
+      rw e (turn-self w (a .nodes) (p .blocks) k (loop2 .i) (p .linked) (omega arith) l (loop2 .inv .1)),
+      rw e (walk-miss w (a .nodes) (p .blocks) k (loop2 .i) (p .linked) (omega arith) l (loop2 .inv .1) (a .name) (p .block) (a .end) refl (p .among) (p .ends) (loop2 .inv .0) (loop2 .inv .2) (if1 .left)),
+    )
+
+returns-2 : tie.Need-returns-2 Inv-loop μ-loop Inv-loop2 μ-loop2
+returns-2 c =
+    let start = c .before .before .before .before .before .before .before in
+    let loop2 = c .before .loop2 in
+    let a = start .args in
+    let w = now (a .work) in
+    ap found-of (sym (walk-none w (a .nodes) (a .name) (a .start) (a .end) (loop2 .i) (loop2 .inv .0) (loop2 .inv .2) (c .loop2-test .left)))
+
+pub look-spec : {M : Type 1} → statement M
+look-spec =
+    tie.close
+    (tie.spec
+    Inv-loop
+    μ-loop
+    Inv-loop2
+    μ-loop2
+    bucket-requires
+    (λ c. search needs)
+    (λ c. search needs)
+    (λ c. search needs)
+    (λ c. search needs)
+    (λ c. search needs)
+    half-at-requires
+    (λ c. search needs)
+    loop-holds
+    (λ c. search needs)
+    (λ c. search needs)
+    half-at-requires-2
+    (λ c. search needs)
+    loop-less
+    loop-again
+    loop2-holds
+    (λ c. search needs)
+    (λ c. search needs)
+    (λ c. search needs)
+    shared-slice-read-x
+    cast-its
+    returns
+    (λ c. search needs)
+    (λ c. search needs)
+    half-at-requires-3
+    (λ c. search needs)
+    loop2-less
+    loop2-again
+    returns-2)

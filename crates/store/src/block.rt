@@ -1,0 +1,46 @@
+// Blocks: where the locals of each open one begin.
+ghost use mathlib.Core.Path.{_≡_};
+ghost use Prim.Native.Nat.{_+_, _<_};
+ghost use Rattle.meaning.specs.State.{enter-block};
+ghost use Rattle.forward.specs.Forward.{fwd-unit};
+ghost use Rattle.store.specs.declared.Step.{Step};
+ghost use Rattle.store.specs.Store.{deeper, Sound, Fine, Kept};
+ghost use Rattle.store.specs.Promise.{nothing, Leaf, Popped};
+use crate::Scope;
+use crate::Step;
+use crate::half::half_at;
+use crate::half::set_half;
+use crate::local::bucket;
+
+// fn enter_block: the scope inside.
+pub fn enter_block(work: &mut [u32], scope: Scope) -> Scope
+    requires { ⌜ Sound (now work) scope × (scope .block < scope .nodes + 10) ⌝ }
+    ensures { λ r. ⌜ (r ≡ deeper scope) × Kept (now (work .entry)) (deeper scope) (now (work .exit)) × ((s : Step) → Fine (now (work .entry)) scope s → Leaf (now (work .entry)) scope s (now (work .exit)) (deeper scope) s nothing (fwd-unit enter-block)) ⌝ }
+{
+    let at = 5708 + scope.nodes + scope.block;
+    work[at + 1] = work[at];
+    Scope {
+        nodes: scope.nodes,
+        depth: scope.depth,
+        block: scope.block + 1,
+        loops: scope.loops,
+    }
+}
+
+// fn leave_block, and a function's last block: the locals of the block inside `scope` are popped, the latest first, refused or not.
+pub fn leave_block(work: &mut [u32], scope: Scope)
+    requires { ⌜ Sound (now work) (deeper scope) ⌝ }
+    ensures { λ _. ⌜ Popped (now (work .entry)) scope (now (work .exit)) ⌝ }
+{
+    let nodes = scope.nodes;
+    let at = 5708 + nodes + scope.block;
+    let from = work[at] as usize;
+    let mut i = work[at + 1] as usize;
+    while from < i {
+        i -= 1;
+        let name = (work[5724 + 2 * nodes + i] / 255) as usize;
+        let b = bucket(name, nodes);
+        let before = half_at(work, 9376 + i);
+        set_half(work, 24576 + 22 * nodes + b, before);
+    }
+}

@@ -1,0 +1,62 @@
+// Globals, by their names.
+ghost use mathlib.Core.Path.{_≡_};
+ghost use mathlib.Core.List.{List};
+ghost use Prim.Native.Nat.{ℕ, _<_, _≤_};
+ghost use Rattle.meaning.specs.State.{add-global, among, is-global-context, is-global-var};
+ghost use Rattle.forward.specs.Forward.{fwd-unit};
+ghost use Rattle.store.specs.declared.Step.{Step};
+ghost use Rattle.store.specs.Table.{stack};
+ghost use Rattle.store.specs.Layout.{global-at};
+ghost use Rattle.store.specs.Store.{while-going, global-scope, Sound, Fine};
+ghost use Rattle.store.specs.Promise.{a-global, Leaf, Tells};
+use crate::Scope;
+use crate::Step;
+use crate::again;
+use crate::half::half_at;
+use crate::half::set_half;
+
+// fn is_global_context
+pub fn is_global_context(scope: Scope) -> bool
+    ensures { λ r. ⌜ (r ≡ global-scope scope) × ((w : List ℕ) (s : Step) → Sound w scope → Tells w scope s r is-global-context) ⌝ }
+{
+    if scope.depth == 0 {
+        scope.block == 1
+    } else {
+        false
+    }
+}
+
+// fn is_global_var
+pub fn is_global_var(work: &[u32], step: Step, scope: Scope, name: usize) -> bool
+    requires { ⌜ Fine (now work) scope step ⌝ }
+    ensures { λ r. ⌜ (r ≡ among name (stack (global-at (now (work .entry))) (step .globals))) × Tells (now (work .entry)) scope step r (is-global-var name) ⌝ }
+{
+    let mut i = step.globals;
+    while 0 < i {
+        i -= 1;
+        if name == half_at(work, 8336 + i) as usize {
+            return true;
+        }
+    }
+    false
+}
+
+// self.globals.insert(..)
+pub fn add_global(work: &mut [u32], step: Step, scope: Scope, name: usize) -> Step
+    requires { ⌜ Fine (now work) scope step × while-going (step .outcome) (step .globals ≤ step .constants) × (name < 65536) ⌝ }
+    ensures { λ r. ⌜ Leaf (now (work .entry)) scope step (now (work .exit)) scope r a-global (fwd-unit (add-global name)) ⌝ }
+{
+    let o = step.outcome;
+    let meaning::Outcome::Accepted(_) = o else {
+        return step;
+    };
+    set_half(work, 8336 + step.globals, name as u32);
+    Step {
+        outcome: again(o),
+        code: step.code,
+        constants: step.constants,
+        globals: step.globals + 1,
+        functions: step.functions,
+        result: step.result,
+    }
+}

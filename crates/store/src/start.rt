@@ -1,0 +1,51 @@
+// The work area as a lowering finds it.
+ghost use mathlib.Core.Path.{_≡_};
+ghost use Prim.Native.Nat.{_+_, _*_, _≤_};
+ghost use lib.ListN.{length};
+ghost use Rattle.store.specs.Store.{first-step};
+ghost use Rattle.store.specs.Opening.{Zeroed, Framed, Begun};
+use crate::Step;
+
+// The words from `from` up to `to` are 0.
+fn zero(work: &mut [u32], from: usize, to: usize)
+    requires { ⌜ (from ≤ to) × (to ≤ length (now work)) ⌝ }
+    ensures { λ _. ⌜ Zeroed (now (work .entry)) from to (now (work .exit)) ⌝ }
+{
+    let mut i = from;
+    while i < to {
+        work[i] = 0;
+        i += 1;
+    }
+}
+
+// The frame of the function at `depth`.
+pub(crate) fn open_frame(work: &mut [u32], depth: usize, name: u32, block: u32, loops: u32)
+    requires { ⌜ (depth ≤ 8) × (3144 ≤ length (now work)) ⌝ }
+    ensures { λ _. ⌜ Framed (now (work .entry)) depth name block loops (now (work .exit)) ⌝ }
+{
+    let at = 3072 + 8 * depth;
+    work[at] = name;
+    work[at + 1] = 0;
+    work[at + 2] = 0;
+    work[at + 3] = block;
+    work[at + 4] = loops;
+}
+
+// A fresh compiler: the main function with its first block, and no local in any bucket.
+pub fn begin(work: &mut [u32], nodes: usize) -> Step
+    requires { ⌜ (1 ≤ nodes) × (nodes ≤ 32768) × (12288 + 16 * nodes ≤ length (now work)) ⌝ }
+    ensures { λ r. ⌜ (r ≡ first-step) × Begun (now (work .entry)) nodes (now (work .exit)) ⌝ }
+{
+    zero(work, 12288 + 11 * nodes, 12288 + 15 * nodes);
+    work[5708 + nodes] = 0;
+    work[5709 + nodes] = 0;
+    open_frame(work, 0, 65535, 0, 0);
+    Step {
+        outcome: meaning::Outcome::Accepted(0),
+        code: 0,
+        constants: 0,
+        globals: 0,
+        functions: 0,
+        result: 0,
+    }
+}
