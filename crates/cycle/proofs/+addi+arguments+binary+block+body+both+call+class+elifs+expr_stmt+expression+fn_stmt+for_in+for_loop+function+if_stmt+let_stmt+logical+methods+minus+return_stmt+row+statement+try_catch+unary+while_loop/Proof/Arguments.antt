@@ -3,7 +3,7 @@ use Prim.Native.Nat.{ℕ, _+_, _-_, _*_, _<_, _≤_}
 use Rattle.cycle.proofs.arguments.Reads as arguments
 use Rattle.cycle.proofs.+addi+arguments+binary+block+body+both+call+class+elifs+expr_stmt+expression+fn_stmt+for_in+for_loop+function+if_stmt+let_stmt+logical+methods+minus+return_stmt+row+statement+try_catch+unary+while_loop.Lts-arguments as lts
 use Rattle.cycle.proofs.expression.Reads as expression
-use Rattle.code.proofs.one.emit.Reads as emit-reads
+use Rattle.code.proofs.emit.Reads as emit-reads
 use Rattle.cycle.proofs.reading.count_of.Reads as count-of-reads
 use Rattle.cycle.proofs.reading.payload_of.Reads as payload-of-reads
 use Rattle.nodes.proofs.child.Reads as child-reads

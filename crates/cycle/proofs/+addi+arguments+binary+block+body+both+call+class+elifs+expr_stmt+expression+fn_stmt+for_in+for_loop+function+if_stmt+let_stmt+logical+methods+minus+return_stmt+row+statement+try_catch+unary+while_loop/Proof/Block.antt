@@ -4,8 +4,8 @@ use Rattle.cycle.proofs.block.Reads as block
 use Rattle.cycle.proofs.+addi+arguments+binary+block+body+both+call+class+elifs+expr_stmt+expression+fn_stmt+for_in+for_loop+function+if_stmt+let_stmt+logical+methods+minus+return_stmt+row+statement+try_catch+unary+while_loop.Lts-block as lts
 use Rattle.cycle.proofs.row.Reads as row
 use Rattle.cycle.proofs.reading.count_of.Reads as count-of-reads
-use Rattle.store.proofs.block.enter_block.Reads as enter-block-reads
-use Rattle.store.proofs.block.leave_block.Reads as leave-block-reads
+use Rattle.store.proofs.enter_block.Reads as enter-block-reads
+use Rattle.store.proofs.leave_block.Reads as leave-block-reads
 use Rattle.store.proofs.settle.Reads as settle-reads
 use Rattle.cycle.proofs.+addi+arguments+binary+block+body+both+call+class+elifs+expr_stmt+expression+fn_stmt+for_in+for_loop+function+if_stmt+let_stmt+logical+methods+minus+return_stmt+row+statement+try_catch+unary+while_loop.Proof.Order.{block-at, row-below}
 use Rattle.cycle.proofs.Nodes.{a-block}

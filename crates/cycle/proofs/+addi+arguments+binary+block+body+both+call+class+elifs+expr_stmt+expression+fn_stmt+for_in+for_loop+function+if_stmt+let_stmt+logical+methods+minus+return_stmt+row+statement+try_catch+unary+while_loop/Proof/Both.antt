@@ -3,10 +3,10 @@ use Prim.Native.Nat.{ℕ, _<_}
 use Rattle.cycle.proofs.both.Reads as both
 use Rattle.cycle.proofs.+addi+arguments+binary+block+body+both+call+class+elifs+expr_stmt+expression+fn_stmt+for_in+for_loop+function+if_stmt+let_stmt+logical+methods+minus+return_stmt+row+statement+try_catch+unary+while_loop.Lts-both as lts
 use Rattle.cycle.proofs.expression.Reads as expression
-use Rattle.code.proofs.one.emit.Reads as emit-reads
+use Rattle.code.proofs.emit.Reads as emit-reads
 use Rattle.cycle.proofs.operators.binary_opcode.Reads as binary-opcode-reads
 use Rattle.cycle.proofs.reading.words_of.Reads as words-of-reads
-use Rattle.store.proofs.register.next_register.Reads as next-register-reads
+use Rattle.store.proofs.next_register.Reads as next-register-reads
 use Rattle.cycle.proofs.+addi+arguments+binary+block+body+both+call+class+elifs+expr_stmt+expression+fn_stmt+for_in+for_loop+function+if_stmt+let_stmt+logical+methods+minus+return_stmt+row+statement+try_catch+unary+while_loop.Proof.Order.{both-at, expression-below}
 use Rattle.code.specs.Words.{Bytes}
 use Rattle.cycle.proofs.Nodes.{a-binary}

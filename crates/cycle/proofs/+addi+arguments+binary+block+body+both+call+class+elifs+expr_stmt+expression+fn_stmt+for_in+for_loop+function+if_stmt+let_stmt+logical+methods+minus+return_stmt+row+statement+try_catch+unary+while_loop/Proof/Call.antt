@@ -6,8 +6,8 @@ use Rattle.cycle.proofs.+addi+arguments+binary+block+body+both+call+cla
 use Rattle.cycle.proofs.expression.Reads as expression
 use Rattle.cycle.proofs.reading.arguments_in.Reads as arguments-in-reads
 use Rattle.cycle.proofs.reading.words_of.Reads as words-of-reads
-use Rattle.parts.proofs.calls.end_call.Reads as end-call-reads
-use Rattle.parts.proofs.calls.open_call.Reads as open-call-reads
+use Rattle.parts.proofs.end_call.Reads as end-call-reads
+use Rattle.parts.proofs.open_call.Reads as open-call-reads
 use Rattle.cycle.proofs.+addi+arguments+binary+block+body+both+call+class+elifs+expr_stmt+expression+fn_stmt+for_in+for_loop+function+if_stmt+let_stmt+logical+methods+minus+return_stmt+row+statement+try_catch+unary+while_loop.Proof.Order.{arguments-below, call-at, expression-below}
 use Rattle.meaning.proofs.Reading as reading
 use Rattle.cycle.proofs.Nodes.{a-call}

@@ -3,14 +3,14 @@ use Prim.Native.Nat.{ℕ, _+_, _*_, _<_, _≤_}
 use Rattle.cycle.proofs.class.Reads as class
 use Rattle.cycle.proofs.+addi+arguments+binary+block+body+both+call+class+elifs+expr_stmt+expression+fn_stmt+for_in+for_loop+function+if_stmt+let_stmt+logical+methods+minus+return_stmt+row+statement+try_catch+unary+while_loop.Lts-class as lts
 use Rattle.cycle.proofs.methods.Reads as methods
-use Rattle.code.proofs.function.make_class.Reads as make-class-reads
+use Rattle.code.proofs.make_class.Reads as make-class-reads
 use Rattle.cycle.proofs.reading.count_of.Reads as count-of-reads
 use Rattle.cycle.proofs.reading.words_of.Reads as words-of-reads
 use Rattle.leaves.proofs.superclass.Reads as superclass-reads
-use Rattle.parts.proofs.classes.end_class.Reads as end-class-reads
-use Rattle.parts.proofs.classes.open_class.Reads as open-class-reads
-use Rattle.store.proofs.block.enter_block.Reads as enter-block-reads
-use Rattle.store.proofs.block.leave_block.Reads as leave-block-reads
+use Rattle.parts.proofs.end_class.Reads as end-class-reads
+use Rattle.parts.proofs.open_class.Reads as open-class-reads
+use Rattle.store.proofs.enter_block.Reads as enter-block-reads
+use Rattle.store.proofs.leave_block.Reads as leave-block-reads
 use Rattle.cycle.proofs.+addi+arguments+binary+block+body+both+call+class+elifs+expr_stmt+expression+fn_stmt+for_in+for_loop+function+if_stmt+let_stmt+logical+methods+minus+return_stmt+row+statement+try_catch+unary+while_loop.Proof.Order.{class-at, methods-below}
 use Rattle.meaning.proofs.Reading.{Class}
 use Rattle.cycle.proofs.Nodes.{a-class}

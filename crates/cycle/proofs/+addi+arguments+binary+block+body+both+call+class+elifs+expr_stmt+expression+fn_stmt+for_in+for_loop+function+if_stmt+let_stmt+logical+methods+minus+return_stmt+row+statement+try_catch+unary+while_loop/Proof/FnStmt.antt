@@ -5,10 +5,10 @@ use Rattle.cycle.proofs.fn_stmt.Reads as fn-stmt
 use Rattle.cycle.proofs.+addi+arguments+binary+block+body+both+call+class+elifs+expr_stmt+expression+fn_stmt+for_in+for_loop+function+if_stmt+let_stmt+logical+methods+minus+return_stmt+row+statement+try_catch+unary+while_loop.Lts-fn_stmt as lts
 use Rattle.cycle.proofs.reading.payload_of.Reads as payload-of-reads
 use Rattle.cycle.proofs.reading.words_of.Reads as words-of-reads
-use Rattle.parts.proofs.names.declare.Reads as declare-reads
-use Rattle.parts.proofs.names.end_fun.Reads as end-fun-reads
-use Rattle.parts.proofs.functions.open_fun.Reads as open-fun-reads
-use Rattle.store.proofs.function.enter_function.Reads as enter-function-reads
+use Rattle.parts.proofs.declare.Reads as declare-reads
+use Rattle.parts.proofs.end_fun.Reads as end-fun-reads
+use Rattle.parts.proofs.open_fun.Reads as open-fun-reads
+use Rattle.store.proofs.enter_function.Reads as enter-function-reads
 use Rattle.cycle.proofs.+addi+arguments+binary+block+body+both+call+class+elifs+expr_stmt+expression+fn_stmt+for_in+for_loop+function+if_stmt+let_stmt+logical+methods+minus+return_stmt+row+statement+try_catch+unary+while_loop.Proof.Order.{body-below, fn-stmt-at}
 use Rattle.code.specs.Cuts.{Ends, cut-step}
 use Rattle.cycle.proofs.Nested.{begun, cut-owing, ended}

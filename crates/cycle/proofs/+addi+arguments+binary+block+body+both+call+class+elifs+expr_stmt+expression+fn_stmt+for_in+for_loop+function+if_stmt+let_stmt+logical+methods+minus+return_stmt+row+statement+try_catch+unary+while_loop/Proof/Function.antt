@@ -6,10 +6,10 @@ use Rattle.cycle.proofs.+addi+arguments+binary+block+body+both+call+cla
 use Rattle.cycle.proofs.reading.first_mark.Reads as first-mark-reads
 use Rattle.cycle.proofs.reading.payload_of.Reads as payload-of-reads
 use Rattle.cycle.proofs.reading.words_of.Reads as words-of-reads
-use Rattle.parts.proofs.functions.end_function.Reads as end-function-reads
-use Rattle.parts.proofs.functions.open_function.Reads as open-function-reads
-use Rattle.store.proofs.function.enter_function.Reads as enter-function-reads
-use Rattle.store.proofs.register.next_register.Reads as next-register-reads
+use Rattle.parts.proofs.end_function.Reads as end-function-reads
+use Rattle.parts.proofs.open_function.Reads as open-function-reads
+use Rattle.store.proofs.enter_function.Reads as enter-function-reads
+use Rattle.store.proofs.next_register.Reads as next-register-reads
 use Rattle.cycle.proofs.+addi+arguments+binary+block+body+both+call+class+elifs+expr_stmt+expression+fn_stmt+for_in+for_loop+function+if_stmt+let_stmt+logical+methods+minus+return_stmt+row+statement+try_catch+unary+while_loop.Proof.Order.{body-below, function-at}
 use Rattle.code.specs.Cuts.{Ends, cut-step}
 use Rattle.cycle.proofs.Nested.{begun, cut-room, ended}

@@ -3,13 +3,13 @@ use Prim.Native.Nat.{ℕ, _*_, _<_}
 use Rattle.cycle.proofs.expression.Reads as expression
 use Rattle.cycle.proofs.let_stmt.Reads as let-stmt
 use Rattle.cycle.proofs.+addi+arguments+binary+block+body+both+call+class+elifs+expr_stmt+expression+fn_stmt+for_in+for_loop+function+if_stmt+let_stmt+logical+methods+minus+return_stmt+row+statement+try_catch+unary+while_loop.Lts-let_stmt as lts
-use Rattle.code.proofs.one.emit_wide.Reads as emit-wide-reads
+use Rattle.code.proofs.emit_wide.Reads as emit-wide-reads
 use Rattle.cycle.proofs.reading.count_of.Reads as count-of-reads
 use Rattle.cycle.proofs.reading.words_of.Reads as words-of-reads
 use Rattle.leaves.proofs.let_only.Reads as let-only-reads
-use Rattle.parts.proofs.names.new_global.Reads as new-global-reads
-use Rattle.store.proofs.local.allocate_register.Reads as allocate-register-reads
-use Rattle.store.proofs.global.is_global_context.Reads as is-global-context-reads
+use Rattle.parts.proofs.new_global.Reads as new-global-reads
+use Rattle.store.proofs.allocate_register.Reads as allocate-register-reads
+use Rattle.store.proofs.is_global_context.Reads as is-global-context-reads
 use Rattle.cycle.proofs.+addi+arguments+binary+block+body+both+call+class+elifs+expr_stmt+expression+fn_stmt+for_in+for_loop+function+if_stmt+let_stmt+logical+methods+minus+return_stmt+row+statement+try_catch+unary+while_loop.Proof.Order.{expression-below, let-stmt-at}
 use Rattle.cycle.proofs.Nodes.{a-let}
 use Rattle.cycle.proofs.Sizes.{let-as-size, let-only-size}

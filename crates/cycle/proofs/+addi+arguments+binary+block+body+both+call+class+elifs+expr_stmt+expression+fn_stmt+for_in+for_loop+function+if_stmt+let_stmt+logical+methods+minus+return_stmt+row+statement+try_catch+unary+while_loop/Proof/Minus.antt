@@ -4,9 +4,9 @@ use Rattle.cycle.proofs.both.Reads as both
 use Rattle.cycle.proofs.expression.Reads as expression
 use Rattle.cycle.proofs.minus.Reads as minus
 use Rattle.cycle.proofs.+addi+arguments+binary+block+body+both+call+class+elifs+expr_stmt+expression+fn_stmt+for_in+for_loop+function+if_stmt+let_stmt+logical+methods+minus+return_stmt+row+statement+try_catch+unary+while_loop.Lts-minus as lts
-use Rattle.code.proofs.one.roll_back.Reads as roll-back-reads
+use Rattle.code.proofs.roll_back.Reads as roll-back-reads
 use Rattle.cycle.proofs.reading.words_of.Reads as words-of-reads
-use Rattle.store.proofs.register.next_register.Reads as next-register-reads
+use Rattle.store.proofs.next_register.Reads as next-register-reads
 use Rattle.cycle.proofs.+addi+arguments+binary+block+body+both+call+class+elifs+expr_stmt+expression+fn_stmt+for_in+for_loop+function+if_stmt+let_stmt+logical+methods+minus+return_stmt+row+statement+try_catch+unary+while_loop.Proof.Order.{both-below, expression-below, minus-at}
 use Rattle.cycle.proofs.Dropped.{Rolls, next-rolled, rolled, rolls}
 use Rattle.cycle.proofs.Nodes.{a-binary}

@@ -3,7 +3,7 @@ use Prim.Native.Nat.{ℕ, _<_}
 use Rattle.cycle.proofs.expression.Reads as expression
 use Rattle.cycle.proofs.unary.Reads as unary
 use Rattle.cycle.proofs.+addi+arguments+binary+block+body+both+call+class+elifs+expr_stmt+expression+fn_stmt+for_in+for_loop+function+if_stmt+let_stmt+logical+methods+minus+return_stmt+row+statement+try_catch+unary+while_loop.Lts-unary as lts
-use Rattle.code.proofs.one.emit.Reads as emit-reads
+use Rattle.code.proofs.emit.Reads as emit-reads
 use Rattle.cycle.proofs.operators.unary_opcode.Reads as unary-opcode-reads
 use Rattle.cycle.proofs.reading.words_of.Reads as words-of-reads
 use Rattle.cycle.proofs.+addi+arguments+binary+block+body+both+call+class+elifs+expr_stmt+expression+fn_stmt+for_in+for_loop+function+if_stmt+let_stmt+logical+methods+minus+return_stmt+row+statement+try_catch+unary+while_loop.Proof.Order.{expression-below, unary-at}
