@@ -1,14 +1,14 @@
 -- The answer, a refusal at a time: what the code finds in the scratch is what the definition of refusals 3 to 6 says.
 use mathlib.Core.Path.{_≡_, refl, sym, ap, _∙_}
 use mathlib.Core.Bool.{Bool, true, false, _&&_, cond}
-use mathlib.Core.List.{List, _++_}
-use Prim.Native.Nat.{ℕ, suc, _+_, _-_, _*_, _<_, _≤_}
+use mathlib.Core.List.{List}
+use Prim.Native.Nat.{ℕ, zero, suc, _+_, _-_, _*_, _/_, _<_, _≤_}
 use native.Mathlib.Omega.{arith}
-use lib.ListN.{length, getD, drop, replicate}
-use lib.Dec.{leb, ltb, eqb}
+use lib.ListN.{length, getD, length-drop}
+use lib.Dec.{leb, ltb}
 use borrow.Author.Tests.{eqb-true, eq-eqb, ne-eqb, lt-ltb, le-ltb, lt-leb, le-leb}
 use Rattle.meaning.specs.Base.{count, lowest}
-use Rattle.meaning.specs.Fields.{Field, field-at, fields, left}
+use Rattle.meaning.specs.Fields.{Field, field-at, span, whole, rest, fields, left}
 use Rattle.meaning.specs.Grammar.{shape-at}
 use Rattle.meaning.specs.Tree.{kids-of, all-kids, tree-at, parent-of, depth-of, depth-at}
 use Rattle.meaning.specs.Check.{framed, unless, work-for, checked-work, checked-fields, checked}
@@ -17,17 +17,28 @@ use Rattle.meaning.specs.declared.Cause.the-variants.{Frame, Many, Shape, Tree,
 use Rattle.meaning.specs.declared.Outcome.{Outcome}
 use Rattle.meaning.specs.declared.Outcome.the-variants.{Accepted, Refused}
 use Rattle.meaning.proofs.Lists.{lowest-all, lowest-same}
+use Rattle.meaning.proofs.FieldLaws.{whole-true, whole-false, fields-whole, fields-cut}
 use Rattle.meaning.proofs.Kids.{shape-tag, shape-kids, parent-above, depth-same}
-use Rattle.tree.specs.Used.{used, zeroed, scratch-after}
-use Rattle.tree.specs.Scratch.{enter-all, once, parent-in, Owned, depth-in, Beyond}
+use Rattle.tree.specs.Used.{few, used, zeroed, scratch-after}
+use Rattle.tree.specs.Scratch.{once, parent-in, Owned, depth-in, Entered}
 use Rattle.tree.proofs.Parents.{owner-is, once-is}
 
 -- ---- the words after all nodes, where every shape is right
 
-module _ (fs : List Field) (l₀ l : List ℕ) (n : ℕ) (en : n ≡ length fs) (some : 1 ≤ n) (few : n ≤ 32768) (room : n ≤ length l₀) (size : length l ≡ length l₀)
-    (el : l ≡ enter-all l₀ 0 fs) (shapes : n ≤ lowest (shape-at fs) n) where
+pub record Shapely (fs : List Field) (l : List ℕ) (n : ℕ) : Type 0 where
+  pub all : n ≡ length fs
+  pub some : 1 ≤ n
+  pub most : n ≤ 32768
+  pub room : n ≤ length l
+  pub shapes : n ≡ lowest (shape-at fs) n
+  pub entered : Entered fs l
+
+module _ (fs : List Field) (l : List ℕ) (n : ℕ) (v : Shapely fs l n) where
+  abbrev l₀ : List ℕ
+  l₀ = v .entered .before
+
   good : (j : ℕ) → j < n → shape-at fs j ≡ true
-  good = lowest-all (shape-at fs) n shapes
+  good = lowest-all (shape-at fs) n (omega (arith, v .shapes))
 
   good′ : (j : ℕ) → j < length fs → shape-at fs j ≡ true
   good′ j h = good j (omega arith)
@@ -40,7 +51,7 @@ module _ (fs : List Field) (l₀ l : List ℕ) (n : ℕ) (en : n ≡ length fs) 
 
   -- 4: the lowest node that is not a child exactly once
   pub free-is : (k : ℕ) → k ≡ lowest (λ (c : ℕ). once (getD l c 0)) (n - 1) → k ≡ lowest (tree-at fs) (n - 1)
-  free-is k e = e ∙ lowest-same _ _ (n - 1) (λ c h. ap (λ (x : List ℕ). once (getD x c 0)) el
+  free-is k e = e ∙ lowest-same _ _ (n - 1) (λ c h. ap (λ (x : List ℕ). once (getD x c 0)) (v .entered .all)
       ∙ once-is l₀ fs c (omega arith) (omega arith) (omega arith) (tag c (omega arith)) (none c (omega arith)))
 
   module _ (trees : n - 1 ≤ lowest (tree-at fs) (n - 1)) where
@@ -52,12 +63,12 @@ module _ (fs : List Field) (l₀ l : List ℕ) (n : ℕ) (en : n ≡ length fs) 
     above c h = parent-above fs c good′ (omega (arith, is-child c h))
 
     owner : (c : ℕ) → c < n - 1 → (256 ≤ getD l c 0) × (parent-in l c ≡ parent-of fs c)
-    owner c h = rw el (owner-is l₀ fs c (omega arith) (omega arith) (omega arith) (tag c (omega arith)) (none c (omega arith)) (is-child c h))
+    owner c h = rw (v .entered .all) (owner-is l₀ fs c (omega arith) (omega arith) (omega arith) (tag c (omega arith)) (none c (omega arith)) (is-child c h))
 
     pub owned-is : Owned l n
     owned-is = record {
-      some = some;
-      few = few;
+      some = v .some;
+      few = v .most;
       room = omega arith;
       above = λ c h. (owner c (omega arith) .0, omega (arith, owner c (omega arith) .1, above c (omega arith) .0), omega (arith, owner c (omega arith) .1, above c (omega arith) .1));
     }
@@ -65,7 +76,7 @@ module _ (fs : List Field) (l₀ l : List ℕ) (n : ℕ) (en : n ≡ length fs) 
     -- 5: the lowest node that is deeper than 128
     same-depth : (c : ℕ) → c < n → depth-in l n c ≡ depth-of fs c
     unfolding depth-of depth-in
-    same-depth c h = rw en (sym (depth-same (parent-of fs) (length fs - 1) (λ c q. (above c (omega arith) .0, omega (arith, above c (omega arith) .1)))
+    same-depth c h = rw (v .all) (sym (depth-same (parent-of fs) (length fs - 1) (λ c q. (above c (omega arith) .0, omega (arith, above c (omega arith) .1)))
         (parent-in l) (λ c q. owner c (omega arith) .1) (length fs) c (omega arith)))
 
     pub deep-is : (k : ℕ) → k ≡ lowest (λ (c : ℕ). leb (depth-in l n c) 128) n → k ≡ lowest (depth-at fs) n
@@ -133,32 +144,28 @@ module _ (n work : ℕ) where
 
 -- ---- the scratch that was lent
 
-module _ (s l : List ℕ) (n after : ℕ) (en : n ≡ length (fields s)) (ea : after ≡ length (left s)) where
-  -- refused by 1, by 2, or too short: it was not used
-  pub kept-empty : n ≡ 0 → l ≡ scratch-after s l
-  unfolding scratch-after used framed
-  kept-empty e = simp (← en, e)
+-- a field takes three bytes at least
+thirds : (f : ℕ) (s : List ℕ) → length s ≤ f → 3 * length (fields s) ≤ length s
+thirds zero s h = omega (arith, ap length (fields-cut s (whole-false s (omega arith))))
+thirds (suc f) s h = go (whole s) refl (thirds f (rest s))
+  where
+    go : (b : Bool) → whole s ≡ b → (length (rest s) ≤ f → 3 * length (fields (rest s)) ≤ length (rest s)) → 3 * length (fields s) ≤ length s
+    go false w more = omega (arith, ap length (fields-cut s w))
+    go true w more =
+        let size = length-drop (span s) s in
+        omega (arith, whole-true s w, ap length (fields-whole s w), size, more (omega (arith, whole-true s w, size)))
 
-  pub kept-cut : (after ≡ 0 → ⊥) → l ≡ scratch-after s l
-  unfolding scratch-after used framed
-  kept-cut h = simp (← en, ← ea, ne-eqb after 0 h) (go (ltb 0 n))
-    where
-      go : (b : Bool) → l ≡ zeroed (cond (b && false && leb n 32768 && leb n (length l)) n 0) l
-      go true = refl
-      go false = refl
+module _ (s : List ℕ) where
+  pub room-enough : (room : ℕ) → few (length s / 3) ≤ room → few (length (fields s)) ≤ room
+  room-enough room h = omega (arith, thirds (length s) s (omega arith))
 
-  module _ (h : n ≡ 0 → ⊥) (e : after ≡ 0) where
-    pub kept-many : 32768 < n → l ≡ scratch-after s l
-    unfolding scratch-after used framed
-    kept-many q = simp (← en, ← ea, lt-ltb 0 n (omega arith), eq-eqb after 0 e, lt-leb n 32768 q)
-
-    pub kept-short : n ≤ 32768 → length l < n → l ≡ scratch-after s l
-    unfolding scratch-after used framed
-    kept-short p q = simp (← en, ← ea, lt-ltb 0 n (omega arith), eq-eqb after 0 e, le-leb n 32768 p, lt-leb n (length l) q)
+  module _ (l : List ℕ) where
+    -- too short: it was not used
+    pub kept-short : length l < few (length s / 3) → l ≡ scratch-after s l
+    unfolding scratch-after used
+    kept-short h = simp (lt-leb _ _ h)
 
     -- it was used, and cleared
-    pub cleared-after : n ≤ 32768 → n ≤ length l → (l′ l″ : List ℕ) → Beyond n l l′ → l″ ≡ replicate n 0 ++ drop n l′ → l″ ≡ scratch-after s l
-    unfolding scratch-after used framed
-    cleared-after p q l′ l″ b c =
-        simp (← en, ← ea, lt-ltb 0 n (omega arith), eq-eqb after 0 e, le-leb n 32768 p, le-leb n (length l) q)
-        (c ∙ ap (λ (m : List ℕ). replicate n 0 ++ m) (b .rest))
+    pub zeroed-after : few (length s / 3) ≤ length l → (l′ : List ℕ) → l′ ≡ zeroed (few (length (fields s))) l → l′ ≡ scratch-after s l
+    unfolding scratch-after used
+    zeroed-after h l′ e = simp (le-leb _ _ h) e

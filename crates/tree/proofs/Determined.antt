@@ -2,17 +2,9 @@
 -- what is returned (r) and what is left behind each reference (s).
 use mathlib.Core.Path.{_≡_, sym, _∙_}
 use denote.Ref.{now}
-use Rattle.tree.proofs.fields.payload.Reads as payload
-use Rattle.tree.proofs.fields.rest_of.Reads as rest-of
 use Rattle.tree.proofs.check_in.Reads as check-in
 use Rattle.tree.proofs.check.Reads as check
 use Rattle.tree.proofs.yengrazul_check.Reads as yengrazul-check
-
-pub payload-determined : (κs : _) (args : _) (r r' : _) (s s' : _) → payload.Post κs args r s → payload.Post κs args r' s' → now r ≡ now r'
-payload-determined κs args r r' s s' p q = p ∙ sym q
-
-pub rest-of-determined : (κs : _) (args : _) (r r' : _) (s s' : _) → rest-of.Post κs args r s → rest-of.Post κs args r' s' → now r ≡ now r'
-rest-of-determined κs args r r' s s' p q = p ∙ sym q
 
 -- the outcome, the scratch
 pub check-in-determined : (κs : _) (args : _) (r r' : _) (s s' : _) → check-in.Post κs args r s → check-in.Post κs args r' s' → (r ≡ r') × (now (s .1 .0) ≡ now (s' .1 .0))

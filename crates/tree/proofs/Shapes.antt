@@ -1,27 +1,29 @@
--- The loop over the fields of s: until a wrong node is met, below node i every tag is entered, every shape is right, and what is still to be
--- entered from here on is what was to be entered at the start.
+-- The walk over the fields of s: until a wrong node is met, below node i every tag is entered, every shape is right, and what is still to be
+-- entered from here on is what was to be entered at the start. How many fields there are is known only at the end; which is the last shows
+-- before, by `last-is`, where the file is framed.
 use mathlib.Core.Path.{_≡_, refl, sym, ap, subst, fun-ext, _∙_}
 use mathlib.Core.Bool.{Bool, true, false, _&&_, cond}
 use mathlib.Core.List.{List}
-use mathlib.Core.Logic.{_⊎_, inl, inr}
-use Prim.Native.Nat.{ℕ, suc, _+_, _%_, _<_, _≤_}
+use mathlib.Core.Logic.{_⊎_, inl, inr, ⊎-elim}
+use Prim.Native.Nat.{ℕ, _+_, _-_, _%_, _<_, _≤_}
 use native.Mathlib.Nat.{not-suc-le-zero}
 use native.Mathlib.Numerals.{add-one}
 use native.Mathlib.Omega.{arith}
-use lib.ListN.{length, getD, set, List·getD-map}
+use lib.ListN.{length, getD, set, length-drop, List·getD-map}
 use lib.Seq.{getD-set-same, getD-set-other}
 use lib.Dec.{eqb, ltb}
-use borrow.Author.Tests.{ltb-true}
+use borrow.Author.Tests.{ltb-true, eqb-true, eqb-false, eq-eqb, ne-eqb}
 use borrow.Author.Count.{below-more}
 use Rattle.meaning.specs.Base.{lowest}
-use Rattle.meaning.specs.Fields.{Field, no-field, field-at, whole, span, payload-of, front, rest, fields}
+use Rattle.meaning.specs.Fields.{Field, no-field, field-at, whole, span, payload-of, front, rest, fields, left}
 use Rattle.meaning.specs.Grammar.{Item, never, names, inside, lawful, items-of, items-for, fits, kids, tags-of, shape-at}
 use Rattle.meaning.specs.Tree.{kids-of}
 use Rattle.meaning.proofs.Lists.{tail-part, lowest-found, lowest-none}
-use Rattle.meaning.proofs.FieldLaws.{from, Walk, walk-start, walk-at, walk-part, walk-done, fields-whole}
+use Rattle.meaning.proofs.FieldLaws.{from, Walk, walk-start, walk-more, walk-part, walk-end, walk-at, walk-below, walk-done, whole-true, whole-false, fields-whole}
 use Rattle.meaning.proofs.Kids.{none-fits}
-use Rattle.tree.specs.Rows.{start-of, fits-row, kids-row}
-use Rattle.tree.specs.Scratch.{tags-in, note-row, note-all, enter-all, Beyond}
+use Rattle.tree.specs.Rows.{start-of, fits-row}
+use Rattle.tree.specs.Scratch.{tags-in, note-row, note-all, enter-all, Beyond, Found}
+use Rattle.tree.specs.Used.{few}
 use Rattle.tree.proofs.Table.{fits-rows, kids-rows}
 use Rattle.tree.proofs.Words.{tag-at, row-kids, row-beyond, all-tags, beyond-refl, beyond-then, beyond-set, beyond-more}
 
@@ -57,11 +59,36 @@ kids-tag ts i tag false p e = go (eqb tag 0x1E) e
 abbrev is-last : List ℕ → ℕ → Bool
 is-last s i = eqb (i + 1) (length (fields s))
 
--- ---- the loop: l₀ is the scratch at the start, l as it is now, t the rest of the file from node i on
+-- where nothing stands after the fields, the last field is the one that ends the file
+module _ (s : List ℕ) (i : ℕ) (t : List ℕ) (m : Walk s i t) (w : whole t ≡ true) (none : length (left s) ≡ 0) where
+  next : Walk s (i + 1) (rest t)
+  next = walk-more s i t m w
+
+  size : length (rest t) ≡ length t - span t
+  size = length-drop (span t) t
+
+  ends-last : span t ≡ length t → i + 1 ≡ length (fields s)
+  ends-last e = walk-end s (i + 1) (rest t) next (whole-false (rest t) (omega (arith, size))) .0
+
+  last-ends : i + 1 ≡ length (fields s) → span t ≡ length t
+  last-ends e = go (whole (rest t)) refl
+    where
+      go : (b : Bool) → whole (rest t) ≡ b → span t ≡ length t
+      go true q = absurd (omega (arith, walk-below s (i + 1) (rest t) next q))
+      go false q = omega (arith, whole-true t w, size, walk-end s (i + 1) (rest t) next q .1)
+
+  pub last-is : (k : ℕ) → k ≡ span t → eqb k (length t) ≡ is-last s i
+  last-is k ek = go (eqb k (length t)) refl
+    where
+      go : (b : Bool) → eqb k (length t) ≡ b → b ≡ is-last s i
+      go true e = sym (eq-eqb _ _ (ends-last (sym ek ∙ eqb-true k (length t) e)))
+      go false e = sym (ne-eqb _ _ (λ q. eqb-false k (length t) e (ek ∙ last-ends q)))
+
+-- ---- the loop: l₀ is the scratch at the start, l as it is now, t the rest of the file from field i on
 
 pub record Passed (s l₀ l t : List ℕ) (i : ℕ) : Type 0 where
   pub walk : Walk s i t
-  pub beyond : Beyond i l₀ l
+  pub beyond : Beyond (few i) l₀ l
 
 -- no node so far is wrong
 pub record Shaped (s l₀ l t : List ℕ) (i : ℕ) : Type 0 where
@@ -69,48 +96,53 @@ pub record Shaped (s l₀ l t : List ℕ) (i : ℕ) : Type 0 where
   pub good : (k : ℕ) → k < i → shape-at (fields s) k ≡ true
   pub entered : enter-all l₀ 0 (fields s) ≡ enter-all l i (fields t)
 
--- w is the lowest wrong node of the n, or n while there is none
-pub record Judged (s l₀ l t : List ℕ) (n i w : ℕ) : Type 0 where
-  pub passed : Passed s l₀ l t i
-  pub most : w ≤ n
-  pub so-far : ((w ≡ n) × Shaped s l₀ l t i) ⊎ ((w < i) × (w ≡ lowest (shape-at (fields s)) n))
+-- refusals 1 and 2 are passed, so that shapes matter
+abbrev Numbered : List ℕ → Type 0
+Numbered s = (length (left s) ≡ 0) × (length (fields s) ≤ 32768)
 
-pub judged-start : (s l₀ : List ℕ) (n : ℕ) → Judged s l₀ l₀ s n 0 n
-judged-start s l₀ n = record {
+-- every node is right so far, or w is the lowest wrong one
+abbrev So-far : (s l₀ l t : List ℕ) (i w : ℕ) → Type 0
+So-far s l₀ l t i w = ((w ≡ 32768) × Shaped s l₀ l t i) ⊎ ((w < i) × (w ≡ lowest (shape-at (fields s)) (length (fields s))))
+
+pub record Judged (s l₀ l t : List ℕ) (i w : ℕ) : Type 0 where
+  pub passed : Passed s l₀ l t i
+  pub most : w ≤ 32768
+  pub so-far : Numbered s → So-far s l₀ l t i w
+
+pub judged-start : (s l₀ : List ℕ) → Judged s l₀ l₀ s 0 32768
+judged-start s l₀ = record {
   passed = record { walk = walk-start s; beyond = beyond-refl 0 l₀ };
   most = omega arith;
-  so-far = inl (refl, record { known = λ k h. absurd (not-suc-le-zero h); good = λ k h. absurd (not-suc-le-zero h); entered = refl });
+  so-far = λ _. inl (refl, record { known = λ k h. absurd (not-suc-le-zero h); good = λ k h. absurd (not-suc-le-zero h); entered = refl });
 }
-
--- before a wrong node all are right
-pub shaped-yet : {s l₀ l t : List ℕ} {n i w : ℕ} → Judged s l₀ l t n i w → i < w → (w ≡ n) × Shaped s l₀ l t i
-shaped-yet {s} {l₀} {l} {t} {n} {i} {w} j h = go (j .so-far)
-  where
-    go : ((w ≡ n) × Shaped s l₀ l t i) ⊎ ((w < i) × (w ≡ lowest (shape-at (fields s)) n)) → (w ≡ n) × Shaped s l₀ l t i
-    go (inl x) = x
-    go (inr x) = absurd (omega (arith, x .0))
 
 module _ (s l₀ l t : List ℕ) (i : ℕ) (m : Passed s l₀ l t i) where
   -- whatever the payload, only words below i have changed
   noted-beyond : (first : ℕ) (p l′ : List ℕ) → l′ ≡ note-row (lawful (tags-in l) i) l i first 0 p → Beyond i l l′
   noted-beyond first p l′ el = subst (Beyond i l) (sym el) (row-beyond (tags-in l) i l first 0 p)
 
-  pub passed-more : whole t ≡ true → (first : ℕ) (p l′ : List ℕ) (k : ℕ) → l′ ≡ note-row (lawful (tags-in l) i) l i first 0 p → k ≡ span t → Passed s l₀ (set l′ i (getD t 0 0)) (from k t) (i + 1)
-  passed-more w first p l′ k el ek = record {
+  passed-more : whole t ≡ true → i < 32768 → (first : ℕ) (p l′ : List ℕ) (k : ℕ) → l′ ≡ note-row (lawful (tags-in l) i) l i first 0 p → k ≡ span t
+      → Passed s l₀ (set l′ i (getD t 0 0)) (from k t) (i + 1)
+  passed-more w low first p l′ k el ek = record {
     walk = walk-part s i t k (m .walk) w ek;
-    beyond = beyond-then (i + 1) l₀ l′ (set l′ i (getD t 0 0))
-        (beyond-more i (i + 1) l₀ l′ (omega arith) (beyond-then i l₀ l l′ (m .beyond) (noted-beyond first p l′ el)))
-        (beyond-set (i + 1) l′ i (getD t 0 0) (omega arith));
+    beyond = beyond-then (few (i + 1)) l₀ l (set l′ i (getD t 0 0))
+        (beyond-more (few i) (few (i + 1)) l₀ l (omega arith) (m .beyond))
+        (beyond-then (few (i + 1)) l l′ (set l′ i (getD t 0 0))
+        (beyond-more i (few (i + 1)) l l′ (omega arith) (noted-beyond first p l′ el))
+        (beyond-set (few (i + 1)) l′ i (getD t 0 0) (omega arith)));
   }
+
+  passed-over : whole t ≡ true → (k : ℕ) → k ≡ span t → Passed s l₀ l (from k t) (i + 1)
+  passed-over w k ek = record { walk = walk-part s i t k (m .walk) w ek; beyond = beyond-more (few i) (few (i + 1)) l₀ l (omega arith) (m .beyond) }
 
   module _ (v : Shaped s l₀ l t i) where
     -- after the last field
-    pub shaped-end : (n : ℕ) → n ≡ length (fields s) → n ≤ i → l ≡ enter-all l₀ 0 (fields s)
+    shaped-end : length (fields s) ≤ i → l ≡ enter-all l₀ 0 (fields s)
     unfolding enter-all
-    shaped-end n en h = sym (v .entered ∙ rw (walk-done s i t (m .walk) (omega arith)))
+    shaped-end h = sym (v .entered ∙ rw (walk-done s i t (m .walk) h))
 
-    pub shaped-all : (n : ℕ) → n ≡ length (fields s) → n ≤ i → n ≡ lowest (shape-at (fields s)) n
-    shaped-all n en h = sym (lowest-none (shape-at (fields s)) n (λ j q. v .good j (omega arith)))
+    shaped-all : i ≡ lowest (shape-at (fields s)) i
+    shaped-all = sym (lowest-none (shape-at (fields s)) i (v .good))
 
     module _ (w : whole t ≡ true) where
       here : field-at (fields s) i ≡ front t
@@ -120,11 +152,11 @@ module _ (s l₀ l t : List ℕ) (i : ℕ) (m : Passed s l₀ l t i) where
       tag-here = List·getD-map (λ (f : Field). f .tag) (fields s) i no-field ∙ ap (λ (f : Field). f .tag) here
 
       -- a payload that is tested is that of node i
-      module _ (n first : ℕ) (p : List ℕ) (en : n ≡ length (fields s)) (ef : first ≡ start-of (getD t 0 0) (eqb (i + 1) n)) (ep : p ≡ payload-of t) where
+      module _ (none : length (left s) ≡ 0) (k first : ℕ) (p : List ℕ) (ek : k ≡ span t) (ef : first ≡ start-of (getD t 0 0) (eqb k (length t))) (ep : p ≡ payload-of t) where
         first-is : first ≡ start-of (getD t 0 0) (is-last s i)
-        first-is = rw (← en) ef
+        first-is = ef ∙ ap (start-of (getD t 0 0)) (last-is s i t (m .walk) w none k ek)
 
-        pub shaped-test : fits-row (lawful (tags-in l) i) first 0 p ≡ shape-at (fields s) i
+        shaped-test : fits-row (lawful (tags-in l) i) first 0 p ≡ shape-at (fields s) i
         unfolding shape-at
         shaped-test =
             rw (first-is, ep)
@@ -133,8 +165,8 @@ module _ (s l₀ l t : List ℕ) (i : ℕ) (m : Passed s l₀ l t i) where
             ∙ rw here)
 
         -- the lowest node that is wrong
-        pub shaped-stop : i < n → false ≡ fits-row (lawful (tags-in l) i) first 0 p → i ≡ lowest (shape-at (fields s)) n
-        shaped-stop h e = sym (lowest-found (shape-at (fields s)) n i h (v .good) (sym shaped-test ∙ sym e))
+        shaped-stop : false ≡ fits-row (lawful (tags-in l) i) first 0 p → i ≡ lowest (shape-at (fields s)) (length (fields s))
+        shaped-stop e = sym (lowest-found (shape-at (fields s)) (length (fields s)) i (walk-below s i t (m .walk) w) (v .good) (sym shaped-test ∙ sym e))
 
         module _ (e : true ≡ fits-row (lawful (tags-in l) i) first 0 p) where
           -- its children are noted
@@ -147,10 +179,10 @@ module _ (s l₀ l t : List ℕ) (i : ℕ) (m : Passed s l₀ l t i) where
               (sym (kids-rows (getD t 0 0) (is-last s i) (payload-of t))
               ∙ kids-tag (tags-in l) i (getD t 0 0) (is-last s i) (payload-of t) (fits-rows (lawful (tags-in l) i) (getD t 0 0) (is-last s i) (payload-of t) ∙ rw (← first-is, ← ep) (sym e))))
 
-          pub shaped-more : (l′ : List ℕ) (k : ℕ) → l′ ≡ note-row (lawful (tags-in l) i) l i first 0 p → k ≡ span t → getD t 0 0 < 256 → i < length l₀
+          shaped-more : (l′ : List ℕ) → l′ ≡ note-row (lawful (tags-in l) i) l i first 0 p → getD t 0 0 < 256 → i < length l₀
               → Shaped s l₀ (set l′ i (getD t 0 0)) (from k t) (i + 1)
           unfolding enter-all
-          shaped-more l′ k el ek small room = record {
+          shaped-more l′ el small room = record {
             known = below-more (λ j. getD (tags-in (set l′ i (getD t 0 0))) j 0 ≡ getD (tags-of (fields s)) j 0) i
                 (λ j h. tag-at (set l′ i (getD t 0 0)) j ∙ ap (λ (x : ℕ). x % 256) (getD-set-other l′ i j (getD t 0 0) 0 (λ q. omega arith)) ∙ sym (tag-at l′ j) ∙ same-tag j ∙ v .known j h)
                 (tag-at (set l′ i (getD t 0 0)) i ∙ ap (λ (x : ℕ). x % 256) (getD-set-same l′ i (getD t 0 0) 0 (omega (arith, noted-beyond first p l′ el .size, m .beyond .size))) ∙ whole-tag ∙ sym tag-here);
@@ -163,3 +195,51 @@ module _ (s l₀ l t : List ℕ) (i : ℕ) (m : Passed s l₀ l t i) where
 
               whole-tag : getD t 0 0 % 256 ≡ getD t 0 0
               whole-tag = omega arith
+
+-- ---- a turn, and the end
+
+module _ (s l₀ l t : List ℕ) (i w : ℕ) (j : Judged s l₀ l t i w) where
+  module _ (is : whole t ≡ true) (k : ℕ) (ek : k ≡ span t) where
+    -- behind a wrong node, or behind all that a tree may have
+    pub judged-over : w ≤ i → (l′ : List ℕ) (w′ : ℕ) → l′ ≡ l → w′ ≡ w → Judged s l₀ l′ (from k t) (i + 1) w′
+    judged-over h l′ w′ el ew = rw (el, ew) record {
+      passed = passed-over s l₀ l t i (j .passed) is k ek;
+      most = j .most;
+      so-far = λ q. ⊎-elim (λ x. absurd (omega (arith, x .0, q .1, walk-below s i t (j .passed .walk) is))) (λ x. inr (omega (arith, x .0), x .1)) (j .so-far q);
+    }
+
+    -- a node that is tested, with the answer r
+    module _ (yet : i < w) (room : i < length l₀) (small : getD t 0 0 < 256) (first : ℕ) (p l′ l″ : List ℕ)
+        (ef : first ≡ start-of (getD t 0 0) (eqb k (length t))) (ep : p ≡ payload-of t) (r : Bool) (er : r ≡ fits-row (lawful (tags-in l) i) first 0 p)
+        (el : l′ ≡ note-row (lawful (tags-in l) i) l i first 0 p) (el′ : l″ ≡ set l′ i (getD t 0 0)) where
+      shaped-yet : Numbered s → (w ≡ 32768) × Shaped s l₀ l t i
+      shaped-yet q = ⊎-elim (λ x. x) (λ x. absurd (omega (arith, x .0))) (j .so-far q)
+
+      pub judged-more : (w′ : ℕ) → ((r ≡ false) × (w′ ≡ i)) ⊎ ((r ≡ true) × (w′ ≡ w)) → Judged s l₀ l″ (from k t) (i + 1) w′
+      judged-more w′ told = record {
+        passed = rw el′ (passed-more s l₀ l t i (j .passed) is (omega (arith, j .most)) first p l′ k el ek);
+        most = ⊎-elim (λ x. omega (arith, x .1, j .most)) (λ x. omega (arith, x .1, j .most)) told;
+        so-far = λ q. let v = shaped-yet q in ⊎-elim
+            (λ x. inr (omega (arith, x .1), x .1 ∙ shaped-stop s l₀ l t i (j .passed) (v .1) is (q .0) k first p ek ef ep (sym (x .0) ∙ er)))
+            (λ x. inl (x .1 ∙ v .0, rw el′ (shaped-more s l₀ l t i (j .passed) (v .1) is (q .0) k first p ek ef ep (sym (x .0) ∙ er) l′ el small room)))
+            told;
+      }
+
+  module _ (cut : whole t ≡ false) where
+    end : (i ≡ length (fields s)) × (length t ≡ length (left s))
+    end = walk-end s i t (j .passed .walk) cut
+
+    found : length t ≡ 0 → i ≤ 32768 → So-far s l₀ l t i w
+    found none most = j .so-far (omega (arith, end .1), omega (arith, end .0))
+
+    pub judged-end : few (length (fields s)) ≤ length l₀ → Found s l i (length t) w
+    judged-end room = record {
+      whole-fields = end .0;
+      bytes-after = end .1;
+      room = omega (arith, end .0, j .passed .beyond .size);
+      misshapen = λ none most h. ⊎-elim (λ x. absurd (omega (arith, x .0))) (λ x. rw (end .0) (x .1)) (found none most);
+      shapely = λ none most h. ⊎-elim
+          (λ x. (shaped-all s l₀ l t i (j .passed) (x .1), record { before = l₀; size = j .passed .beyond .size; all = shaped-end s l₀ l t i (j .passed) (x .1) (omega (arith, end .0)) }))
+          (λ x. absurd (omega (arith, x .0)))
+          (found none most);
+    }

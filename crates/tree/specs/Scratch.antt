@@ -1,5 +1,5 @@
 -- What the scratch holds: a word for each node, its tag and 256 times who has it as a child. That is 0 where no node has, i + 1 where node i
--- has it once, 65,535 where it is a child more than once. Only contracts of inner functions cite this; proofs/Owners.antt proves that the
+-- has it once, 65,535 where it is a child more than once. Only contracts of inner functions cite this; proofs/Parents.antt proves that the
 -- words say what `count` and `parent-of` say.
 use mathlib.Core.Path.{_≡_}
 use mathlib.Core.Bool.{Bool, _&&_, cond}
@@ -7,9 +7,11 @@ use mathlib.Core.List.{List, [], _∷_, map}
 use Prim.Native.Nat.{ℕ, suc, _+_, _-_, _*_, _/_, _%_, _<_, _≤_}
 use lib.ListN.{length, getD, set, drop}
 use lib.Dec.{leb, ltb, eqb}
-use Rattle.meaning.specs.Fields.{Field}
-use Rattle.meaning.specs.Grammar.{names}
+use Rattle.meaning.specs.Base.{lowest}
+use Rattle.meaning.specs.Fields.{Field, fields, left}
+use Rattle.meaning.specs.Grammar.{names, shape-at}
 use Rattle.meaning.specs.Tree.{kids-of, depth-by}
+use Rattle.tree.specs.Used.{few}
 use Rattle.tree.specs.Rows.{row-at, kind-in, next-left, next-row}
 
 -- the tags that the words hold
@@ -51,6 +53,20 @@ enter-all l i (f ∷ fs) = enter-all (set (note-all l i (kids-of f)) i (f .tag))
 pub record Beyond (n : ℕ) (a b : List ℕ) : Type 0 where
   pub size : length b ≡ length a
   pub rest : drop n b ≡ drop n a
+
+-- the words as after all nodes, whatever they were before
+pub record Entered (fs : List Field) (l : List ℕ) : Type 0 where
+  pub before : List ℕ
+  pub size : length l ≡ length before
+  pub all : l ≡ enter-all before 0 fs
+
+-- what one walk over a file finds, and leaves in the scratch: the whole fields, the bytes after them, and, where refusals 1 and 2 are passed, the lowest wrong shape
+pub record Found (tree l : List ℕ) (count after wrong : ℕ) : Type 0 where
+  pub whole-fields : count ≡ length (fields tree)
+  pub bytes-after : after ≡ length (left tree)
+  pub room : few count ≤ length l
+  pub misshapen : after ≡ 0 → count ≤ 32768 → wrong < count → wrong ≡ lowest (shape-at (fields tree)) count
+  pub shapely : after ≡ 0 → count ≤ 32768 → count ≤ wrong → (count ≡ lowest (shape-at (fields tree)) count) × Entered (fields tree) l
 
 -- the word says that its node is a child exactly once, and of which
 unfoldable pub once : ℕ → Bool

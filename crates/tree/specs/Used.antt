@@ -1,16 +1,19 @@
 -- What a check leaves in the scratch that it is lent: the words that it used are zero, the others as they were.
-use Prim.Native.Nat.{ℕ}
-use mathlib.Core.Bool.{_&&_, cond}
+use Prim.Native.Nat.{ℕ, min, _/_}
+use mathlib.Core.Bool.{cond}
 use mathlib.Core.List.{List, [], _∷_, _++_}
 use lib.ListN.{length, drop, replicate}
 use lib.Dec.{leb}
 use Rattle.meaning.specs.Fields.{fields}
-use Rattle.meaning.specs.Check.{framed}
 use Rattle.meaning.specs.declared.Answer.{Answer}
 
--- it uses a word for each node, where refusals 1 and 2 are passed and there are words enough; else none
+-- n, but 32,768 at most: a tree has no more nodes
+abbrev pub few : ℕ → ℕ
+few n = min n 32768
+
+-- it uses a word for each whole field, 32,768 at most, where there are enough for any file of the same length; else none
 unfoldable pub used : (tree : List ℕ) (room : ℕ) → ℕ
-used tree room = cond (framed tree && leb (length (fields tree)) 32768 && leb (length (fields tree)) room) (length (fields tree)) 0
+used tree room = cond (leb (few (length tree / 3)) room) (few (length (fields tree))) 0
 
 abbrev pub zeroed : ℕ → List ℕ → List ℕ
 zeroed n l = replicate n 0 ++ drop n l

@@ -4,28 +4,46 @@ mod owners;
 mod rows;
 mod shape;
 
-pub use fields::payload;
-pub use fields::rest_of;
 use meaning::Cause;
 use meaning::Outcome;
+use shape::Walked;
 ghost use mathlib.Core.Path.{_≡_};
 ghost use Prim.Native.Nat.{_≤_};
 ghost use lib.ListN.{length};
 ghost use Rattle.meaning.specs.Fields.{fields};
-ghost use Rattle.meaning.specs.Check.{checked-fields, checked};
+ghost use Rattle.meaning.specs.Check.{checked};
 ghost use Rattle.meaning.specs.Answer.{answer};
-ghost use Rattle.tree.specs.Used.{scratch-after, told};
-ghost use Rattle.tree.specs.Scratch.{Beyond};
+ghost use Rattle.tree.specs.Used.{few, zeroed, scratch-after, told};
+ghost use Rattle.tree.specs.Scratch.{Beyond, Found};
 
-// Refusals 3 to 6 of n nodes, with a word of scratch for each.
-fn judged(tree: &[u8], scratch: &mut [u32], n: usize, work_len: usize) -> Outcome
-    requires { ⌜ (n ≡ length (fields (now tree))) × (1 ≤ n) × (n ≤ 32768) × (n ≤ length (now scratch)) ⌝ }
-    ensures outcome { λ r. ⌜ r ≡ checked-fields (fields (now (tree .entry))) «work_len» ⌝ }
-    ensures beyond { λ _. ⌜ Beyond n (now (scratch .entry)) (now (scratch .exit)) ⌝ }
+// n, but 32,768 at most: a tree has no more nodes.
+fn few(n: usize) -> usize
+    ensures { λ r. ⌜ r ≡ few n ⌝ }
 {
-    let shape = shape::first_misshapen(scratch, tree, n);
-    if shape < n {
-        return Outcome::Refused(Cause::Shape, shape);
+    if n < 32768 {
+        return n;
+    }
+    32768
+}
+
+// Refusals 1 to 6, in that order, or the number of nodes, from what a walk found and left in the scratch. The contract alone reads the tree.
+fn judged(tree: &[u8], scratch: &mut [u32], walked: Walked, work_len: usize) -> Outcome
+    requires { ⌜ Found (now tree) (now scratch) (walked .count) (walked .after) (walked .wrong) ⌝ }
+    ensures outcome { λ r. ⌜ r ≡ checked (now (tree .entry)) «work_len» ⌝ }
+    ensures beyond { λ _. ⌜ Beyond (few (walked .count)) (now (scratch .entry)) (now (scratch .exit)) ⌝ }
+{
+    let n = walked.count;
+    if n == 0 {
+        return Outcome::Refused(Cause::Frame, n);
+    }
+    if walked.after != 0 {
+        return Outcome::Refused(Cause::Frame, n);
+    }
+    if 32768 < n {
+        return Outcome::Refused(Cause::Many, 32768);
+    }
+    if walked.wrong < n {
+        return Outcome::Refused(Cause::Shape, walked.wrong);
     }
     let free = owners::first_unowned(scratch, n - 1);
     if free < n - 1 {
@@ -41,49 +59,40 @@ fn judged(tree: &[u8], scratch: &mut [u32], n: usize, work_len: usize) -> Outcom
     Outcome::Accepted(n)
 }
 
-// The same in scratch of its own: a small one for a small tree, so that few words are made.
-fn judged_apart(tree: &[u8], n: usize, work_len: usize) -> Outcome
-    requires { ⌜ (n ≡ length (fields (now tree))) × (1 ≤ n) × (n ≤ 32768) ⌝ }
-    ensures { λ r. ⌜ r ≡ checked-fields (fields (now (tree .entry))) «work_len» ⌝ }
-{
-    if n <= 2048 {
-        let mut small = [0u32; 2048];
-        return judged(tree, &mut small, n, work_len);
-    }
-    let mut large = [0u32; 32768];
-    judged(tree, &mut large, n, work_len)
-}
-
-// Refusals 1 to 6, in that order, or the number of nodes. The scratch serves where it has a word for each node, and those are zero afterwards.
-pub fn check_in(tree: &[u8], scratch: &mut [u32], work_len: usize) -> Outcome
+// The same with the walk. The words that it uses are zero afterwards.
+fn check_with(tree: &[u8], scratch: &mut [u32], work_len: usize) -> Outcome
+    requires { ⌜ few (length (fields (now tree))) ≤ length (now scratch) ⌝ }
     ensures outcome { λ r. ⌜ r ≡ checked (now (tree .entry)) «work_len» ⌝ }
-    ensures scratch { λ _. ⌜ now (scratch .exit) ≡ scratch-after (now (tree .entry)) (now (scratch .entry)) ⌝ }
+    ensures scratch { λ _. ⌜ now (scratch .exit) ≡ zeroed (few (length (fields (now (tree .entry))))) (now (scratch .entry)) ⌝ }
 {
-    let walked = fields::walk(tree);
-    let n = walked.count;
-    if n == 0 {
-        return Outcome::Refused(Cause::Frame, n);
-    }
-    if walked.after != 0 {
-        return Outcome::Refused(Cause::Frame, n);
-    }
-    if 32768 < n {
-        return Outcome::Refused(Cause::Many, 32768);
-    }
-    if scratch.len() < n {
-        return judged_apart(tree, n, work_len);
-    }
-    let outcome = judged(tree, scratch, n, work_len);
+    let walked = shape::walk(scratch, tree);
+    let n = few(walked.count);
+    let outcome = judged(tree, scratch, walked, work_len);
     owners::clear(scratch, n);
     outcome
 }
 
-// The same where nothing is lent.
+// The same in scratch of its own: a small one for a short file, so that few words are made. A field takes three bytes at least.
 pub fn check(tree: &[u8], work_len: usize) -> Outcome
     ensures { λ r. ⌜ r ≡ checked (now (tree .entry)) «work_len» ⌝ }
 {
-    let mut none = [0u32; 1];
-    check_in(tree, &mut none, work_len)
+    if tree.len() / 3 <= 4096 {
+        let mut small = [0u32; 4096];
+        return check_with(tree, &mut small, work_len);
+    }
+    let mut large = [0u32; 32768];
+    check_with(tree, &mut large, work_len)
+}
+
+// The same. The scratch serves where it has a word for each field that there may be.
+pub fn check_in(tree: &[u8], scratch: &mut [u32], work_len: usize) -> Outcome
+    ensures outcome { λ r. ⌜ r ≡ checked (now (tree .entry)) «work_len» ⌝ }
+    ensures scratch { λ _. ⌜ now (scratch .exit) ≡ scratch-after (now (tree .entry)) (now (scratch .entry)) ⌝ }
+{
+    if scratch.len() < few(tree.len() / 3) {
+        return check(tree, work_len);
+    }
+    check_with(tree, scratch, work_len)
 }
 
 // For C and Rust: number, place, and as length the number of nodes.

@@ -1,5 +1,6 @@
-// Refusal 3, and on the way who has whom as a child. The scratch has a word for each node below the one in hand: its tag, and 256 times the
+// One walk over the fields: how many there are, refusal 3, and on the way who has whom as a child. The scratch has a word for each node below the one in hand: its tag, and 256 times the
 // node that has it as a child plus one, 0 where none has, 65,535 where it is a child more than once.
+use crate::fields::is_whole;
 use crate::fields::payload;
 use crate::fields::span_of;
 use crate::fields::wide;
@@ -16,11 +17,11 @@ ghost use mathlib.Core.Path.{_≡_};
 ghost use mathlib.Core.Bool.{cond};
 ghost use Prim.Native.Nat.{_<_, _≤_};
 ghost use lib.ListN.{length};
-ghost use Rattle.meaning.specs.Base.{lowest};
 ghost use Rattle.meaning.specs.Fields.{fields};
-ghost use Rattle.meaning.specs.Grammar.{bounds, lawful, shape-at};
+ghost use Rattle.meaning.specs.Grammar.{bounds, lawful};
 ghost use Rattle.tree.specs.Rows.{row-list, first-rows, fits-row};
-ghost use Rattle.tree.specs.Scratch.{tags-in, note, note-word, note-row, enter-all, Beyond};
+ghost use Rattle.tree.specs.Scratch.{tags-in, note, note-word, note-row, Beyond, Found};
+ghost use Rattle.tree.specs.Used.{few};
 
 // Notes that node i has w as a child.
 fn note(scratch: &mut [u32], i: usize, w: usize)
@@ -90,44 +91,55 @@ fn fits_from(
     wide32(rows[at]) / 1048576 == 1
 }
 
-// The lowest node with a wrong shape, or n where every node is right, by the tables that are lent.
-fn first_wrong(
+// What a walk over the fields finds: how many whole ones there are, how many bytes stand after them, and the lowest one with a wrong shape, or 32,768.
+pub(crate) struct Walked {
+    pub(crate) count: usize,
+    pub(crate) after: usize,
+    pub(crate) wrong: usize,
+}
+
+// One walk over the file, by the tables that are lent.
+fn walk_by(
     scratch: &mut [u32],
     tree: &[u8],
-    n: usize,
     rows: &[u32; 78],
     starts: &[u8; 31],
     limits: &[u32; 36],
-) -> usize
-    requires { ⌜ (n ≡ length (fields (now tree))) × (n ≤ 32768) × (n ≤ length (now scratch)) × (now rows ≡ row-list) × (now starts ≡ first-rows) × (now limits ≡ bounds) ⌝ }
-    ensures lowest { λ r. ⌜ r ≡ lowest (shape-at (fields (now (tree .entry)))) n ⌝ }
-    ensures entered { λ r. ⌜ (n ≤ r → now (scratch .exit) ≡ enter-all (now (scratch .entry)) 0 (fields (now (tree .entry)))) ⌝ }
-    ensures beyond { λ _. ⌜ Beyond n (now (scratch .entry)) (now (scratch .exit)) ⌝ }
+) -> Walked
+    requires { ⌜ (few (length (fields (now tree))) ≤ length (now scratch)) × (now rows ≡ row-list) × (now starts ≡ first-rows) × (now limits ≡ bounds) ⌝ }
+    ensures found { λ r. ⌜ Found (now (tree .entry)) (now (scratch .exit)) (r .count) (r .after) (r .wrong) ⌝ }
+    ensures beyond { λ r. ⌜ Beyond (few (r .count)) (now (scratch .entry)) (now (scratch .exit)) ⌝ }
 {
     let mut t = tree;
-    let mut wrong = n;
+    let mut wrong: usize = 32768;
     let mut i: usize = 0;
-    // the walk ends with the first wrong node: later ones would be reported over it
-    while i < wrong {
-        let tag = t[0];
-        let first = start_of(starts, tag, i + 1 == n);
-        if !fits_from(scratch, rows, limits, i, first, payload(t)) {
-            wrong = i;
-        }
-        scratch[i] = tag as u32;
+    while is_whole(t) {
         let k = span_of(t);
+        // from a wrong node on, and behind as many nodes as a tree may have, fields are only counted
+        if i < wrong {
+            let tag = t[0];
+            // the last field is the one that ends the file
+            let first = start_of(starts, tag, k == t.len());
+            if !fits_from(scratch, rows, limits, i, first, payload(t)) {
+                wrong = i;
+            }
+            scratch[i] = tag as u32;
+        }
         t = &t[k..];
         i = i + 1;
     }
-    wrong
+    Walked {
+        count: i,
+        after: t.len(),
+        wrong: wrong,
+    }
 }
 
 // The same. The tables are copied here once: a constant that a function indexes is copied at each of its calls.
-pub(crate) fn first_misshapen(scratch: &mut [u32], tree: &[u8], n: usize) -> usize
-    requires { ⌜ (n ≡ length (fields (now tree))) × (n ≤ 32768) × (n ≤ length (now scratch)) ⌝ }
-    ensures place { λ r. ⌜ r ≡ lowest (shape-at (fields (now (tree .entry)))) n ⌝ }
-    ensures entered { λ r. ⌜ (n ≤ r → now (scratch .exit) ≡ enter-all (now (scratch .entry)) 0 (fields (now (tree .entry)))) ⌝ }
-    ensures beyond { λ _. ⌜ Beyond n (now (scratch .entry)) (now (scratch .exit)) ⌝ }
+pub(crate) fn walk(scratch: &mut [u32], tree: &[u8]) -> Walked
+    requires { ⌜ few (length (fields (now tree))) ≤ length (now scratch) ⌝ }
+    ensures found { λ r. ⌜ Found (now (tree .entry)) (now (scratch .exit)) (r .count) (r .after) (r .wrong) ⌝ }
+    ensures beyond { λ r. ⌜ Beyond (few (r .count)) (now (scratch .entry)) (now (scratch .exit)) ⌝ }
 {
-    first_wrong(scratch, tree, n, &ROWS, &STARTS, &LIMITS)
+    walk_by(scratch, tree, &ROWS, &STARTS, &LIMITS)
 }

@@ -1,117 +1,141 @@
--- The answer is `checked-fields`, a refusal at a time: `rest-1` to `rest-3` say that the tests passed so far leave the answer to the rest of it.
-use mathlib.Core.Path.{_≡_, sym, _∙_}
+-- The answer is `checked`, a refusal at a time: `rest-2` to `rest-5` say that the tests passed so far leave the answer to the rest of it.
+use mathlib.Core.Path.{_≡_, refl, _∙_}
 use mathlib.Core.List.{List}
 use Prim.Native.Nat.{ℕ, _-_, _≤_}
 use native.Mathlib.Omega.{arith}
-use lib.ListN.{length}
 use denote.Ref.{now}
 use Rattle.meaning.specs.Base.{lowest}
 use Rattle.meaning.specs.Fields.{Field, fields}
-use Rattle.meaning.specs.Grammar.{shape-at}
 use Rattle.meaning.specs.Tree.{tree-at, depth-at}
-use Rattle.meaning.specs.Check.{checked-fields}
-use Rattle.tree.specs.Scratch.{enter-all, Beyond}
-use Rattle.tree.proofs.Words.{beyond-then}
-use Rattle.tree.proofs.Answers.{free-is, owned-is, deep-is, unless-yes, unless-no, after-depth, after-tree, after-shape, checked-at, no-work, all-well}
+use Rattle.meaning.specs.Check.{checked-fields, checked}
+use Rattle.tree.specs.Scratch.{Beyond}
+use Rattle.tree.specs.Used.{few}
+use Rattle.tree.proofs.Words.{beyond-refl, beyond-more}
+use Rattle.tree.proofs.Answers.{Shapely, free-is, owned-is, deep-is, no-fields, cut-off, too-many, not-many, unless-yes, unless-no, after-depth, after-tree, after-shape, checked-at, no-work, all-well}
 use Rattle.tree.proofs.judged.Statement.{statement}
 use Rattle.tree.proofs.judged.Tie as tie
 
--- the fields, the number of nodes and the work area's length
+-- the file, its fields, the number of nodes and the work area's length
+abbrev T : tie.Start → List ℕ
+T s = now (s .args .tree)
+
 abbrev F : tie.Start → List Field
-F s = fields (now (s .args .tree))
+F s = fields (T s)
 
 abbrev N : tie.Start → ℕ
-N s = s .args .n
+N s = s .args .walked .count
 
 abbrev W : tie.Start → ℕ
 W s = s .args .work-len
 
--- the function's start, from the three tests
+-- the function's start, from the tests
 abbrev S₁ : tie.Else1 → tie.Start
-S₁ c = c .before .before .before .before .before .before .before
-
-abbrev S₂ : tie.Else2 → tie.Start
-S₂ c = S₁ (c .before .before .before)
+S₁ c = c .before .before .before
 
 abbrev S₃ : tie.Else3 → tie.Start
-S₃ c = S₂ (c .before .before .before .before .before)
+S₃ c = S₁ (c .before .before .before)
 
--- 3: every shape is right, so the scratch is as after all nodes
-rest-1 : (c : tie.Else1) → after-shape (F (S₁ c)) (W (S₁ c)) (N (S₁ c)) (S₁ c .pre .0) ≡ checked-fields (F (S₁ c)) (W (S₁ c))
-rest-1 c = unless-no _ _ _ _ _ (c .before .before .before .first-misshapen .ensures .0) (c .if1 .left) ∙ checked-at _ _ _ (S₁ c .pre .0)
+abbrev S₄ : tie.Else4 → tie.Start
+S₄ c = S₃ (c .before .before)
 
-entered : (c : tie.Else1) → c .before .before .before .first-misshapen .last .0 ≡ enter-all (now (S₁ c .args .scratch)) 0 (F (S₁ c))
-entered c = c .before .before .before .first-misshapen .ensures .1 .0 (c .if1 .left)
+abbrev S₅ : tie.Else5 → tie.Start
+S₅ c = S₄ (c .before .before .before)
 
-shapes : (c : tie.Else1) → N (S₁ c) ≤ lowest (shape-at (F (S₁ c))) (N (S₁ c))
-shapes c = rw (c .before .before .before .first-misshapen .ensures .0) at (c .if1 .left)
+abbrev S₆ : tie.Else6 → tie.Start
+S₆ c = S₅ (c .before .before .before .before .before)
 
-beyond-1 : (c : tie.Else1) → Beyond (N (S₁ c)) (now (S₁ c .args .scratch)) (c .before .before .before .first-misshapen .last .0)
-beyond-1 c = c .before .before .before .first-misshapen .ensures .1 .1
+-- 1 and 2
+rest-2 : (c : tie.Else3) → checked-fields (F (S₃ c)) (W (S₃ c)) ≡ checked (T (S₃ c)) (W (S₃ c))
+rest-2 c = let e = c .before .before .before in let pre = S₃ c .pre in
+    not-many _ _ _ _ (pre .whole-fields) (pre .bytes-after) (e .if1 .left) (c .before .if2 .left) (c .if3 .left)
+
+-- 3
+shapely : (c : tie.Else4) → Shapely (F (S₄ c)) (now (S₄ c .args .scratch)) (N (S₄ c))
+shapely c =
+    let m = c .before .before in
+    let pre = S₄ c .pre in
+    let right = pre .shapely (m .before .if2 .left) (m .if3 .left) (c .if4 .left) in record {
+      all = pre .whole-fields;
+      some = omega (arith, m .before .before .before .if1 .left);
+      most = m .if3 .left;
+      room = omega (arith, pre .room, m .if3 .left);
+      shapes = right .0;
+      entered = right .1;
+    }
+
+rest-3 : (c : tie.Else4) → after-shape (F (S₄ c)) (W (S₄ c)) (N (S₄ c)) (S₄ c .pre .whole-fields) ≡ checked (T (S₄ c)) (W (S₄ c))
+rest-3 c = unless-no _ _ _ _ _ (shapely c .shapes) (omega arith) ∙ checked-at _ _ _ (S₄ c .pre .whole-fields) ∙ rest-2 (c .before .before)
 
 -- 4
-free : (c : tie.After-first-unowned) → c .first-unowned .result ≡ lowest (tree-at (F (S₁ (c .before .before)))) (N (S₁ (c .before .before)) - 1)
-free c = let e = c .before .before in let pre = S₁ e .pre in
-    free-is _ _ _ _ (pre .0) (pre .1) (pre .2) (pre .3) (beyond-1 e .size) (entered e) (shapes e) _ (c .first-unowned .ensures)
+free : (c : tie.After-first-unowned) → c .first-unowned .result ≡ lowest (tree-at (F (S₄ (c .before .before)))) (N (S₄ (c .before .before)) - 1)
+free c = free-is _ _ _ (shapely (c .before .before)) _ (c .first-unowned .ensures)
 
-rest-2 : (c : tie.Else2) → after-tree (F (S₂ c)) (W (S₂ c)) (N (S₂ c)) (S₂ c .pre .0) ≡ checked-fields (F (S₂ c)) (W (S₂ c))
-rest-2 c = unless-no _ _ _ _ _ (free (c .before)) (c .if2 .left) ∙ rest-1 (c .before .before .before)
+trees : (c : tie.Else5) → N (S₅ c) - 1 ≤ lowest (tree-at (F (S₅ c))) (N (S₅ c) - 1)
+trees c = rw (free (c .before)) at (c .if5 .left)
 
-trees : (c : tie.Else2) → N (S₂ c) - 1 ≤ lowest (tree-at (F (S₂ c))) (N (S₂ c) - 1)
-trees c = rw (free (c .before)) at (c .if2 .left)
-
-first-deep-requires : tie.Need-first-deep-requires
-first-deep-requires c κs = let d = c .before in let e = d .before .before .before in let pre = S₁ e .pre in
-    owned-is _ _ _ _ (pre .0) (pre .1) (pre .2) (pre .3) (beyond-1 e .size) (entered e) (shapes e) (trees d)
+rest-4 : (c : tie.Else5) → after-tree (F (S₅ c)) (W (S₅ c)) (N (S₅ c)) (S₅ c .pre .whole-fields) ≡ checked (T (S₅ c)) (W (S₅ c))
+rest-4 c = unless-no _ _ _ _ _ (free (c .before)) (c .if5 .left) ∙ rest-3 (c .before .before .before)
 
 -- 5
-deep : (c : tie.After-first-deep) → c .first-deep .result ≡ lowest (depth-at (F (S₂ (c .before .before)))) (N (S₂ (c .before .before)))
-deep c = let d = c .before .before in let e = d .before .before .before in let pre = S₁ e .pre in
-    deep-is _ _ _ _ (pre .0) (pre .1) (pre .2) (pre .3) (beyond-1 e .size) (entered e) (shapes e) (trees d) _ (c .first-deep .ensures .0)
+deep : (c : tie.After-first-deep) → c .first-deep .result ≡ lowest (depth-at (F (S₅ (c .before .before)))) (N (S₅ (c .before .before)))
+deep c = let d = c .before .before in
+    deep-is _ _ _ (shapely (d .before .before .before)) (trees d) _ (c .first-deep .ensures .0)
 
-beyond-2 : (c : tie.After-first-deep) → Beyond (N (S₂ (c .before .before))) (now (S₂ (c .before .before) .args .scratch)) (c .first-deep .last .0)
-beyond-2 c = beyond-then _ _ _ _ (beyond-1 (c .before .before .before .before .before)) (c .first-deep .ensures .1)
+rest-5 : (c : tie.Else6) → after-depth (F (S₆ c)) (W (S₆ c)) (N (S₆ c)) (S₆ c .pre .whole-fields) ≡ checked (T (S₆ c)) (W (S₆ c))
+rest-5 c = unless-no _ _ _ _ _ (deep (c .before .before .before)) (c .if6 .left) ∙ rest-4 (c .before .before .before .before .before)
 
-rest-3 : (c : tie.Else3) → after-depth (F (S₃ c)) (W (S₃ c)) (N (S₃ c)) (S₃ c .pre .0) ≡ checked-fields (F (S₃ c)) (W (S₃ c))
-rest-3 c = unless-no _ _ _ _ _ (deep (c .before .before .before)) (c .if3 .left) ∙ rest-2 (c .before .before .before .before .before)
+beyond : (c : tie.After-first-deep) → Beyond (few (N (S₅ (c .before .before)))) (now (S₅ (c .before .before) .args .scratch)) (c .first-deep .last .0)
+beyond c = beyond-more _ _ _ _ (omega (arith, shapely (c .before .before .before .before .before) .most)) (c .first-deep .ensures .1)
 
--- the five answers
+-- the eight answers
 returns : tie.Need-returns
-returns c = let m = c .before .before .before in
-    (unless-yes _ _ _ _ _ (m .first-misshapen .ensures .0) (c .if1 .taken) ∙ checked-at _ _ _ (m .before .before .before .before .pre .0), m .first-misshapen .ensures .1 .1)
+returns c = let pre = c .before .before .before .pre in
+    (no-fields _ _ _ _ (pre .whole-fields) (pre .bytes-after) (c .if1 .taken), beyond-refl _ _)
 
 returns-2 : tie.Need-returns-2
-returns-2 c = let e = c .before .before .before in
-    (unless-yes _ _ _ _ _ (free (c .before)) (c .if2 .taken) ∙ rest-1 e, beyond-1 e)
+returns-2 c = let pre = S₁ (c .before .before) .pre in
+    (cut-off _ _ _ _ (pre .whole-fields) (pre .bytes-after) (c .if2 .taken), beyond-refl _ _)
 
 returns-3 : tie.Need-returns-3
-returns-3 c = let d = c .before .before .before in
-    (unless-yes _ _ _ _ _ (deep d) (c .if3 .taken) ∙ rest-2 (d .before .before), beyond-2 d)
+returns-3 c = let e = c .before .before .before in let pre = S₁ e .pre in
+    (too-many _ _ _ _ (pre .whole-fields) (pre .bytes-after) (e .if1 .left) (c .before .if2 .left) (c .if3 .taken), beyond-refl _ _)
 
 returns-4 : tie.Need-returns-4
-returns-4 c = (no-work _ _ (c .if4 .taken) ∙ rest-3 (c .before), beyond-2 (c .before .before .before .before))
+returns-4 c = let m = c .before .before in let pre = S₃ m .pre in
+    (unless-yes _ _ _ _ _ (pre .misshapen (m .before .if2 .left) (m .if3 .left) (c .if4 .taken)) (c .if4 .taken) ∙ checked-at _ _ _ (pre .whole-fields) ∙ rest-2 m, beyond-refl _ _)
 
 returns-5 : tie.Need-returns-5
-returns-5 c = (all-well _ _ (c .if4 .left) ∙ rest-3 (c .before), beyond-2 (c .before .before .before .before))
+returns-5 c = (unless-yes _ _ _ _ _ (free (c .before)) (c .if5 .taken) ∙ rest-3 (c .before .before .before), beyond-refl _ _)
+
+returns-6 : tie.Need-returns-6
+returns-6 c = let d = c .before .before .before in
+    (unless-yes _ _ _ _ _ (deep d) (c .if6 .taken) ∙ rest-4 (d .before .before), beyond d)
+
+returns-7 : tie.Need-returns-7
+returns-7 c = (no-work _ _ (c .if7 .taken) ∙ rest-5 (c .before), beyond (c .before .before .before .before))
+
+returns-8 : tie.Need-returns-8
+returns-8 c = (all-well _ _ (c .if7 .left) ∙ rest-5 (c .before), beyond (c .before .before .before .before))
 
 pub judged-spec : {M : Type 1} → statement M
 judged-spec =
     tie.close
     (tie.spec
-    (λ c κs. let pre = c .before .before .before .pre in (pre .0, pre .2, pre .3))
-    (λ c. c .before .before .before .first-misshapen .kept .0)
     returns
-    (λ c. S₁ (c .before) .pre .1)
-    (λ c κs. omega (arith, S₁ (c .before) .pre .3, beyond-1 (c .before) .size))
-    (λ c. S₁ (c .before .before) .pre .1)
-    (λ c. beyond-1 (c .before .before .before) .size)
     returns-2
-    first-deep-requires
-    (λ c. beyond-2 (c .before .before .before) .size)
     returns-3
-    (λ c. omega (arith, S₃ c .pre .2))
-    (λ c. omega (arith, S₃ c .pre .2))
-    (λ c. beyond-2 (c .before .before .before .before) .size)
     returns-4
-    (λ c. beyond-2 (c .before .before .before .before) .size)
-    returns-5)
+    (λ c. shapely (c .before) .some)
+    (λ c κs. omega (arith, shapely (c .before) .room))
+    (λ c. shapely (c .before .before) .some)
+    (λ c. refl)
+    returns-5
+    (λ c κs. owned-is _ _ _ (shapely (c .before .before .before .before)) (trees (c .before)))
+    (λ c. beyond (c .before .before .before) .size)
+    returns-6
+    (λ c. omega (arith, shapely (c .before .before .before .before .before .before .before .before) .most))
+    (λ c. omega (arith, shapely (c .before .before .before .before .before .before .before .before) .most))
+    (λ c. beyond (c .before .before .before .before) .size)
+    returns-7
+    (λ c. beyond (c .before .before .before .before) .size)
+    returns-8)

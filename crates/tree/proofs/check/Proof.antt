@@ -1,0 +1,17 @@
+-- Either scratch has a word for each field that a file of this length may have, or 32,768.
+use borrow.Author.Needs.{needs}
+use native.Mathlib.Omega.{arith}
+use Rattle.tree.proofs.Answers.{room-enough}
+use Rattle.tree.proofs.check.Statement.{statement}
+use Rattle.tree.proofs.check.Tie as tie
+
+pub check-spec : {M : Type 1} → statement M
+check-spec =
+    tie.close
+    (tie.spec
+    (λ c. search needs)
+    (λ c κs. room-enough _ 4096 (omega (arith, c .before .if1 .taken)))
+    (λ c. c .before .check-with .ensures .0)
+    (λ c. search needs)
+    (λ c κs. room-enough _ 32768 (omega arith))
+    (λ c. c .before .check-with2 .ensures .0))
