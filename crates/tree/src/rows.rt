@@ -270,6 +270,13 @@ fn left_after(flow: usize, left: usize, w: usize) -> usize
 pub(crate) fn place_after(row: usize, left: usize, w: usize) -> Place
     ensures { λ r. ⌜ (r .left ≡ next-left row left w) × (r .at ≡ next-row row (r .left)) ⌝ }
 {
+    // most rows have nothing but a kind and the next row
+    if row < 2048 {
+        return Place {
+            at: row / 16,
+            left: left,
+        };
+    }
     let flow = row / 262144 % 4;
     if flow == 0 {
         return Place {

@@ -167,6 +167,7 @@ fn names() -> Vec<Worst> {
         large("a bucket of 400 locals, 1,024 times", bucket_of_lets(1_640, 400)),
         large("a bucket of 2,000 locals, 1,024 times", bucket_of_lets(8_191, 2_000)),
         large("captures behind a bucket of 2,000 locals", bucket_of_captures(8_191, 2_000)),
+        large("a bucket of locals in 60 blocks, 1,024 times", bucket_of_blocks(8_191, 60)),
     ]
 }
 
@@ -181,6 +182,14 @@ fn bucket_of_lets(nodes: usize, lets: usize) -> Node {
     let mut body = times(lets, || let_(far, Some(variable(near))));
     body.push(expression(minuses(4, ands(near, (nodes - 2 * lets - 40) / 2))));
     filled(nodes, vec![expression(minuses(6, function(&[near], body)))])
+}
+
+/// One local of a name in each of so many blocks within each other, then uses of the other one, which are lowered 1,024 times.
+fn bucket_of_blocks(nodes: usize, blocks: usize) -> Node {
+    let (near, far) = in_one_bucket(nodes);
+    let uses = vec![expression(minuses(4, ands(near, (nodes - 3 * blocks - 40) / 2)))];
+    let around = |b: Vec<Node>| block([vec![let_(far, Some(variable(near)))], b].concat());
+    filled(nodes, vec![expression(minuses(6, function(&[near], nested(blocks, uses, &around))))])
 }
 
 /// Uses of a variable six functions out, behind the locals of the innermost function.
