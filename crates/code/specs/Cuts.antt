@@ -22,6 +22,7 @@ abbrev pub rolled-by : Outcome → Step → ℕ → Step
 rolled-by (Accepted written) s first = advanced s first 0
 rolled-by (Refused cause node) s first = s
 
+-- the same by the step's own outcome
 abbrev pub rolled-step : Step → ℕ → Step
 rolled-step s first = rolled-by (s .outcome) s first
 
@@ -43,6 +44,7 @@ pub record Adds (first : ℕ) (w o : List ℕ) (p : Scope) (s : Step) (o' : List
 
 -- ---- the end of a function: the step before is in the function inside p, the step after in p, and the function's words are given back
 
+-- what holds of the words and the step then; the cost is counted from the code's length at the function's start
 pub record Leaves (first : ℕ) (w : List ℕ) (p : Scope) (s : Step) (w' : List ℕ) (r : Step) (u : Cost) : Type 0 where
   pub fine : Fine w' p r
   pub kept : Kept w p w'
@@ -51,6 +53,7 @@ pub record Leaves (first : ℕ) (w : List ℕ) (p : Scope) (s : Step) (w' : List
   pub longer : first ≤ s .code → first ≤ r .code
   pub still : u .locals ≡ 0 → edge w' (p .nodes) (p .block) ≡ edge w (p .nodes) (p .block)
 
+-- the same, and what was done: `op`, from the run inside the function
 pub record Ends (first : ℕ) (w o : List ℕ) (p : Scope) (s : Step) (w' o' : List ℕ) (r : Step) (u : Cost) (op : Config → Run) : Type 0 where
   pub leaves : Leaves first w p s w' r u
   pub same : length o' ≡ length o

@@ -24,6 +24,7 @@ pub record Packs (x : ℕ) (i : ℕ → Instruction) : Type 0 where
 abbrev pub with-inst : List ℕ → (n i word mark : ℕ) → List ℕ
 with-inst w n i word mark = set (set w (top n - (2 * i + 2)) word) (top n - (2 * i + 1)) mark
 
+-- instruction i is written, and nothing else changed
 pub record Wrote (w : List ℕ) (n i word mark : ℕ) (w' : List ℕ) : Type 0 where
   pub is : w' ≡ with-inst w n i word mark
 

@@ -36,19 +36,23 @@ pub record Given (t w : List ℕ) (p : Scope) (s : Step) (i k : ℕ) : Type 0 wh
   pub ready : Ready t w p s k 0 0
   pub known : i < p .nodes
 
+-- the same, where node i is an expression: k is the number of its nodes
 abbrev pub GivenExpr : (t w : List ℕ) → Scope → Step → (i : ℕ) → Type 0
 GivenExpr t w p s i = Given t w p s i (size-expr (expr-at (fields t) i))
 
+-- the same, where node i is a statement
 abbrev pub GivenStmt : (t w : List ℕ) → Scope → Step → (i : ℕ) → Type 0
 GivenStmt t w p s i = Given t w p s i (size-stmt (stmt-at (fields t) i))
 
--- any expression, any statement, a function statement as a method
+-- any expression: tags 01 to 09
 abbrev pub AskExpr : (t w : List ℕ) → Scope → Step → (i : ℕ) → Type 0
 AskExpr t w p s i = GivenExpr t w p s i × (0x01 ≤ tag-of (fields t) i) × (tag-of (fields t) i ≤ 0x09)
 
+-- any statement: tags 10 to 1D without 1A
 abbrev pub AskStmt : (t w : List ℕ) → Scope → Step → (i : ℕ) → Type 0
 AskStmt t w p s i = GivenStmt t w p s i × (0x10 ≤ tag-of (fields t) i) × (tag-of (fields t) i ≤ 0x1D) × (tag-of (fields t) i ≡ 0x1A → ⊥)
 
+-- a function statement, as a statement or a method; eight functions are open at most
 abbrev pub AskFun : (t w : List ℕ) → Scope → Step → (i : ℕ) → Type 0
 AskFun t w p s i = Given t w p s i (size-fun (fun-at (fields t) i)) × (tag-of (fields t) i ≡ 0x1C) × (p .depth ≤ 7)
 
@@ -59,9 +63,11 @@ pub record Children (t w : List ℕ) (p : Scope) (s : Step) (i from to k a : ℕ
   pub ends : to ≤ count-of (fields t) i
   pub each : (j : ℕ) → from ≤ j → j < to → Below (word-of (fields t) i j)
 
+-- children that are statements
 abbrev pub AskRow : (t w : List ℕ) → Scope → Step → (i from to : ℕ) → Type 0
 AskRow t w p s i from to = Children t w p s i from to (size-stmts (stmts-at (fields t) i from to)) 0 (StmtBelow (fields t) i)
 
+-- the elifs of an if
 abbrev pub AskElifs : (t w : List ℕ) → Scope → Step → (i from to : ℕ) → Type 0
 AskElifs t w p s i from to = Children t w p s i from to (size-elifs (elifs-at (fields t) i from to)) 0 (TagBelow (fields t) 0x1A i)
 
@@ -89,9 +95,11 @@ pub record Lowers (w o : List ℕ) (p : Scope) (s : Step) (w' o' : List ℕ) (r 
   pub does : Does w o p s w' o' p r u op
   pub small : Small r
 
+-- an expression leaves no local behind
 abbrev pub LowersExpr : (t : List ℕ) (i : ℕ) (w o : List ℕ) → Scope → Step → (w' o' : List ℕ) → Step → Type 0
 LowersExpr t i w o p s w' o' r = Lowers w o p s w' o' r (uses (8 * size-expr (expr-at (fields t) i)) 0 0) (fwd (lower-expr (expr-at (fields t) i)))
 
+-- a statement, whose locals stay to the end of its block
 abbrev pub LowersStmt : (t : List ℕ) (i : ℕ) (w o : List ℕ) → Scope → Step → (w' o' : List ℕ) → Step → Type 0
 LowersStmt t i w o p s w' o' r =
     Lowers w o p s w' o' r (uses (8 * size-stmt (stmt-at (fields t) i)) (size-stmt (stmt-at (fields t) i)) 0) (fwd (lower-stmt (stmt-at (fields t) i)))
@@ -105,36 +113,44 @@ pub record LowersRow (t : List ℕ) (i from to : ℕ) (w o : List ℕ) (p : Scop
   pub does : Does w o p s w' o' p r (uses (8 * size-stmts (stmts-at (fields t) i from to)) (size-stmts (stmts-at (fields t) i from to)) 0) (fwd-row (lower-stmts (stmts-at (fields t) i from to)))
   pub small : Small s → Small r
 
+-- the elifs of an if, which give code alone
 abbrev pub LowersElifs : (t : List ℕ) (i from to : ℕ) (w o : List ℕ) → Scope → Step → (w' o' : List ℕ) → Step → Type 0
 LowersElifs t i from to w o p s w' o' r =
     Lowers w o p s w' o' r (uses (8 * size-elifs (elifs-at (fields t) i from to)) (size-elifs (elifs-at (fields t) i from to)) 0) (fwd-code (lower-elifs (elifs-at (fields t) i from to)))
 
+-- the methods of a class, whose names pass through the register after `class`
 abbrev pub LowersMethods : (t : List ℕ) (i from to mark op class : ℕ) (w o : List ℕ) → Scope → Step → (w' o' : List ℕ) → Step → Type 0
 LowersMethods t i from to mark op class w o p s w' o' r =
     Lowers w o p s w' o' r (uses (8 * size-funs (funs-at (fields t) i from to)) (size-funs (funs-at (fields t) i from to)) 0) (fwd-code (lower-methods (funs-at (fields t) i from to) i mark op class (class + 1)))
 
+-- the arguments of a call, with two words more for each one's Move
 abbrev pub LowersArguments : (t : List ℕ) (i register : ℕ) (w o : List ℕ) → Scope → Step → (w' o' : List ℕ) → Step → Type 0
 LowersArguments t i register w o p s w' o' r =
     Lowers w o p s w' o' r (uses (8 * size-exprs (exprs-at (fields t) i 2 (count-of (fields t) i)) + 2 * (count-of (fields t) i - 2)) 0 0) (fwd-code (lower-arguments (exprs-at (fields t) i 2 (count-of (fields t) i)) register))
 
+-- a function's body, with two words more for its Return; its block gives the locals back
 abbrev pub LowersBody : (t : List ℕ) (i from : ℕ) (w o : List ℕ) → Scope → Step → (w' o' : List ℕ) → Step → Type 0
 LowersBody t i from w o p s w' o' r =
     Does w o p s w' o' p r (uses (8 * size-stmts (stmts-at (fields t) i from (count-of (fields t) i)) + 2) 0 0) (fwd-code (visit-body i (lower-stmts (stmts-at (fields t) i from (count-of (fields t) i)))))
 
--- the forms of a binary: a small number k on the right of Plus, on the left of Minus, neither
+-- the binary at node i, lowered by m: one of the three forms below
 abbrev pub LowersBinary : (t : List ℕ) (i : ℕ) (w o : List ℕ) → Scope → Step → (w' o' : List ℕ) → Step → M Chunk → Type 0
 LowersBinary t i w o p s w' o' r m = Lowers w o p s w' o' r (uses (8 * size-expr (expr-at (fields t) i)) 0 0) (fwd m)
 
+-- the lowering of the operand that word k of node i names
 abbrev pub operand : (t : List ℕ) (i k : ℕ) → M Chunk
 operand t i k = lower-expr (expr-at (fields t) (word-of (fields t) i k))
 
+-- a small number k on the right of Plus
 abbrev pub LowersAddi : (t : List ℕ) (i k : ℕ) (w o : List ℕ) → Scope → Step → (w' o' : List ℕ) → Step → Type 0
 LowersAddi t i k w o p s w' o' r = LowersBinary t i w o p s w' o' r (visit-addi i (word-of (fields t) i 1) k (operand t i 2))
 
+-- a small number on the left of Minus; which one it is does not matter, so 0 stands for it
 abbrev pub LowersMinus : (t : List ℕ) (i : ℕ) (w o : List ℕ) → Scope → Step → (w' o' : List ℕ) → Step → Type 0
 LowersMinus t i w o p s w' o' r =
     LowersBinary t i w o p s w' o' r (visit-binary i (word-of (fields t) i 0) (word-of (fields t) i 1) none (some 0) (operand t i 2) (operand t i 3))
 
+-- neither
 abbrev pub LowersBoth : (t : List ℕ) (i : ℕ) (w o : List ℕ) → Scope → Step → (w' o' : List ℕ) → Step → Type 0
 LowersBoth t i w o p s w' o' r = LowersBinary t i w o p s w' o' r (visit-both i (word-of (fields t) i 0) (word-of (fields t) i 1) (operand t i 2) (operand t i 3))
 

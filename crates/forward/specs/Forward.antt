@@ -26,6 +26,7 @@ pub record Config : Type 0 where
   pub result : ℕ
   pub state : State
 
+-- a configuration by its code, its result and its state
 abbrev pub config : List Instruction → ℕ → State → Config
 config code result state = record { code = code; result = result; state = state }
 
@@ -116,18 +117,20 @@ add-chunk x c = config (c .code ++ x .code) (x .result) (c .state)
 abbrev pub add-code : List Instruction → Config → Config
 add-code l c = config (c .code ++ l) 0 (c .state)
 
--- a row of chunks: the result is the last one's
+-- the last one's result in a row of chunks, r where there is none
 abbrev pub row-result : List Chunk → ℕ → ℕ
 row-result [] r = r
 row-result (x ∷ xs) r = row-result xs (x .result)
 
+-- a row of chunks: their code, and the last one's result
 abbrev pub add-row : List Chunk → Config → Config
 add-row xs c = config (c .code ++ joined xs) (row-result xs (c .result)) (c .state)
 
--- nothing: the result is 0, or as it was
+-- nothing: the result is 0
 abbrev pub add-zero : {A : Type 0} → A → Config → Config
 add-zero u c = give 0 c
 
+-- nothing: the result is as it was
 abbrev pub add-none : {A : Type 0} → A → Config → Config
 add-none u c = c
 

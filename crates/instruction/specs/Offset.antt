@@ -7,6 +7,7 @@ use Rattle.meaning.specs.Opcode.{bx, back}
 use Rattle.meaning.specs.declared.Instruction.{Instruction}
 use Rattle.instruction.specs.declared.Halves.{Halves}
 
+-- one of two numbers
 abbrev pub either : Bool → ℤ → ℤ → ℤ
 either true x y = x
 either false x y = y

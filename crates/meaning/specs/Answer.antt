@@ -46,6 +46,7 @@ pub data Finished : Type 0 where
 abbrev pub fitted : (room last : ℕ) → List ℕ → Finished
 fitted room last bytes = cond (ltb room (length bytes)) (stopped Room last) (imaged bytes)
 
+-- a refusal stays; else the image of the state in which the lowering ended, if there is room
 abbrev pub lowered : (room last : ℕ) → Res ℕ → Finished
 lowered room last (refused c place) = stopped c place
 lowered room last (done index s) = fitted room last (image s)

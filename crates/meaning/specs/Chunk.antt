@@ -7,6 +7,7 @@ use Rattle.meaning.specs.Opcode.{inst, wide, back, no-mark, is-continue,
 use Rattle.meaning.specs.State.{Chunk}
 use Rattle.meaning.specs.declared.Instruction.{Instruction}
 
+-- a chunk by its code and its result register
 abbrev pub chunk : List Instruction → ℕ → Chunk
 chunk code result = record { code = code; result = result }
 
@@ -34,6 +35,7 @@ continue-offset i = back i
 abbrev pub patch-jump : (size i : ℕ) → Instruction → Instruction
 patch-jump size i x = cond (is-continue x) (jump-by x (continue-offset i)) (cond (is-break x) (jump-by x (size - i)) x)
 
+-- every instruction of a loop's code in turn: the jumps of loops inside are set already
 abbrev pub patch-loop : List Instruction → List Instruction
 patch-loop code = each-at (patch-jump (length code)) 0 code
 
@@ -46,6 +48,7 @@ open-loop mark before condition register body =
     ∷ wide Jmp 0 (length body + 2) mark
     ∷ (body ++ wide Jmp 0 (back (length body + length condition + 2)) mark ∷ [])))
 
+-- a loop's code, finished: `before`, the condition with its Test, the body and the jump back to the condition
 abbrev pub loop-code : (mark : ℕ) → (before condition : List Instruction) → (register : ℕ) → (body : List Instruction) → List Instruction
 loop-code mark before condition register body = patch-loop (open-loop mark before condition register body)
 
@@ -60,6 +63,7 @@ branch-code mark c body =
 abbrev pub patch-end : ℕ → ℕ → Instruction → Instruction
 patch-end size i x = cond (is-end-jump x) (jump-by x (size - i)) x
 
+-- every instruction of an if's code in turn
 abbrev pub patch-ends : List Instruction → List Instruction
 patch-ends code = each-at (patch-end (length code)) 0 code
 
@@ -70,10 +74,12 @@ abbrev pub patch-first : ℕ → List Instruction → List Instruction
 patch-first offset [] = []
 patch-first offset (x ∷ xs) = cond (is-end-jump x) (jump-by x offset ∷ xs) (x ∷ patch-first offset xs)
 
+-- RegisterTryCatch with the distance to the catch part, the body, DeregisterTryCatch, a jump to be patched, the catch part
 abbrev pub open-try : List Instruction → List Instruction → List Instruction
 open-try body catch =
     wide RegisterTryCatch 0 (length body + 3) no-mark
     ∷ (body ++ (inst DeregisterTryCatch 0 0 0 no-mark ∷ inst Jmp 0 0 0 no-mark ∷ catch))
 
+-- a try's code, finished: the jump after the body goes past the catch part
 abbrev pub try-code : List Instruction → List Instruction → List Instruction
 try-code body catch = patch-first (length catch + 1) (open-try body catch)

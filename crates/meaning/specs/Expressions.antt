@@ -41,6 +41,7 @@ visit-captured node x (some i) = do
   r ← next-register node
   pure (chunk (inst GetUpval r i 0 (x .mark) ∷ []) r)
 
+-- a local's register is the result, without an instruction; else a capture is asked for
 unfoldable pub visit-local : ℕ → Token → Option ℕ → M Chunk
 visit-local node x (some r) = pure (chunk [] r)
 visit-local node x none = do

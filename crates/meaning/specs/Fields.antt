@@ -17,14 +17,16 @@ span s = 3 + word-at s 1
 unfoldable pub whole : List ℕ → Bool
 whole s = leb (span s) (length s)
 
+-- a field without its length, which the payload has
 pub record Field : Type 0 where
   pub tag : ℕ
   pub payload : List ℕ
 
--- the field at the front
+-- the payload of the field at the front: as many bytes as its header says, after the header
 abbrev pub payload-of : List ℕ → List ℕ
 payload-of s = take (word-at s 1) (drop 3 s)
 
+-- the field at the front, with its tag
 abbrev pub front : List ℕ → Field
 front s = record { tag = getD s 0 0; payload = payload-of s }
 
@@ -32,10 +34,12 @@ front s = record { tag = getD s 0 0; payload = payload-of s }
 abbrev pub rest : List ℕ → List ℕ
 rest s = drop (span s) s
 
+-- the whole fields from the front on, `fuel` of them at most
 unfoldable pub fields-by : (fuel : ℕ) → List ℕ → List Field
 fields-by zero s = []
 fields-by (suc f) s = cond (whole s) (front s ∷ fields-by f (rest s)) []
 
+-- what stands after those
 unfoldable pub left-by : (fuel : ℕ) → List ℕ → List ℕ
 left-by zero s = s
 left-by (suc f) s = cond (whole s) (left-by f (rest s)) s

@@ -35,6 +35,7 @@ close-body node [] = pure []
 close-body node (c ∷ []) = if-then (eqb (c .result) 254) (refuse Returned node) (return-of-code node (c .result) (c .code))
 close-body node (c ∷ d ∷ cs) = pure (joined (c ∷ d ∷ cs))
 
+-- a body is lowered in a block of its own, which the parameters are not in
 unfoldable pub visit-body : ℕ → M (List Chunk) → M (List Instruction)
 visit-body node body = in-block do
   cs ← body

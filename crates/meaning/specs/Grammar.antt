@@ -8,6 +8,7 @@ use Rattle.meaning.specs.Fields.{Field, field-at}
 
 -- ---- the kinds of words
 
+-- nothing is lawful there
 abbrev pub none : ℕ
 none = 0
 
@@ -15,9 +16,11 @@ none = 0
 abbrev pub any : ℕ
 any = 1
 
+-- the same kind, where the word is a mark
 abbrev pub mark : ℕ
 mark = 1
 
+-- a name, which is not 65,535, the empty text
 abbrev pub name : ℕ
 name = 2
 
@@ -29,26 +32,31 @@ op = 3
 abbrev pub op12 : ℕ
 op12 = 4
 
+-- how many groups of words follow
 abbrev pub count : ℕ
 count = 5
 
--- the children
+-- from here on children, by their role: an expression
 abbrev pub expr : ℕ
 expr = 6
 
+-- a statement
 abbrev pub stmt : ℕ
 stmt = 7
 
+-- an elif under an if
 abbrev pub elif : ℕ
 elif = 8
 
+-- a function statement as a class's method
 abbrev pub method : ℕ
 method = 9
 
--- these two may be absent
+-- a variable as superclass; it and the initializer below may be absent
 abbrev pub super : ℕ
 super = 10
 
+-- a let or an expression statement as a for's initializer
 abbrev pub init : ℕ
 init = 11
 
@@ -80,6 +88,7 @@ bounds =
     0x10 ∷ 0x11 ∷ 65536 ∷
     []
 
+-- the entry of a kind in a column: 0 the lowest, 1 the highest, 2 the one that is not lawful
 unfoldable pub bound : (kind column : ℕ) → ℕ
 bound kind column = getD bounds (kind * 3 + column) 0
 
@@ -87,6 +96,7 @@ bound kind column = getD bounds (kind * 3 + column) 0
 unfoldable pub inside : (kind v : ℕ) → Bool
 inside kind v = leb (bound kind 0) v && leb v (bound kind 1) && not (eqb v (bound kind 2))
 
+-- "Child 65,535 means absent"
 abbrev pub absent : ℕ → Bool
 absent w = eqb w 65535
 
@@ -100,6 +110,7 @@ lawful tags i kind w = cond (names kind w) (ltb w i && inside kind (getD tags w 
 
 -- ---- payloads
 
+-- a piece of a payload: what may stand there
 pub data Item : Type 0 where
   -- a word of a kind
   one : ℕ → Item
@@ -155,6 +166,7 @@ grammar =
     (many (stmt ∷ []) ∷ []) ∷
     []
 
+-- the payload of a tag; nothing fits a number that is no tag
 unfoldable pub items-of : (tag : ℕ) → List Item
 items-of tag = getD grammar tag never
 
@@ -165,10 +177,12 @@ items-for tag false = cond (eqb tag 0x1E) never (items-of tag)
 
 -- ---- what it is to fit
 
+-- a word of each of the kinds, before the items
 abbrev pub ones : List ℕ → List Item → List Item
 ones [] is = is
 ones (k ∷ ks) is = one k ∷ ones ks is
 
+-- so many groups of words of the kinds, before the items
 abbrev pub copies : ℕ → List ℕ → List Item → List Item
 copies zero ks is = is
 copies (suc n) ks is = ones ks (copies n ks is)
@@ -209,6 +223,7 @@ kids is [] = []
 kids is (a ∷ []) = []
 kids is (a ∷ b ∷ p) = cond (names (kind-of is) (a * 256 + b)) ((a * 256 + b) ∷ []) [] ++ kids (due-after is (a * 256 + b)) p
 
+-- the nodes' tags, in the order of the nodes
 abbrev pub tags-of : List Field → List ℕ
 tags-of fs = map (λ f. f .tag) fs
 

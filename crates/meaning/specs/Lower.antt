@@ -16,6 +16,7 @@ abbrev pub arguments : Exprs → ℕ
 arguments no-expr = zero
 arguments (and-expr e es) = suc (arguments es)
 
+-- the name of a method, which visit_class_stmt stores as a constant
 unfoldable pub fun-name : Fun → ℕ
 fun-name (fun node x params body) = x .name
 
@@ -37,6 +38,7 @@ unfoldable mutual
   lower-expr (call node f mark xs) = visit-call node mark (arguments xs) (lower-expr f) (λ start. lower-arguments xs start)
   lower-expr (function node params body) = visit-function node params (lower-stmts body)
 
+  -- the arguments of a call, each moved to its register: the first to `register`, the next to the one after
   pub lower-arguments : Exprs → ℕ → M (List Instruction)
   lower-arguments no-expr register = pure []
   lower-arguments (and-expr e es) register = visit-argument register (lower-expr e) (lower-arguments es (register + 1))
@@ -59,26 +61,32 @@ unfoldable mutual
   lower-stmt (define f) = lower-fun f
   lower-stmt (class node x p ms ts) = visit-class node x p (λ op result tmp. lower-methods ms node (x .mark) op result tmp) (λ op result tmp. lower-methods ts node (x .mark) op result tmp)
 
+  -- statements one after the other: a chunk of each
   pub lower-stmts : Stmts → M (List Chunk)
   lower-stmts no-stmt = pure []
   lower-stmts (and-stmt s ss) = row (lower-stmt s) (lower-stmts ss)
 
+  -- the elifs of an if, one after the other
   pub lower-elifs : Elifs → M (List Instruction)
   lower-elifs no-elif = pure []
   lower-elifs (and-elif e ss es) = visit-elif (lower-expr e) (lower-stmts ss) (lower-elifs es)
 
+  -- a function statement, as a statement or as a method
   pub lower-fun : Fun → M Chunk
   lower-fun (fun node x params body) = visit-fun node x params (lower-stmts body)
 
+  -- the methods of the class at `node`: the class is in register `result`, each name passes through `tmp`
   pub lower-methods : Funs → (node mark op result tmp : ℕ) → M (List Instruction)
   lower-methods no-fun node mark op result tmp = pure []
   lower-methods (and-fun f fs) node mark op result tmp = visit-method node mark op result tmp (fun-name f) (lower-fun f) (lower-methods fs node mark op result tmp)
 
 -- ---- a whole program: `compile` on a fresh compiler, then `leave_function` with 0 parameters
 
+-- a fresh compiler in which `compile` has pushed the main function's context
 abbrev pub start : State
 start = record { constants = []; prototypes = []; globals = []; current = fresh no-name; outer = [] }
 
+-- the statements of the program at `node`: the main prototype's index, or a refusal
 unfoldable pub lower-program : ℕ → Stmts → Res ℕ
 lower-program node stmts = (do
   cs ← lower-stmts stmts

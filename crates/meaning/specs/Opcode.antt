@@ -124,6 +124,7 @@ GetExcept = 50
 
 -- ---- struct Instruction, with its mark (struct InstSrc)
 
+-- an instruction by its opcode, its operands and its mark
 abbrev pub inst : (opcode a b c mark : ℕ) → Instruction
 inst opcode a b c mark = record { opcode = opcode; a = a; b = b; c = c; mark = mark }
 
@@ -143,17 +144,19 @@ bx x = x .b * 256 + x .c
 abbrev pub back : ℕ → ℕ
 back n = (65536 - n % 65536) % 65536
 
--- the marks of an unfinished jump
+-- const JMP_CONTINUE: what a holds in a continue's jump until it is patched
 abbrev pub JMP-CONTINUE : ℕ
 JMP-CONTINUE = 1
 
+-- const JMP_BREAK: the same of a break's jump
 abbrev pub JMP-BREAK : ℕ
 JMP-BREAK = 2
 
--- fn is_continue, fn is_break
+-- fn is_continue
 abbrev pub is-continue : Instruction → Bool
 is-continue x = eqb (x .opcode) Jmp && eqb (x .a) JMP-CONTINUE
 
+-- fn is_break
 abbrev pub is-break : Instruction → Bool
 is-break x = eqb (x .opcode) Jmp && eqb (x .a) JMP-BREAK
 
@@ -171,7 +174,7 @@ unary-opcode op = getD (0 ∷ Not ∷ Neg ∷ []) op 0
 abbrev pub binary-opcode : ℕ → ℕ
 binary-opcode op = getD (0 ∷ Add ∷ Lt ∷ Eq ∷ Neq ∷ Gt ∷ Gte ∷ Lte ∷ Sub ∷ Div ∷ Mod ∷ Mul ∷ Pow ∷ []) op 0
 
--- the operators that `visit_binary_expr` and `visit_logical_expr` ask for by name
+-- the three operators that are asked for by name: Plus and Minus by `visit_binary_expr`, Or by `visit_logical_expr`
 abbrev pub plus : ℕ
 plus = 1
 

@@ -13,6 +13,7 @@ use Rattle.meaning.specs.Syntax.{Token, Expr, literal, variable, unary, 
 abbrev pub at : List ℕ → ℕ → ℕ
 at ws i = getD ws i 0
 
+-- a pair n m: a name with its mark
 abbrev pub token : ℕ → ℕ → Token
 token n m = record { name = n; mark = m }
 
@@ -27,22 +28,27 @@ pub record Readers : Type 0 where
   pub expr : ℕ → Expr
   pub stmt : ℕ → Stmt
   pub fun : ℕ → Fun
+  -- a superclass
   pub variable : ℕ → Super
+  -- an elif, put before those that follow it
   pub elif : ℕ → Elifs → Elifs
 
--- a row of children
+-- a row of children that are expressions
 abbrev pub exprs : Readers → List ℕ → Exprs
 exprs r [] = no-expr
 exprs r (c ∷ cs) = and-expr (r .expr c) (exprs r cs)
 
+-- the same of statements
 abbrev pub stmts : Readers → List ℕ → Stmts
 stmts r [] = no-stmt
 stmts r (c ∷ cs) = and-stmt (r .stmt c) (stmts r cs)
 
+-- the same of function statements, as methods
 abbrev pub funs : Readers → List ℕ → Funs
 funs r [] = no-fun
 funs r (c ∷ cs) = and-fun (r .fun c) (funs r cs)
 
+-- the same of elifs, each put before those that follow it
 abbrev pub elifs : Readers → List ℕ → Elifs
 elifs r [] = no-elif
 elifs r (c ∷ cs) = r .elif c (elifs r cs)
@@ -74,6 +80,7 @@ expr-readers =
     ∷ (λ r i ws. function i (tokens (take (2 * at ws 0) (drop 1 ws))) (stmts r (drop (1 + 2 * at ws 0) ws)))
     ∷ []
 
+-- an expression by its tag
 abbrev pub read-expr : Readers → (node tag : ℕ) → List ℕ → Expr
 read-expr r i tag ws = getD expr-readers tag (λ r i ws. no-expression) r i ws
 
@@ -101,6 +108,7 @@ read-if t e r i ws = if i (at ws 0) (r .expr (at ws 1)) (stmts r (take t (drop 3
 abbrev pub read-fun : Readers → (node : ℕ) → List ℕ → Fun
 read-fun r i ws = fun i (token (at ws 0) (at ws 1)) (tokens (take (2 * at ws 2) (drop 3 ws))) (stmts r (drop (3 + 2 * at ws 2) ws))
 
+-- the same as a statement, also for tag 1A: an elif is no statement
 abbrev pub no-statement : Stmt
 no-statement = expression 0 no-expression
 
@@ -123,6 +131,7 @@ stmt-readers =
     ∷ (λ r i ws. class i (token (at ws 0) (at ws 1)) (superclass r (at ws 2)) (funs r (take (at ws 3) (drop 4 ws))) (funs r (drop (4 + at ws 3) ws)))
     ∷ []
 
+-- a statement by its tag
 abbrev pub read-stmt : Readers → (node tag : ℕ) → List ℕ → Stmt
 read-stmt r i tag ws = getD stmt-readers (tag - 0x10) (λ r i ws. no-statement) r i ws
 

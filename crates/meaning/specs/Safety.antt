@@ -43,6 +43,7 @@ abbrev pub met-by : List (List ℕ × (Instruction → List ℕ)) → Instructio
 met-by [] x = x .a ∷ []
 met-by (row ∷ others) x = cond (among (x .opcode) (row .0)) (row .1 x) (met-by others x)
 
+-- the registers that an instruction meets
 abbrev pub met : Instruction → List ℕ
 met x = met-by rows x
 
@@ -50,6 +51,7 @@ met x = met-by rows x
 abbrev pub name-due : List ℕ
 name-due = GetGlobal ∷ SetGlobal ∷ GetBuiltin ∷ []
 
+-- a constant that can be a name: a text
 abbrev pub IsText : Constant → Type 0
 IsText (number bits) = ⊥
 IsText (text name) = Unit {0}
@@ -108,7 +110,7 @@ pub record Stands (constants : List Constant) (earlier : List Proto) (p : Proto)
   pub facts : Facts constants earlier p place (inst-at (p .code) place)
   pub goes-on : (opcode-at (p .code) place ≡ Return → ⊥) → (further : Option ℕ) × step place further
 
--- a tree whose lowering was done, and the image of the state in which it ended
+-- a tree whose lowering was done, `main` being the main prototype's index, and the image of the state in which it ended
 pub record Lowered (tree : List ℕ) (work : ℕ) (bytes : List ℕ) : Type 0 where
   pub nodes : ℕ
   pub accepted : checked tree work ≡ Accepted nodes

@@ -11,12 +11,12 @@ use Rattle.meaning.specs.declared.Cause.{Cause}
 use Rattle.meaning.specs.declared.Cause.the-variants.{Registers, Captures, Constants, Prototypes, Nesting, Long}
 use Rattle.meaning.specs.declared.Instruction.{Instruction}
 
--- struct Local
+-- struct Local: a name, and the register that it names
 pub record Local : Type 0 where
   pub name : ℕ
   pub register : ℕ
 
--- struct UpvalueRef
+-- struct UpvalueRef: where it is local `index` is a register of the function around, else one of its captures
 pub record Capture : Type 0 where
   pub is-local : Bool
   pub index : ℕ
@@ -29,7 +29,7 @@ pub record Open : Type 0 where
   pub captures : List Capture
   pub loops : ℕ
 
--- struct FnPrototype
+-- struct FnPrototype: parameters and registers by their number
 pub record Proto : Type 0 where
   pub name : ℕ
   pub params : ℕ
@@ -37,7 +37,7 @@ pub record Proto : Type 0 where
   pub captures : List Capture
   pub code : List Instruction
 
--- struct Compiler: the current function and those around it, innermost first
+-- struct Compiler: the current function and those around it, innermost first; the names of globals, the latest first
 pub record State : Type 0 where
   pub constants : List Constant
   pub prototypes : List Proto
@@ -45,33 +45,40 @@ pub record State : Type 0 where
   pub current : Open
   pub outer : List Open
 
--- struct Chunk
+-- struct Chunk: `result` is the register in which its value is
 pub record Chunk : Type 0 where
   pub code : List Instruction
   pub result : ℕ
 
+-- what a step ends in: refused with a cause and its node, or done with an answer and the state after it
 pub data Res (A : Type 0) : Type 0 where
   refused : Cause → ℕ → Res A
   done : A → State → Res A
 
+-- a step of the lowering that answers an A: what it ends in, by the state before it
 abbrev pub M : Type 0 → Type 0
 M A = State → Res A
 
 infixl 10 _>>=_
 infixl 10 _>>_
+-- what follows a step: a refusal stays; from an answer and its state f goes on
 unfoldable pub and-then : {A B : Type 0} → Res A → (A → M B) → Res B
 and-then (refused c p) f = refused c p
 and-then (done a s) f = f a s
 
+-- one step, then another that is handed its answer: `x ← m` in the steps below
 unfoldable pub _>>=_ : {A B : Type 0} → M A → (A → M B) → M B
 _>>=_ m f = λ s. and-then (m s) f
 
+-- the same, where the answer is not asked for: a line of its own in the steps below
 unfoldable pub _>>_ : {A B : Type 0} → M A → M B → M B
 _>>_ m n = λ s. and-then (m s) (λ a. n)
 
+-- an answer, with the state as it was
 unfoldable pub pure : {A : Type 0} → A → M A
 pure a = λ s. done a s
 
+-- a refusal with its cause and its node, in any state
 unfoldable pub refuse : {A : Type 0} → Cause → ℕ → M A
 refuse c node = λ s. refused c node
 
@@ -84,23 +91,29 @@ if-then false m n = n
 unfoldable pub only-if : Bool → M (Unit {0}) → M (Unit {0})
 only-if b m = if-then b m (pure tt)
 
+-- what f reads off the state, which stays
 unfoldable pub get : {A : Type 0} → (State → A) → M A
 get f = λ s. done (f s) s
 
 -- ---- a field set anew
 
+-- self.contexts.last_mut(): f is the current function from here on
 unfoldable pub set-current : Open → M (Unit {0})
 set-current f = λ s. done tt (record { constants = s .constants; prototypes = s .prototypes; globals = s .globals; current = f; outer = s .outer })
 
+-- f with n registers taken
 abbrev pub with-registers : Open → ℕ → Open
 with-registers f n = record { name = f .name; registers = n; blocks = f .blocks; captures = f .captures; loops = f .loops }
 
+-- f with these open blocks
 abbrev pub with-blocks : Open → List (List Local) → Open
 with-blocks f bs = record { name = f .name; registers = f .registers; blocks = bs; captures = f .captures; loops = f .loops }
 
+-- f with these captures
 abbrev pub with-captures : Open → List Capture → Open
 with-captures f cs = record { name = f .name; registers = f .registers; blocks = f .blocks; captures = cs; loops = f .loops }
 
+-- f with n open loops
 abbrev pub with-loops : Open → ℕ → Open
 with-loops f n = record { name = f .name; registers = f .registers; blocks = f .blocks; captures = f .captures; loops = n }
 
@@ -131,6 +144,7 @@ enter-block = do
   f ← get (λ s. s .current)
   set-current (with-blocks f ([] ∷ f .blocks))
 
+-- all but the first element; nothing of an empty list
 abbrev pub rest {ℓ} : {A : Type ℓ} → List A → List A
 rest [] = []
 rest (x ∷ xs) = xs
@@ -155,11 +169,13 @@ enter-loop = do
   f ← get (λ s. s .current)
   set-current (with-loops f (f .loops + 1))
 
+-- one open loop less
 unfoldable pub leave-loop : M (Unit {0})
 leave-loop = do
   f ← get (λ s. s .current)
   set-current (with-loops f (f .loops - 1))
 
+-- enter-loop and leave-loop around the lowering of a loop's body
 unfoldable pub in-loop : {A : Type 0} → M A → M A
 in-loop m = do
   enter-loop
@@ -177,19 +193,22 @@ add-constant node c =
 
 -- ---- globals
 
--- fn is_global_context
+-- there is exactly one element
 abbrev pub is-single {ℓ} : {A : Type ℓ} → List A → Bool
 is-single [] = false
 is-single (x ∷ []) = true
 is-single (x ∷ y ∷ xs) = false
 
+-- f has no function around it, and its first block alone is open
 abbrev pub is-global : Open → List Open → Bool
 is-global f [] = is-single (f .blocks)
 is-global f (g ∷ gs) = false
 
+-- fn is_global_context
 unfoldable pub is-global-context : M Bool
 is-global-context = get (λ s. is-global (s .current) (s .outer))
 
+-- x is one of these numbers
 abbrev pub among : ℕ → List ℕ → Bool
 among x [] = false
 among x (y ∷ ys) = eqb x y || among x ys
@@ -208,11 +227,12 @@ add-global name = λ s. done tt (record { constants = s .constants; prototypes =
 
 -- ---- variables and captures
 
--- fn get_var_register_by_context: the latest local of that name
+-- the register of the latest local of that name in one block, or else `other`
 abbrev pub local-in-block : ℕ → List Local → Option ℕ → Option ℕ
 local-in-block name [] other = other
 local-in-block name (l ∷ ls) other = cond (eqb name (l .name)) (some (l .register)) (local-in-block name ls other)
 
+-- fn get_var_register_by_context: the register of the latest local of that name in the open blocks
 abbrev pub local-of : ℕ → List (List Local) → Option ℕ
 local-of name [] = none
 local-of name (b ∷ bs) = local-in-block name b (local-of name bs)
@@ -221,15 +241,16 @@ local-of name (b ∷ bs) = local-in-block name b (local-of name bs)
 unfoldable pub get-var-register : ℕ → M (Option ℕ)
 get-var-register name = get (λ s. local-of name (s .current .blocks))
 
--- the index of an equal capture, or the number of captures
+-- fn add_upvalue: the index of an equal capture, or the number of captures, which a new one gets
 abbrev pub capture-index : Capture → List Capture → ℕ
 capture-index c [] = zero
 capture-index c (d ∷ ds) = cond (Bool·beq (c .is-local) (d .is-local) && eqb (c .index) (d .index)) zero (suc (capture-index c ds))
 
--- fn add_upvalue: the captures afterwards; its index is `capture-index`; 8 Captures where there are 255 and none is equal
+-- fn add_upvalue: 8 Captures where there are 255 and none is equal
 abbrev pub captures-full : Capture → List Capture → Bool
 captures-full c cs = leb 255 (capture-index c cs)
 
+-- fn add_upvalue: the captures afterwards; an equal one is used again
 abbrev pub with-capture : Capture → List Capture → List Capture
 with-capture c cs = cond (ltb (capture-index c cs) (length cs)) cs (cs ++ c ∷ [])
 
@@ -245,9 +266,11 @@ add-upvalue inner c fs =
     cond (captures-full c (inner .captures)) full
     (found (capture-index c (inner .captures)) (with-captures inner (with-capture c (inner .captures))) fs)
 
+-- add_upvalue(reg, true): register r of the function just around
 abbrev pub local-capture : ℕ → Capture
 local-capture r = record { is-local = true; index = r }
 
+-- add_upvalue(up, false): capture i of the function just around
 abbrev pub outer-capture : ℕ → Capture
 outer-capture i = record { is-local = false; index = i }
 
@@ -264,18 +287,20 @@ unfoldable pub search-outward : ℕ → Open → List Open → Search
 search-outward name inner [] = not-found
 search-outward name inner (f ∷ fs) = outward (is-global f fs) (local-of name (f .blocks)) (search-outward name f fs) inner f fs
 
--- fn get_upvalue
+-- fn get_upvalue, after its search: 8 Captures, or the functions with what was added to them
 unfoldable pub searched : ℕ → State → Search → Res (Option ℕ)
 searched node s not-found = done none s
 searched node s full = refused Captures node
 searched node s (found i f fs) =
     done (some i) (record { constants = s .constants; prototypes = s .prototypes; globals = s .globals; current = f; outer = fs })
 
+-- fn get_upvalue: the index of the current function's capture of that name, if it can be captured
 unfoldable pub get-upvalue : ℕ → ℕ → M (Option ℕ)
 get-upvalue node name = λ s. searched node s (search-outward name (s .current) (s .outer))
 
 -- ---- functions
 
+-- FnContext as enter_function pushes it: no register taken, its first block open and empty
 abbrev pub fresh : ℕ → Open
 fresh name = record { name = name; registers = 0; blocks = [] ∷ []; captures = []; loops = 0 }
 

@@ -13,6 +13,7 @@ use Rattle.meaning.specs.declared.Instruction.{Instruction}
 abbrev pub inst-at : List Instruction → (i : ℕ) → Instruction
 inst-at code i = getD code i (inst Return 0 0 0 no-mark)
 
+-- the opcode of the instruction at index i
 abbrev pub opcode-at : List Instruction → (i : ℕ) → ℕ
 opcode-at code i = inst-at code i .opcode
 

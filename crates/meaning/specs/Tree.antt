@@ -26,6 +26,7 @@ unfoldable pub parent-by : (c i : ℕ) → List Field → ℕ
 parent-by c i [] = i
 parent-by c i (f ∷ fs) = cond (eqb (count c (kids-of f)) 0) (parent-by c (suc i) fs) i
 
+-- the lowest node that has c as a child, or the number of nodes where none has
 unfoldable pub parent-of : List Field → ℕ → ℕ
 parent-of fs c = parent-by c 0 fs
 
@@ -38,5 +39,6 @@ depth-by parent last (suc f) c = let deeper = suc (depth-by parent last f (paren
 unfoldable pub depth-of : List Field → ℕ → ℕ
 depth-of fs c = depth-by (parent-of fs) (length fs - 1) (length fs) c
 
+-- node c stands no deeper than 128
 unfoldable pub depth-at : List Field → ℕ → Bool
 depth-at fs c = leb (depth-of fs c) 128

@@ -25,6 +25,7 @@ tokens-from payload from n = tokens (slice from (from + 2 * n) (words payload))
 abbrev pub a-name : Scope → Cost
 a-name p = uses 0 0 (2 - (p .depth + p .block))
 
+-- the same given back, once the constant is stored
 abbrev pub a-name-back : Scope → Cost
 a-name-back p = gives 0 0 (2 - (p .depth + p .block))
 

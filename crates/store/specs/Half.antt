@@ -5,6 +5,7 @@ use mathlib.Core.List.{List}
 use lib.ListN.{getD, set}
 use lib.Dec.{eqb}
 
+-- the number that half k holds, from 0 to 65,535
 unfoldable pub half : List ℕ → ℕ → ℕ
 half w k = cond (eqb (k % 2) 0) (getD w (k / 2) 0 % 65536) (getD w (k / 2) 0 / 65536 % 65536)
 

@@ -28,44 +28,55 @@ use Rattle.meaning.specs.declared.Instruction.{Instruction}
 
 -- ---- constants
 
+-- three words as a constant: kind 1 a number by its 64 bits, 2 a text, else another literal
 abbrev pub constant-by : (kind high low : ℕ) → Constant
 constant-by kind high low = cond (eqb kind 1) (number (high * 4294967296 + low)) (cond (eqb kind 2) (text low) (other low))
 
+-- the constant of index i
 abbrev pub constant-at : List ℕ → ℕ → Constant
 constant-at w i = constant-by (getD w (3 * i) 0) (getD w (3 * i + 1) 0) (getD w (3 * i + 2) 0)
 
 -- ---- frames: function j
 
+-- its name, 65,535 for the main function and a function expression
 abbrev pub name-of : List ℕ → ℕ → ℕ
 name-of w j = getD w (3072 + 8 * j) 0
 
+-- how many registers it has taken
 abbrev pub registers : List ℕ → ℕ → ℕ
 registers w j = getD w (3073 + 8 * j) 0 % 256
 
+-- how many captures it holds
 abbrev pub held : List ℕ → ℕ → ℕ
 held w j = getD w (3074 + 8 * j) 0 % 256
 
+-- the number of its first block, the blocks of the functions around it counted
 abbrev pub first : List ℕ → ℕ → ℕ
 first w j = getD w (3075 + 8 * j) 0
 
+-- the open loops of the function around it, to which leaving it goes back
 abbrev pub saved : List ℕ → ℕ → ℕ
 saved w j = getD w (3076 + 8 * j) 0
 
 -- ---- captures: an index, or 256 and a register
 
+-- a half as a capture: below 256 a capture of the function around, from 256 on a register of it
 abbrev pub capture-of : ℕ → Capture
 capture-of x = cond (ltb x 256) (outer-capture x) (local-capture (x - 256))
 
+-- capture i of function j
 abbrev pub capture-at : List ℕ → (j i : ℕ) → Capture
 capture-at w j i = capture-of (half w (6288 + 256 * j + i) % 512)
 
 -- ---- globals
 
+-- the name of global i, the earliest being 0
 abbrev pub global-at : List ℕ → ℕ → ℕ
 global-at w i = half w (8336 + i)
 
 -- ---- blocks and locals
 
+-- how many locals stand before block i: where it starts, and the block before it ends
 abbrev pub edge : List ℕ → (n i : ℕ) → ℕ
 edge w n i = getD w (5708 + n + i) 0
 
@@ -73,6 +84,7 @@ edge w n i = getD w (5708 + n + i) 0
 abbrev pub local-of-word : ℕ → Local
 local-of-word x = record { name = x / 255; register = x % 255 }
 
+-- local i, the earliest of all open functions being 0
 abbrev pub local-at : List ℕ → (n i : ℕ) → Local
 local-at w n i = local-of-word (getD w (5724 + 2 * n + i) 0)
 
@@ -95,11 +107,14 @@ head w n b = half w (24576 + 22 * n + b)
 
 -- ---- pending code
 
+-- the first word above the pending code, which goes downward from here
 abbrev pub top : ℕ → ℕ
 top n = 12288 + 11 * n
 
+-- a word as an instruction, the opcode in its lowest byte, then a, b and c; the mark has a word of its own
 abbrev pub unpacked : (word mark : ℕ) → Instruction
 unpacked x m = inst (x % 256) (x / 256 % 256) (x / 65536 % 256) (x / 16777216 % 256) m
 
+-- pending instruction i, of which the mark stands above the packed word
 abbrev pub inst-at : List ℕ → (n i : ℕ) → Instruction
 inst-at w n i = unpacked (getD w (top n - (2 * i + 2)) 0) (getD w (top n - (2 * i + 1)) 0)

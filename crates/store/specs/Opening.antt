@@ -43,7 +43,9 @@ pub record Enters (w : List ℕ) (p : Scope) (s : Step) (w' : List ℕ) (r : Ste
   pub code : r .code ≡ s .code
   pub first-is : first w' (suc (p .depth)) ≡ p .block
   pub saved-is : saved w' (suc (p .depth)) ≡ p .loops
+  -- p's function takes no register
   pub own : registers w' (p .depth) ≡ registers w (p .depth)
+  -- the function's locals start where p's end
   pub start : edge w' (p .nodes) (p .block) ≡ edge w (p .nodes) (p .block)
 
 -- the words of a function inside p: p's scope can be read from them again

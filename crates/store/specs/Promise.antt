@@ -12,6 +12,7 @@ use Rattle.forward.specs.Forward.{Config, Run, bind, fwd-number, fwd-unit, Answ
 
 -- ---- what a step uses up, and what it gives back: words for code and locals, locals, names of globals for which no constant stands yet
 
+-- what is used up of each, then what is given back
 pub record Cost : Type 0 where
   pub words : ℕ
   pub locals : ℕ
@@ -20,12 +21,15 @@ pub record Cost : Type 0 where
   pub locals-back : ℕ
   pub names-back : ℕ
 
+-- so much is used up, nothing given back
 abbrev pub uses : (words locals names : ℕ) → Cost
 uses a b c = record { words = a; locals = b; names = c; words-back = 0; locals-back = 0; names-back = 0 }
 
+-- so much is given back, nothing used up
 abbrev pub gives : (words locals names : ℕ) → Cost
 gives a b c = record { words = 0; locals = 0; names = 0; words-back = a; locals-back = b; names-back = c }
 
+-- a step that uses up nothing
 abbrev pub nothing : Cost
 nothing = uses 0 0 0
 
@@ -33,9 +37,11 @@ nothing = uses 0 0 0
 abbrev pub some-registers : ℕ → Cost
 some-registers n = gives (3 * n) n 0
 
+-- one register, as `some-registers` has it
 abbrev pub a-register : Cost
 a-register = gives 3 1 0
 
+-- a local takes one word
 abbrev pub a-local : Cost
 a-local = uses 1 1 0
 
@@ -43,6 +49,7 @@ a-local = uses 1 1 0
 abbrev pub a-constant : Cost
 a-constant = gives 0 0 1
 
+-- the name of a global, which no constant pays for yet
 abbrev pub a-global : Cost
 a-global = uses 0 0 1
 
@@ -71,8 +78,11 @@ live w p s = 2 * s .code + edge w (p .nodes) (p .block)
 
 -- room for k nodes that are still to be lowered, and for a words and b locals beside
 pub record Roomy (w : List ℕ) (p : Scope) (s : Step) (k a b : ℕ) : Type 0 where
+  -- 11,844 is 5,724, the words ahead of the locals but for 2 n, and three for each of 2,040 registers
   pub words : 11844 + 2 * p .nodes + live w p s + 8 * k + a ≤ top (p .nodes) + 3 * taken w (p .depth)
+  -- a local for every node and every register
   pub locals : edge w (p .nodes) (p .block) + k + b ≤ p .nodes + taken w (p .depth)
+  -- every global's name is a constant; where a second block is open one may be due
   pub globals : s .globals + 1 ≤ s .constants + min 2 (p .block)
 
 -- due while nothing is refused
@@ -84,6 +94,7 @@ pub record Used (w : List ℕ) (p : Scope) (s : Step) (w' : List ℕ) (q : Scope
   pub words : live w' q r + 3 * taken w (p .depth) + u .words-back ≤ live w p s + 3 * taken w' (q .depth) + u .words
   pub locals : edge w' (q .nodes) (q .block) + taken w (p .depth) + u .locals-back ≤ edge w (p .nodes) (p .block) + taken w' (q .depth) + u .locals
   pub names : r .globals + s .constants + u .names-back ≤ s .globals + r .constants + u .names
+  -- "Registers are taken upward per function and never given back"
   pub registers : taken w (p .depth) ≤ taken w' (q .depth)
 
 -- ---- the promises
@@ -92,9 +103,12 @@ pub record Used (w : List ℕ) (p : Scope) (s : Step) (w' : List ℕ) (q : Scope
 pub record Moves (w : List ℕ) (p : Scope) (s : Step) (w' : List ℕ) (q : Scope) (r : Step) (u : Cost) : Type 0 where
   pub fine : Fine w' q r
   pub kept : Kept w p w'
+  -- a refusal stays
   pub back : goes-on (r .outcome) → goes-on (s .outcome)
   pub used : while-going (r .outcome) (Used w p s w' q r u)
+  -- pending code is not cut off
   pub longer : s .code ≤ r .code
+  -- a step that uses no local leaves their number
   pub still : u .locals ≡ 0 → edge w' (q .nodes) (q .block) ≡ edge w (p .nodes) (p .block)
 
 -- a step that leaves the output alone does `op`

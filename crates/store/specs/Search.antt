@@ -12,11 +12,13 @@ use Rattle.store.specs.Layout.{first, edge, capture-of}
 use Rattle.store.specs.Store.{open-at, around, Linked}
 use Rattle.meaning.specs.State.{Local, Search, not-found, full, found, add-upvalue, search-outward}
 
+-- what was found as the definition has it; where a capture does not fit, the step is refused and this is not asked
 abbrev pub option-of : Found → Option ℕ
 option-of (At i) = some i
 option-of Nothing = none
 option-of Full = none
 
+-- the same the other way: a search of locals is never full
 abbrev pub found-of : Option ℕ → Found
 found-of none = Nothing
 found-of (some i) = At i
@@ -37,6 +39,7 @@ pub record Walkable (w : List ℕ) (n end : ℕ) : Type 0 where
   pub some : 1 ≤ n
   pub few : n ≤ 32768
   pub long : 12288 + 16 * n ≤ length w
+  -- how many blocks are linked, and the one at whose edge the walk ends
   pub blocks : ℕ
   pub block : ℕ
   pub among : block ≤ blocks
@@ -50,9 +53,12 @@ pub record Walkable (w : List ℕ) (n end : ℕ) : Type 0 where
 -- only captures of the functions 0 to d changed
 pub record Caught (w : List ℕ) (d : ℕ) (w' : List ℕ) : Type 0 where
   pub same : length w' ≡ length w
+  -- the words before the frames, and those after the captures
   pub low : (i : ℕ) → i < 3072 → getD w' i 0 ≡ getD w i 0
   pub high : (i : ℕ) → 4168 ≤ i → getD w' i 0 ≡ getD w i 0
+  -- of a frame only word 2 changed, how many captures are held
   pub frames : (j k : ℕ) → j < 9 → k < 8 → ¬ (k ≡ 2) → getD w' (3072 + 8 * j + k) 0 ≡ getD w (3072 + 8 * j + k) 0
+  -- and of the functions beyond d not that, nor the captures
   pub counts : (j : ℕ) → d < j → j < 9 → getD w' (3074 + 8 * j) 0 ≡ getD w (3074 + 8 * j) 0
   pub above : (i : ℕ) → 3144 + 128 * suc d ≤ i → i < 4168 → getD w' i 0 ≡ getD w i 0
 
@@ -66,6 +72,7 @@ search-of w n d e l (At i) = found i (open-at w n d e l) (around w n d)
 pub record Added (w : List ℕ) (d x : ℕ) (w' : List ℕ) (r : Found) : Type 0 where
   pub says : (n e l : ℕ) → search-of w' n d e l r ≡ add-upvalue (open-at w n d e l) (capture-of x) (around w n d)
   pub small : in-byte r
+  -- a capture that is added is found, or does not fit
   pub never : r ≡ Nothing → ⊥
   pub caught : Caught w d w'
 

@@ -43,9 +43,11 @@ state-of w p s ps =
       outer = around w (p .nodes) (p .depth);
     }
 
+-- the pending code of all open functions, the result register and the State
 unfoldable pub config-of : List ℕ → Scope → Step → List Proto → Config
 config-of w p s ps = config (tab (inst-at w (p .nodes)) (s .code)) (s .result) (state-of w p s ps)
 
+-- a refusal by its cause and node, else the configuration
 abbrev pub run-by : Outcome → Config → Run
 run-by (Accepted written) c = going c
 run-by (Refused cause node) c = stopped cause node
@@ -78,6 +80,7 @@ global-scope p = eqb (p .depth) 0 && eqb (p .block) 1
 
 -- ---- steps
 
+-- where the lowering starts: nothing is written, pending or stored
 abbrev pub first-step : Step
 first-step = record { outcome = Accepted 0; code = 0; constants = 0; globals = 0; functions = 0; result = 0 }
 
@@ -85,6 +88,7 @@ first-step = record { outcome = Accepted 0; code = 0; constants = 0; globals = 0
 abbrev pub advanced : Step → (code result : ℕ) → Step
 advanced s k r = record { outcome = s .outcome; code = k; constants = s .constants; globals = s .globals; functions = s .functions; result = r }
 
+-- as many instructions as before, and this result
 abbrev pub with-result : Step → ℕ → Step
 with-result s r = advanced s (s .code) r
 
@@ -93,10 +97,12 @@ abbrev pub refused-by : Outcome → Cause → ℕ → Outcome
 refused-by (Accepted written) cause node = Refused cause node
 refused-by (Refused cause node) cause' node' = Refused cause node
 
+-- the result of a refused step: 0, or as it was where it was refused before
 abbrev pub result-by : Outcome → ℕ → ℕ
 result-by (Accepted written) r = 0
 result-by (Refused cause node) r = r
 
+-- a step that is refused now: its counts stay; one that was refused before stays as it is
 abbrev pub refused-step : Step → Cause → ℕ → Step
 refused-step s k n =
     record { outcome = refused-by (s .outcome) k n; code = s .code; constants = s .constants; globals = s .globals; functions = s .functions; result = result-by (s .outcome) (s .result) }
@@ -113,18 +119,22 @@ while-going (Refused cause node) P = Unit {0}
 
 -- ---- the output: it holds the finished prototypes where they fit; they are counted always
 
+-- so many bytes and so many functions are those of the prototypes ps, which stand at the front of the output where they fit
 pub record Written (o : List ℕ) (written functions : ℕ) (ps : List Proto) : Type 0 where
   pub counted : functions ≡ length ps
   pub sized : written ≡ length (proto-bytes ps)
   pub bytes : written ≤ length o → take written o ≡ proto-bytes ps
 
+-- the same while nothing is refused; of a refused step's output nothing is said
 abbrev pub image-by : Outcome → List ℕ → ℕ → List Proto → Type 0
 image-by (Accepted written) o functions ps = Written o written functions ps
 image-by (Refused cause node) o functions ps = Unit {0}
 
+-- the output holds the prototypes ps, as the step counts them
 abbrev pub Image : List ℕ → Step → List Proto → Type 0
 Image o s ps = image-by (s .outcome) o (s .functions) ps
 
+-- the bytes of the finished prototypes, 0 where a step is refused
 abbrev pub written-by : Outcome → ℕ
 written-by (Accepted written) = written
 written-by (Refused cause node) = 0
@@ -154,15 +164,22 @@ pub record Linked (w : List ℕ) (n b : ℕ) : Type 0 where
 
 -- the words in a scope
 pub record Sound (w : List ℕ) (p : Scope) : Type 0 where
+  -- 01's limit: 1 to 32,768 nodes
   pub some : 1 ≤ p .nodes
   pub few : p .nodes ≤ 32768
+  -- the words that refusal 6 asks for
   pub long : 12288 + 16 * p .nodes ≤ length w
+  -- a ninth function has its frame while it is refused
   pub deep : p .depth ≤ 8
+  -- there are words for the edges of these blocks
   pub blocks : p .block ≤ p .nodes + 10
   pub loops : p .loops ≤ p .nodes + 10
+  -- no block ends before it starts
   pub sorted : (i : ℕ) → i < p .block → edge w (p .nodes) i ≤ edge w (p .nodes) (suc i)
   pub main : first w 0 ≡ 0
+  -- every open function's first block is open
   pub starts : (j : ℕ) → j ≤ p .depth → first w j < p .block
+  -- a local is paid for by a node or by one of 2,040 registers
   pub count : edge w (p .nodes) (p .block) ≤ p .nodes + 2040
   pub linked : Linked w (p .nodes) (p .block)
 
@@ -171,13 +188,18 @@ abbrev pub result-limit : Outcome → ℕ
 result-limit (Accepted written) = 1024
 result-limit (Refused cause node) = 255
 
+-- what every function is given and gives back: the words in their scope, and a step whose counts keep to 01's limits
 pub record Fine (w : List ℕ) (p : Scope) (s : Step) : Type 0 where
   pub sound : Sound w p
+  -- eight functions are open at most, unless one was refused
   pub nested : while-going (s .outcome) (p .depth ≤ 7)
+  -- locals, which go upward, and pending code, which goes downward, do not meet
   pub room : 5724 + 2 * p .nodes + 2 * s .code + edge w (p .nodes) (p .block) ≤ top (p .nodes)
   pub constants : s .constants ≤ 1024
+  -- a global's name is a constant, but for one that is still due
   pub globals : s .globals ≤ s .constants + 1
   pub functions : s .functions ≤ 256
+  -- a prototype has 300,000 bytes at most
   pub written : written-by (s .outcome) ≤ 300000 * s .functions
   pub result : s .result < result-limit (s .outcome)
 
@@ -186,6 +208,9 @@ pub record Kept (w : List ℕ) (p : Scope) (w' : List ℕ) : Type 0 where
   pub same : length w' ≡ length w
   pub firsts : (j : ℕ) → j ≤ p .depth → first w' j ≡ first w j
   pub saves : (j : ℕ) → j ≤ p .depth → saved w' j ≡ saved w j
+  -- the registers of the functions around
   pub outer : (j : ℕ) → j < p .depth → registers w' j ≡ registers w j
+  -- the blocks but for the end of the innermost one
   pub edges : (i : ℕ) → i < p .block → edge w' (p .nodes) i ≡ edge w (p .nodes) i
+  -- the table of the nodes' offsets
   pub offsets : (i : ℕ) → 12288 + 15 * p .nodes ≤ i → getD w' i 0 ≡ getD w i 0

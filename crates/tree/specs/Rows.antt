@@ -12,18 +12,23 @@ use lib.ListN.{getD}
 use lib.Dec.{eqb}
 use Rattle.meaning.specs.Grammar.{none, any, name, op, op12, count, expr, stmt, elif, method, super, init, names}
 
+-- a word that is in no counted run, or not the last of its group
 abbrev word : (kind next : ℕ) → ℕ
 word k n = k + 16 * n
 
+-- a count: the first word of a group is due next, or what comes after the run
 abbrev counts : (next done : ℕ) → ℕ
 counts n d = word count n + 2048 * d + 262144
 
+-- the last word of a group: another group is due next, or what comes after the run
 abbrev closes : (kind next done : ℕ) → ℕ
 closes k n d = word k n + 2048 * d + 524288
 
+-- a row before which the payload may end
 abbrev ending : ℕ → ℕ
 ending row = row + 1048576
 
+-- the rows in order; where a tag's begin, the number is named
 unfoldable pub row-list : List ℕ
 row-list =
     -- 0: no tag: nothing fits
@@ -138,21 +143,27 @@ first-rows = 0 ∷ 2 ∷ 6 ∷ 7 ∷ 8 ∷ 10 ∷ 13 ∷ 17 ∷ 21 ∷ 24 ∷ 0 
 
 -- ---- what a row says
 
+-- row r; beyond the table one at which nothing fits
 abbrev pub row-at : ℕ → ℕ
 row-at r = getD row-list r 0
 
+-- what the word is, as the kinds of the grammar
 abbrev pub kind-in : ℕ → ℕ
 kind-in row = row % 16
 
+-- the number of the row after it
 abbrev pub next-in : ℕ → ℕ
 next-in row = row / 16 % 128
 
+-- the number of the row after it, where no group is left
 abbrev pub done-in : ℕ → ℕ
 done-in row = row / 2048 % 128
 
+-- 1 a count, 2 the last word of a group, 0 any other
 abbrev pub flow-in : ℕ → ℕ
 flow-in row = row / 262144 % 4
 
+-- the payload may end before it
 abbrev pub ends-in : ℕ → Bool
 ends-in row = eqb (row / 1048576) 1
 
@@ -166,6 +177,7 @@ next-row row left = cond (eqb (flow-in row) 0) (next-in row) (cond (eqb left 0) 
 
 -- ---- payloads by rows, as `fits` and `kids` have them by items
 
+-- a payload's bytes fit from row r on, `left` groups of a counted run being left
 unfoldable pub fits-row : (ok : ℕ → ℕ → Bool) → (r left : ℕ) → List ℕ → Bool
 fits-row ok r left [] = ends-in (row-at r)
 fits-row ok r left (a ∷ []) = false
@@ -174,6 +186,7 @@ fits-row ok r left (a ∷ b ∷ p) =
     let left′ = next-left (row-at r) left w in
     ok (kind-in (row-at r)) w && fits-row ok (next-row (row-at r) left′) left′ p
 
+-- the children that they name, in order
 unfoldable pub kids-row : (r left : ℕ) → List ℕ → List ℕ
 kids-row r left [] = []
 kids-row r left (a ∷ []) = []

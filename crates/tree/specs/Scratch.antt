@@ -26,6 +26,7 @@ noted v i = cond (ltb v 256) (v + 256 * (i + 1)) (v % 256 + 16776960)
 unfoldable pub note : List ℕ → (i w : ℕ) → List ℕ
 note l i w = set l w (noted (getD l w 0) i)
 
+-- node i has these children, in order
 unfoldable pub note-all : List ℕ → (i : ℕ) → List ℕ → List ℕ
 note-all l i [] = l
 note-all l i (w ∷ ws) = note-all (note l i w) i ws
@@ -72,6 +73,7 @@ pub record Found (tree l : List ℕ) (count after wrong : ℕ) : Type 0 where
 unfoldable pub once : ℕ → Bool
 once v = leb 256 v && ltb v 16776960
 
+-- the node that has c as a child, where c's word names one
 abbrev pub parent-in : List ℕ → ℕ → ℕ
 parent-in l c = getD l c 0 / 256 - 1
 

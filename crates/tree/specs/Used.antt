@@ -15,9 +15,11 @@ few n = min n 32768
 unfoldable pub used : (tree : List ℕ) (room : ℕ) → ℕ
 used tree room = cond (leb (few (length tree / 3)) room) (few (length (fields tree))) 0
 
+-- the first n words 0, the others as they were
 abbrev pub zeroed : ℕ → List ℕ → List ℕ
 zeroed n l = replicate n 0 ++ drop n l
 
+-- the scratch after a check
 unfoldable pub scratch-after : (tree scratch : List ℕ) → List ℕ
 scratch-after tree scratch = zeroed (used tree (length scratch)) scratch
 

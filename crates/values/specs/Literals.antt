@@ -31,6 +31,7 @@ bits-of (NotANumber bits) = bits
 bits-of (Text name) = name
 bits-of (Other word) = word
 
+-- a number from 0 to 255 or none, as the enum has it
 abbrev pub small-as : Option ℕ → Immediate
 small-as none = Not
 small-as (some k) = Is k
