@@ -1,10 +1,10 @@
 -- Laws of the fields of a tree file, and what a walk over them keeps. `fields` goes by fuel; no proof but the first ones here sees it: all use
 -- `fields s ≡ front s ∷ fields (rest s)` where a whole field stands at the front.
-use mathlib.Core.Path.{_≡_, refl, sym, ap, _∙_, subst}
+use mathlib.Core.Path.{_≡_, refl, sym, ap, _∙_}
 use mathlib.Core.Bool.{Bool, true, false, cond}
 use mathlib.Core.List.{List, [], _∷_}
 use Prim.Native.Nat.{ℕ, zero, suc, _+_, _-_, _<_, _≤_}
-use native.Mathlib.Nat.{le-refl, not-suc-le-zero}
+use native.Mathlib.Nat.{le-refl}
 use native.Mathlib.Omega.{arith}
 use lib.ListN.{length, getD, take, drop, length-drop}
 use borrow.Author.Tests.{leb-true, lt-leb}
@@ -105,14 +105,6 @@ walk-at s n t d i w = at-drop (fields s) n d (front t) (fields (rest t)) (i .her
 
 pub walk-below : (s : List ℕ) (n : ℕ) (t : List ℕ) → Walk s n t → whole t ≡ true → n < length (fields s)
 walk-below s n t i w = omega (arith, ap length (fields-whole t w), i .count)
-
--- where the walk has not come to the end, a whole field stands before it
-pub walk-whole : (s : List ℕ) (n : ℕ) (t : List ℕ) → Walk s n t → n < length (fields s) → whole t ≡ true
-walk-whole s n t i h = go (whole t) refl
-  where
-    go : (b : Bool) → whole t ≡ b → whole t ≡ true
-    go true w = w
-    go false w = absurd (omega (arith, ap length (fields-cut t w), i .count))
 
 -- a walk past every field has none left
 pub walk-done : (s : List ℕ) (n : ℕ) (t : List ℕ) → Walk s n t → length (fields s) ≤ n → fields t ≡ []

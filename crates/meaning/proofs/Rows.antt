@@ -106,16 +106,6 @@ module _ (fs : List Field) (i k to : ℕ) where
   unfolding elifs-at
   elifs-none h = rw (slice-none (words-at fs i) k to h)
 
-  pub tokens-none : to ≤ k → tokens-at fs i k to ≡ []
-  unfolding tokens-at
-  tokens-none h = rw (slice-none (words-at fs i) k to h)
-
-pub tokens-more : (fs : List Field) (i k to : ℕ) → k + 1 < to → to ≤ count-of fs i → tokens-at fs i k to ≡ token (word-of fs i k) (word-of fs i (k + 1)) ∷ tokens-at fs i (k + 2) to
-unfolding tokens-at
-tokens-more fs i k to a b =
-    let n : k + 1 + 1 ≡ k + 2 = omega arith in
-    rw (first fs i k to (omega arith) b, first fs i (k + 1) to a b, n)
-
 -- ---- how many they are
 
 -- expr.arguments.len()

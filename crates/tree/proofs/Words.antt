@@ -1,11 +1,11 @@
 -- The words of the scratch: noting a child changes no tag, and nothing at or above the node in hand; a payload that fits notes its children.
-use mathlib.Core.Path.{_≡_, refl, sym, ap, subst, _∙_}
+use mathlib.Core.Path.{_≡_, refl, sym, ap, _∙_}
 use mathlib.Core.Bool.{Bool, true, false, _&&_, cond}
-use mathlib.Core.List.{List, [], _∷_, _++_, map}
+use mathlib.Core.List.{List, [], _∷_, _++_}
 use Prim.Native.Nat.{ℕ, _+_, _-_, _*_, _%_, _<_, _≤_}
 use native.Mathlib.Omega.{arith}
 use lib.ListN.{length, getD, set, drop, length-set, List·getD-map}
-use lib.Seq.{map-set-same, drop-set-lt, drop-drop, getD-drop}
+use lib.Seq.{map-set-same, drop-set-lt, drop-drop}
 use lib.Dec.{ltb}
 use borrow.Author.Tests.{lt-ltb, le-ltb, ltb-true}
 use Rattle.meaning.specs.Grammar.{names, inside, lawful}
@@ -99,12 +99,6 @@ beyond-more m n a b h x = record {
   where
     further : (l : List ℕ) → drop n l ≡ drop (n - m) (drop m l)
     further l = let e : m + (n - m) ≡ n = omega arith in sym (drop-drop (n - m) m l ∙ ap (λ (k : ℕ). drop k l) e)
-
--- what stands from n on
-pub beyond-at : (n : ℕ) (a b : List ℕ) (k : ℕ) → Beyond n a b → n ≤ k → getD b k 0 ≡ getD a k 0
-beyond-at n a b k x h =
-    let e : n + (k - n) ≡ k = omega arith in
-    subst (λ (j : ℕ). getD b j 0 ≡ getD a j 0) e (sym (getD-drop n b (k - n) 0) ∙ ap (λ (l : List ℕ). getD l (k - n) 0) (x .rest) ∙ getD-drop n a (k - n) 0)
 
 -- ---- a payload: every child that is noted is lawful, and so stands below the node
 
