@@ -1,20 +1,19 @@
 -- The smallest steps, opened: what the functions of the store have to do. A step that may be refused is `pick test (stopped cause node) (going ..)`, one
 -- that is never refused is `going ..`; a question answers with what it finds in the state.
-use Prim.Native.Nat.{ℕ, _+_, _-_}
+use Prim.Native.Nat.{ℕ, _+_}
 use mathlib.Core.Path.{_≡_, refl, sym, ap, _∙_}
 use mathlib.Core.Bool.{Bool, true, false}
 use mathlib.Core.List.{List, [], _∷_, _++_}
 use mathlib.Core.Option.{Option, none, some}
 use native.Mathlib.Omega.{arith}
 use lib.ListN.{length}
-use lib.Dec.{eqb, ltb}
-use Rattle.meaning.specs.Opcode.{inst, no-mark, Return}
+use lib.Dec.{eqb}
 use Rattle.meaning.specs.Constant.{Constant}
-use Rattle.meaning.specs.State.{State, Open, Proto, M, refused, done, and-then, _>>=_, _>>_, pure, refuse, if-then, get, set-current, with-registers, with-blocks, with-local, rest, around, next-register, allocate-register, add-constant, add-global, not-found, full, found, search-outward, searched, get-upvalue, add-prototype}
+use Rattle.meaning.specs.State.{State, Open, Proto, M, refused, done, and-then, _>>=_, _>>_, pure, refuse, if-then, get, set-current, with-registers, with-blocks, with-local, rest, around, next-register, allocate-register, add-constant, add-global, not-found, full, found, search-outward, searched, get-upvalue}
 use Rattle.meaning.specs.declared.Cause.{Cause}
-use Rattle.meaning.specs.declared.Cause.the-variants.{Registers, Captures, Constants, Prototypes, Long}
+use Rattle.meaning.specs.declared.Cause.the-variants.{Registers, Captures, Constants}
 use Rattle.meaning.specs.declared.Instruction.{Instruction}
-use Rattle.forward.specs.Forward.{Config, config, Run, stopped, going, bind, pick, on, at, fwd-by, cut, fwd-number, fwd-unit, Answers}
+use Rattle.forward.specs.Forward.{Config, config, Run, stopped, going, bind, pick, on, at, fwd-by, fwd-number, fwd-unit, Answers}
 
 -- ---- registers, locals, blocks, loops
 
@@ -113,14 +112,3 @@ after params code s =
 abbrev pub with-prototype : ℕ → List Instruction → State → State
 with-prototype params code s =
     record { constants = s .constants; prototypes = s .prototypes ++ finished params code s ∷ []; globals = s .globals; current = s .current; outer = s .outer }
-
--- the last Return is written, the code from `first` on is the prototype's and is cut off
-prototype-opened : (node params : ℕ) (code : List Instruction) (c : Config)
-    → fwd-number (add-prototype node params code) c
-    ≡ pick (ltb 32767 (length code + 1)) (stopped Long node)
-    (pick (eqb (length (c .state .prototypes)) 256) (stopped Prototypes node)
-    (going (config (c .code) (length (c .state .prototypes)) (with-prototype params (code ++ inst Return 0 0 0 no-mark ∷ []) (c .state)))))
-unfolding fwd-by add-prototype on
-prototype-opened node params code c =
-    either-run (ltb 32767 (length code + 1)) Long node _ (c .state) _
-    ∙ ap (λ r. pick (ltb 32767 (length code + 1)) (stopped Long node) r) (either-run (eqb (length (c .state .prototypes)) 256) Prototypes node _ (c .state) _)

@@ -22,11 +22,6 @@ unfolding bind
 bind-ext (stopped k p) f g h = refl
 bind-ext (going c) f g h = h c
 
-pub bind-pick : (b : Bool) (k : Cause) (p : ℕ) (x : Run) (f : Config → Run) → bind (pick b (stopped k p) x) f ≡ pick b (stopped k p) (bind x f)
-unfolding bind pick
-bind-pick true k p x f = refl
-bind-pick false k p x f = refl
-
 -- a run that is known to go on
 pub now : (c : Config) (K : Config → Run) (x : Run) → K c ≡ x → bind (going c) K ≡ x
 unfolding bind

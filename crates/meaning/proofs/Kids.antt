@@ -1,10 +1,10 @@
 -- Children and parents. A node of the right shape names no child at or above itself; so a node that is a child once has its parent above it,
 -- and its depth is one more than its parent's.
 use mathlib.Core.Path.{_≡_, refl, sym, ap, _∙_}
-use mathlib.Core.Bool.{Bool, true, false, not, _&&_, cond}
+use mathlib.Core.Bool.{Bool, true, false, _&&_, cond}
 use mathlib.Core.Logic.{⊎-elim}
-use mathlib.Core.List.{List, [], _∷_, _++_}
-use Prim.Native.Nat.{ℕ, zero, suc, _+_, _-_, _*_, _<_, _≤_}
+use mathlib.Core.List.{List, [], _∷_}
+use Prim.Native.Nat.{ℕ, zero, suc, _+_, _*_, _<_, _≤_}
 use native.Mathlib.Nat.{add-zero}
 use native.Mathlib.Omega.{arith}
 use lib.ListN.{length, getD, List·getD-eq-default}
@@ -12,8 +12,8 @@ use lib.Dec.{eqb, leb, ltb}
 use borrow.Author.Tests.{ltb-true, leb-true, eqb-false, eq-eqb, ne-eqb}
 use Rattle.meaning.specs.Base.{count}
 use Rattle.meaning.specs.Fields.{Field, field-at}
-use Rattle.meaning.specs.Grammar.{Item, never, bounds, bound, inside, names, lawful, grammar, items-of, items-for, kind-of, due-after, ends, fits, kids, tags-of, shape-at}
-use Rattle.meaning.specs.Tree.{kids-of, all-kids, parent-by, parent-of, depth-by, depth-of}
+use Rattle.meaning.specs.Grammar.{Item, never, bounds, bound, inside, names, lawful, grammar, items-of, items-for, kind-of, ends, fits, kids, tags-of, shape-at}
+use Rattle.meaning.specs.Tree.{kids-of, all-kids, parent-by, parent-of, depth-by}
 use Rattle.meaning.proofs.Lists.{lt-or-le, and-left, and-right, false-true, zeros, count-append}
 
 -- ---- a payload that fits names no child at or above its node

@@ -1,7 +1,6 @@
 -- The counting law: the program's syntax tree weighs as much as the file's nodes together, and so has as many nodes as the file.
 --     program-weight     own 1E and the program's weight is the sum of `own` of every node's tag
 --     program-size       one more than the program's size is the number of nodes
---     program-bound      where no tag weighs more than m, the program weighs at most m for each node
 --     accepted-size      program-size, of an accepted file
 -- What a node weighs is its own and its children's (a line for each tag, by `Sum`); so by induction it weighs what the tree under it does in the
 -- file, and `tree-total` counts that.
@@ -238,16 +237,6 @@ module _ (own : ℕ → ℕ) where
 pub program-size : (fs : List Field) (good : (j : ℕ) → j < length fs → shape-at fs j ≡ true) → 1 ≤ length fs → ((c : ℕ) → c < length fs - 1 → count c (all-kids fs) ≡ 1)
     → 1 + size-stmts (read-program fs) ≡ length fs
 program-size fs good some once = program-weight (λ t. 1) fs good some once ∙ sum-to-ones (length fs)
-
--- no tag weighs more than m
-pub program-bound : (own : ℕ → ℕ) (m : ℕ) → ((t : ℕ) → own t ≤ m) → (fs : List Field) (good : (j : ℕ) → j < length fs → shape-at fs j ≡ true) → 1 ≤ length fs
-    → ((c : ℕ) → c < length fs - 1 → count c (all-kids fs) ≡ 1) → own 0x1E + weight-stmts own (read-program fs) ≤ m * length fs
-unfolding sum-to
-program-bound own m most fs good some once = rw (program-weight own fs good some once) (go (length fs))
-  where
-    go : (n : ℕ) → sum-to (λ j. own (tag-of fs j)) n ≤ m * n
-    go zero = omega arith
-    go (suc n) = omega (arith, go n, most (tag-of fs n))
 
 -- the same of an accepted file
 pub accepted-size : (s : List ℕ) (work n : ℕ) → checked s work ≡ Accepted n → 1 + size-stmts (read-program (fields s)) ≡ n

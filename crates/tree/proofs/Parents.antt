@@ -1,14 +1,14 @@
 -- What the words of the scratch say after all nodes: how often a node is a child, and of which node. Followed for one node c, a word is its
 -- tag when c is entered, and then goes by how many children c each later node has.
-use mathlib.Core.Path.{_≡_, refl, sym, ap, subst, _∙_}
+use mathlib.Core.Path.{_≡_, refl, sym, ap, _∙_}
 use mathlib.Core.Bool.{Bool, true, false, _&&_, cond}
-use mathlib.Core.List.{List, [], _∷_, _++_}
-use Prim.Native.Nat.{ℕ, zero, suc, _+_, _-_, _*_, _/_, _%_, _<_, _≤_}
+use mathlib.Core.List.{List, [], _∷_}
+use Prim.Native.Nat.{ℕ, zero, suc, _+_, _*_, _<_, _≤_}
 use native.Mathlib.Omega.{arith}
 use lib.ListN.{length, getD, set, drop, length-set}
 use lib.Seq.{getD-set-same, getD-set-other}
 use lib.Dec.{eqb, leb, ltb}
-use borrow.Author.Tests.{lt-ltb, le-ltb, lt-leb, le-leb, eqb-true, eqb-false, eq-eqb, ne-eqb}
+use borrow.Author.Tests.{lt-ltb, le-ltb, lt-leb, le-leb, eqb-true, eqb-false, ne-eqb}
 use Rattle.meaning.specs.Base.{count}
 use Rattle.meaning.specs.Fields.{Field, field-at}
 use Rattle.meaning.specs.Tree.{kids-of, all-kids, parent-by, parent-of, tree-at}

@@ -1,13 +1,13 @@
 -- Numbers: which bit patterns are a NaN's; what is read is written as it was; and the test for Addi, whose whole part is taken only from above -1 to
 -- below 256, where the definition takes it always: outside, the comparison fails either way.
 use mathlib.Core.Path.{_≡_, refl, sym, ap, _∙_}
-use mathlib.Core.Bool.{Bool, true, false, not, _&&_, _||_, cond}
+use mathlib.Core.Bool.{Bool, true, false, not, cond}
 use mathlib.Core.List.{List, [], _∷_}
-use Prim.Native.Nat.{ℕ, zero, suc, _+_, _-_, _*_, _/_, _%_, _^_, min, _<_, _≤_}
+use Prim.Native.Nat.{ℕ, zero, suc, _+_, _*_, _/_, _%_, _^_, min, _<_, _≤_}
 use native.Mathlib.Nat.{div-lt-iff-lt-mul, le-div-iff-mul-le}
 use native.Mathlib.Omega.{arith}
 use lib.ListN.{length, getD}
-use lib.Dec.{T, ltb, eqb}
+use lib.Dec.{T, eqb}
 use lib.IntN.{ℤ, pos, negsuc}
 use lib.Pow.{pow-pos}
 use lib.Ieee.{Float, nan, inf, fin, binary64, up, down, nanBits, ofBits, toBits, isNan, lt, eq, ne, ofInt, toUnsigned}
@@ -15,11 +15,9 @@ use lib.Ieee.Compare.{differs-from-itself}
 use lib.Ieee.Bits.{nanBits-above, nanBits-is, toBits-ofBits}
 use borrow.Author.Tests.{lt-ltb, le-ltb, ltb-true, ltb-false, eqb-true, ne-eqb}
 use Rattle.meaning.specs.Fields.{word-at, words}
-use Rattle.meaning.specs.Constant.{Constant, number, constant-of, Proper, small-value, small}
-use Rattle.meaning.specs.declared.Literal.{Literal}
-use Rattle.meaning.specs.declared.Literal.the-variants.{Number, NotANumber, Text, Other}
+use Rattle.meaning.specs.Constant.{number, constant-of, Proper, small-value, small}
+use Rattle.meaning.specs.declared.Literal.the-variants.{Number, NotANumber}
 use Rattle.meaning.proofs.Lists.{false-true, all-to, all-below}
-use Rattle.values.specs.declared.literal.Immediate.{Immediate}
 use Rattle.values.specs.declared.literal.Immediate.the-variants.{Is, Not}
 use Rattle.values.specs.Literals.{number-of, bits-of, small-as, small-of}
 

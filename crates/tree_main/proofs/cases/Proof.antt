@@ -1,7 +1,6 @@
 -- The rest of the text gets shorter at each line.
 use native.Mathlib.Omega.{arith}
 use lib.ListN.{length, length-drop}
-use denote.Ref.{now}
 use Rattle.meaning.proofs.Lists.{tail-part}
 use Rattle.tree_main.proofs.cases.Statement.{statement}
 use Rattle.tree_main.proofs.cases.Tie as tie

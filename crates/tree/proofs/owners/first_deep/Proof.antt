@@ -1,6 +1,4 @@
 -- The invariant is `Deep`, the measure the node in hand.
-use mathlib.Core.Path.{_≡_, ap, sym}
-use mathlib.Core.Bool.{cond}
 use Prim.Native.Nat.{_-_, _<_}
 use native.Mathlib.Omega.{arith}
 use lib.ListN.{length}

@@ -1,6 +1,5 @@
 -- The tests of the code are those of the contract.
 use borrow.Author.Needs.{needs}
-use mathlib.Core.Path.{sym}
 use native.Mathlib.Omega.{arith}
 use borrow.Author.Tests.{eq-eqb, ne-eqb}
 use Rattle.tree.proofs.rows.left_after.Statement.{statement}

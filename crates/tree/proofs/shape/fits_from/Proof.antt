@@ -2,13 +2,11 @@
 use mathlib.Core.Path.{_≡_, sym, ap, _∙_}
 use mathlib.Core.Bool.{Bool, true, false, cond}
 use mathlib.Core.List.{List}
-use Prim.Native.Nat.{ℕ, _%_, _<_, _≤_}
+use Prim.Native.Nat.{ℕ}
 use native.Mathlib.Omega.{arith}
 use lib.ListN.{length, getD}
 use denote.Ref.{now}
-use Rattle.meaning.specs.Grammar.{lawful}
 use Rattle.tree.specs.Rows.{row-at}
-use Rattle.tree.specs.Scratch.{tags-in, note-word}
 use Rattle.tree.proofs.Table.{kind-low}
 use Rattle.tree.proofs.Payloads.{Fitting, fitting-start, fitting-more, fitting-stop, fitting-odd, fitting-end, two-less}
 use Rattle.tree.proofs.shape.fits_from.Statement.{statement}

@@ -1,8 +1,7 @@
 -- Each case is that of `answer`.
 use borrow.Author.Needs.{needs}
-use mathlib.Core.Path.{ap, _∙_}
+use mathlib.Core.Path.{ap}
 use Prim.Native.Nat.{ℕ}
-use Rattle.meaning.specs.declared.Answer.{Answer}
 use Rattle.values.proofs.answer.answer_of.Statement.{statement}
 use Rattle.values.proofs.answer.answer_of.Tie as tie
 

@@ -1,6 +1,5 @@
 -- The comparison tells the patterns of NaNs (`nanBits-above`).
-use native.Mathlib.Omega.{arith}
-use mathlib.Core.Path.{_≡_, subst, sym}
+use mathlib.Core.Path.{_≡_}
 use Prim.Native.Nat.{ℕ, _^_, _<_}
 use Rattle.meaning.specs.Constant.{number, constant-of, Proper}
 use Rattle.meaning.specs.declared.Literal.{Literal}

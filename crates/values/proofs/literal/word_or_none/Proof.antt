@@ -1,9 +1,8 @@
 -- The payload has a word k where two bytes stand at 2 k.
 use borrow.Author.Needs.{needs}
-use mathlib.Core.Path.{_≡_, sym, subst, _∙_}
-use Prim.Native.Nat.{ℕ, _+_, _*_, _<_}
+use mathlib.Core.Path.{_≡_, _∙_}
+use Prim.Native.Nat.{_+_, _*_}
 use native.Mathlib.Omega.{arith}
-use lib.ListN.{getD}
 use denote.Ref.{now}
 use Rattle.meaning.specs.Fields.{word-at}
 use Rattle.values.proofs.Numbers.{word-there, word-none}
