@@ -9,7 +9,6 @@ use Rattle.store.specs.declared.Scope.{Scope}
 use Rattle.store.specs.Table.{tab}
 use Rattle.store.specs.Layout.{inst-at}
 use Rattle.store.specs.Store.{state-of, config-of, run, Image, goes-on, Fine}
-use Rattle.store.specs.Promise.{nothing}
 use Rattle.store.proofs.Tables.{tab-take}
 use Rattle.meaning.specs.State.{Proto}
 use Rattle.meaning.specs.declared.Outcome.{Outcome}

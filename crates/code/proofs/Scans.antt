@@ -1,15 +1,15 @@
 -- A scan turns the instructions of a region one by one: those before place i are done, the others are as they were. Assumes nothing.
 use mathlib.Core.Path.{_≡_, refl, sym, ap, ap₂, subst, _∙_}
-use mathlib.Core.Bool.{Bool, true, false}
+use mathlib.Core.Bool.{true, false}
 use mathlib.Core.List.{List, [], _∷_, _++_, append-assoc, append-nil}
-use Prim.Native.Nat.{ℕ, zero, suc, _+_, _*_, _-_, _/_, _%_, _<_, _≤_}
+use Prim.Native.Nat.{ℕ, zero, suc, _+_, _*_, _-_, _<_, _≤_}
 use native.Mathlib.Omega.{arith}
-use native.Mathlib.Decide.{decLt, ℕ-discrete}
-use lib.ListN.{length, getD, set, take, drop, length-set, length-append}
+use native.Mathlib.Decide.{ℕ-discrete}
+use lib.ListN.{length, getD, set, take, drop, length-set}
 use lib.Seq.{getD-set-same, getD-set-other}
 use Rattle.store.specs.Table.{tab}
 use Rattle.store.specs.Layout.{top, unpacked, inst-at}
-use Rattle.store.proofs.Tables.{tab-suc, tab-ext, tab-length, tab-front, tab-add, tab-take, tab-drop}
+use Rattle.store.proofs.Tables.{tab-ext, tab-length, tab-front, tab-add, tab-take, tab-drop}
 use Rattle.meaning.specs.Opcode.{is-end-jump}
 use Rattle.meaning.specs.Chunk.{each-at, jump-by, patch-first}
 use Rattle.meaning.specs.declared.Instruction.{Instruction}

@@ -1,23 +1,15 @@
 -- What the scans do with one packed word: a continue, a break and a jump to the end are set, all else stays. Assumes nothing.
 use mathlib.Core.Path.{_≡_, refl, sym, ap, _∙_}
 use mathlib.Core.Bool.{Bool, true, false, _&&_}
-use Prim.Native.Nat.{ℕ, _+_, _*_, _-_, _/_, _%_, _<_}
+use Prim.Native.Nat.{ℕ, _-_, _/_, _%_, _<_}
 use native.Mathlib.Omega.{arith}
 use lib.Dec.{eqb}
 use borrow.Author.Tests.{eqb-true}
 use Rattle.store.specs.Layout.{unpacked}
 use Rattle.meaning.specs.Opcode.{wide, back, Jmp, is-continue, is-break, is-end-jump}
 use Rattle.meaning.specs.Chunk.{patch-jump, patch-end, jump-by}
-use Rattle.meaning.specs.declared.Instruction.{Instruction}
+use Rattle.meaning.proofs.Lists.{and-left, and-right}
 use Rattle.code.specs.Words.{Packs, Turns}
-
-and-left : (a b : Bool) → a && b ≡ true → a ≡ true
-and-left true b h = refl
-and-left false b h = h
-
-and-right : (a b : Bool) → a && b ≡ true → b ≡ true
-and-right true b h = h
-and-right false b h = let z : _≡_ {A = Bool} false true = h in absurd (let n : _≡_ {A = ℕ} 0 1 = cc in omega arith)
 
 -- a jump's opcode
 jump-opcode : (x k : ℕ) → eqb (x % 256) 3 && eqb (x / 256 % 256) k ≡ true → x % 256 ≡ 3

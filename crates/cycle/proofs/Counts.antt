@@ -1,6 +1,6 @@
--- A node has fewer than 65,536 words: its length stands in two bytes.
-use Prim.Native.Nat.{ℕ, _+_, _<_}
-use mathlib.Core.Path.{ap}
+-- A node has fewer than 65,536 words: its length stands in two bytes. And how a match counts its keys up.
+use Prim.Native.Nat.{ℕ, _+_, _<_, _≤_}
+use mathlib.Core.Path.{_≡_, ap}
 use mathlib.Core.List.{List}
 use native.Mathlib.Omega.{arith}
 use lib.ListN.{length, getD, take, drop, length-take}
@@ -17,3 +17,7 @@ few-words tree i bytes h =
     let n = words-count (take (word-at s 1) (drop 3 s)) in
     let z = size-drop tree (header tree i) in
     rw (stands tree i h .same) (omega (arith, n, length-take (word-at s 1) (drop 3 s), z, bytes (header tree i + 1), bytes (header tree i + 1 + 1)))
+
+-- past one key
+pub past : (k n : ℕ) → k ≤ n → (n ≡ k → ⊥) → k + 1 ≤ n
+past k n l h = omega arith

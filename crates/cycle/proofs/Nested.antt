@@ -1,7 +1,7 @@
 -- A function inside a member: what is pending in the scope around it stays while the function is lowered, and when the function has left, only what its
 -- end takes was used. So a member stands outside again as if nothing had happened between the function's register and its end.
-use Prim.Native.Nat.{ℕ, zero, suc, _+_, _*_, _≤_, _<_}
-use mathlib.Core.Path.{_≡_, refl, ap₂, _∙_}
+use Prim.Native.Nat.{ℕ, _+_, _*_, _≤_, _<_}
+use mathlib.Core.Path.{_≡_, refl, _∙_}
 use mathlib.Core.List.{List}
 use mathlib.Core.Logic.{⊎-elim}
 use native.Mathlib.Omega.{arith}
@@ -13,14 +13,10 @@ use Rattle.store.specs.Store.{goes-on, inner, Kept}
 use Rattle.store.specs.Promise.{Cost, both, taken, Roomy, Room, Used, Moves}
 use Rattle.store.specs.Opening.{Enters}
 use Rattle.store.proofs.Runs.{due, promised, kept-in}
+use Rattle.store.proofs.Steady.{taken-by}
 use Rattle.code.specs.Cuts.{cut-step, Leaves}
 use Rattle.parts.specs.Parts.{Spare, Owing}
 use Rattle.cycle.specs.Cycle.{Ready}
-
-taken-same : (w w' : List ℕ) (d : ℕ) → ((j : ℕ) → j ≤ d → registers w' j ≡ registers w j) → taken w' d ≡ taken w d
-unfolding taken
-taken-same w w' zero h = h 0 (omega arith)
-taken-same w w' (suc d) h = ap₂ (λ x y. x + y) (h (suc d) (omega arith)) (taken-same w w' d (λ j l. h j (omega arith)))
 
 -- the register, which is taken before the function is entered; the function is entered; its inside
 module _ {w w1 w2 w4 : List ℕ} {p : Scope} {s s1 s2 s4 : Step} {u1 u : Cost} {node name : ℕ} (m1 : Moves w p s w1 p s1 u1) (e : Enters w1 p s1 w2 s2 node name) (m : Moves w2 (inner p) s2 w4 (inner p) s4 u)
@@ -34,7 +30,7 @@ module _ {w w1 w2 w4 : List ℕ} {p : Scope} {s s1 s2 s4 : Step} {u1 u : Cost} {
       ∙ ⊎-elim (λ (h : j < p .depth). e .leaf .moves .kept .outer j h) (λ (h : p .depth ≤ j). let z : j ≡ p .depth = omega arith in rw z (e .own)) (lt-or-le j (p .depth))
 
   taken-around : taken w4 (p .depth) ≡ taken w1 (p .depth)
-  taken-around = taken-same w1 w4 (p .depth) registers-around
+  taken-around = taken-by w1 w4 (p .depth) registers-around
 
   used-around : goes-on (s4 .outcome) → Used w p s w4 p (cut-step s4 (s1 .code)) u1
   used-around g =

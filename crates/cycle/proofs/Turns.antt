@@ -11,9 +11,8 @@ use Rattle.forward.proofs.Chains.{code-end}
 use Rattle.store.specs.declared.Step.{Step}
 use Rattle.store.specs.declared.Scope.{Scope}
 use Rattle.store.specs.Store.{run, Image, Fine, with-result}
-use Rattle.store.proofs.Compose.{leaf-after, settled}
+use Rattle.store.proofs.Compose.{none-moved, leaf-after, settled}
 use Rattle.store.specs.Promise.{Cost, nothing, Moves, After}
-use Rattle.cycle.proofs.Way.{none-moved}
 
 -- the rest is to follow, and then y is reached
 pub record Pending (w o : List ℕ) (p : Scope) (s : Step) (y : Run) (rest : Config → Run) : Type 0 where

@@ -19,8 +19,8 @@ use Rattle.store.specs.declared.Step.{Step}
 use Rattle.store.specs.declared.Scope.{Scope}
 use Rattle.store.specs.Store.{run, config-of, goes-on, result-limit, while-going, deeper, looped, Image, Fine, Kept}
 use Rattle.store.specs.Promise.{Cost, uses, nothing, both, Used, Roomy, Room, Moves, Leaf, After, Does}
-use Rattle.store.proofs.Runs.{due, promised, none-due, kept-refl, run-going, leaf-absorbed}
-use Rattle.store.proofs.Compose.{moves-then, moves-by, leaf-after, leaf-does, known}
+use Rattle.store.proofs.Runs.{due, promised, going-is, none-due, run-going, leaf-absorbed}
+use Rattle.store.proofs.Compose.{none-moved, moves-then, moves-by, leaf-after, leaf-does, known}
 use Rattle.store.proofs.Around.{loop-entered}
 use Rattle.code.specs.Words.{Bytes}
 use Rattle.parts.specs.Parts.{Small}
@@ -35,18 +35,6 @@ pub record Way (t w : List ℕ) (p : Scope) (s : Step) (k a b : ℕ) (w' : List 
   pub nodes : p .nodes ≡ q .nodes
   pub depth : p .depth ≤ q .depth
   pub block : p .block ≤ q .block
-
--- nothing happened yet
-pub none-moved : {w : List ℕ} {p : Scope} {s : Step} → Fine w p s → Moves w p s w p s nothing
-none-moved {w} {p} {s} h =
-    record {
-      fine = h;
-      kept = kept-refl w p;
-      back = λ g. g;
-      used = promised (s .outcome) (λ g. record { words = omega arith; locals = omega arith; names = omega arith; registers = omega arith });
-      longer = omega arith;
-      still = λ z. refl;
-    }
 
 pub from : {t w : List ℕ} {p : Scope} {s : Step} {k a b : ℕ} → Ready t w p s k a b → Way t w p s k a b w p s nothing
 from h = record { ready = h; moves = none-moved (h .fine); nodes = refl; depth = omega arith; block = omega arith }
@@ -114,10 +102,6 @@ pub ends : {w' o' : List ℕ} {q : Scope} {r : Step} {x y : Run} → (a : After 
 ends a e = record { protos = a .protos; image = a .image; runs = e }
 
 -- ---- what is known of a step from what it stands for
-
-going-is : (o : Outcome) → goes-on o → (x : ℕ) × (o ≡ Accepted x)
-going-is (Accepted x) g = (x, refl)
-going-is (Refused k n) g = absurd g
 
 -- of the code's length and the result, where the step goes on
 pub leaf-known : {w w' : List ℕ} {p q : Scope} {s r : Step} {u : Cost} {op : Config → Run} (P : (code result code' result' : ℕ) → Type 0)

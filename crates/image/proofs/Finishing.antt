@@ -7,7 +7,7 @@ use lib.ListN.{length, take, length-append}
 use borrow.Author.Tests.{lt-ltb, le-ltb}
 use Rattle.meaning.specs.State.{Proto}
 use Rattle.meaning.specs.Image.{proto-bytes, constant-bytes, image}
-use Rattle.meaning.specs.Answer.{stopped, fitted, outcome}
+use Rattle.meaning.specs.Answer.{stopped, fitted}
 use Rattle.meaning.specs.declared.Cause.{Cause}
 use Rattle.meaning.specs.declared.Cause.the-variants.{Room}
 use Rattle.meaning.specs.declared.Outcome.the-variants.{Accepted, Refused}

@@ -1,16 +1,15 @@
 -- What a node of a lawful tree holds, for the functions that read it. Reading (of meaning) has it, tag by tag.
 use Prim.Native.Nat.{ℕ, zero, suc, _+_, _*_, _<_, _≤_}
 use mathlib.Core.Path.{_≡_, refl, sym, ap, _∙_}
-use mathlib.Core.Bool.{true}
 use mathlib.Core.List.{List}
 use mathlib.Core.Logic.{_⊎_, inl, inr}
 use mathlib.Core.Option.{Option, none, some}
 use native.Mathlib.Omega.{arith}
 use native.Mathlib.Decide.{ℕ-discrete}
-use lib.ListN.{length, getD}
+use lib.ListN.{length}
 use borrow.Author.Tests.{eq-eqb, ne-eqb}
 use Rattle.meaning.specs.Fields.{Field, fields}
-use Rattle.meaning.specs.Syntax.{literal, Super, no-super, super, small-operand}
+use Rattle.meaning.specs.Syntax.{literal, no-super, super, small-operand}
 use Rattle.meaning.specs.Read.{Readers, token, read-expr, readers, words-at}
 use Rattle.meaning.specs.At.{tag-of, word-of, count-of, expr-at, variable-at, super-at}
 use Rattle.meaning.proofs.Reading.{number-node, text-node, other-node, break-node, continue-node}

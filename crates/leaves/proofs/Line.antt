@@ -1,21 +1,20 @@
 -- A line of calls in one scope: what they use adds up and leaves room for the next call, and what the last of them says of its result.
-use Prim.Native.Nat.{ℕ, _+_, _*_, _≤_, _<_, min}
+use Prim.Native.Nat.{ℕ, _+_, _*_, _≤_, _<_}
 use mathlib.Core.Path.{_≡_, refl, sym, ap, subst, _∙_}
 use mathlib.Core.List.{List, []}
 use native.Mathlib.Omega.{arith}
-use lib.ListN.{length}
 use Rattle.meaning.specs.State.{Proto, M}
 use Rattle.meaning.specs.declared.Outcome.{Outcome}
 use Rattle.meaning.specs.declared.Outcome.the-variants.{Accepted, Refused}
 use Rattle.meaning.specs.declared.Instruction.{Instruction}
 use Rattle.meaning.specs.declared.Cause.{Cause}
-use Rattle.forward.specs.Forward.{Config, config, Run, going, bind, sure, put, emit, Answers}
+use Rattle.forward.specs.Forward.{Config, Run, going, bind, sure, put, emit, Answers}
 use Rattle.store.specs.declared.Step.{Step}
 use Rattle.store.specs.declared.Scope.{Scope}
-use Rattle.store.specs.Store.{run, config-of, goes-on, while-going, refused-by, refused-step, Image, Fine}
-use Rattle.store.specs.Promise.{Cost, nothing, both, Used, Roomy, Room, Moves, Leaf, Told}
-use Rattle.store.proofs.Runs.{due, promised, kept-refl, run-going}
-use Rattle.store.proofs.Compose.{moves-then, moves-by, known}
+use Rattle.store.specs.Store.{run, config-of, while-going, refused-by, refused-step, Image}
+use Rattle.store.specs.Promise.{Cost, both, Used, Roomy, Room, Moves, Leaf, Told}
+use Rattle.store.proofs.Runs.{due, promised, going-is, run-going}
+use Rattle.store.proofs.Compose.{moves-then, moves-by}
 use Rattle.parts.specs.Parts.{Small}
 use Rattle.leaves.specs.Node.{Gives}
 
@@ -53,10 +52,6 @@ pub always : {P : Type 0} (o : Outcome) → P → while-going o P
 always o x = promised o (λ g. x)
 
 -- ---- the result, from what the last call does
-
-going-is : (o : Outcome) → goes-on o → (x : ℕ) × (o ≡ Accepted x)
-going-is (Accepted x) g = (x, refl)
-going-is (Refused k n) g = absurd g
 
 pub result-by : {w w' : List ℕ} {p q : Scope} {s r : Step} {u : Cost} {op : Config → Run} (P : ℕ → ℕ → Type 0) → Leaf w p s w' q r u op → ((c d : Config) → op c ≡ going d → P (c .result) (d .result))
     → while-going (r .outcome) (P (s .result) (r .result))

@@ -6,6 +6,7 @@ use mathlib.Core.List.{List}
 use native.Mathlib.Omega.{arith}
 use lib.Dec.{eqb}
 use borrow.Author.Tests.{eqb-true, eqb-false}
+use Rattle.meaning.proofs.Lists.{and-left, and-right}
 use Rattle.store.specs.declared.Scope.{Scope}
 use Rattle.store.specs.Store.{global-scope, Sound}
 
@@ -13,16 +14,8 @@ pub record Alone (p : Scope) : Type 0 where
   pub depth : p .depth ≡ 0
   pub block : p .block ≡ 1
 
-first-of : (a b : Bool) → a && b ≡ true → a ≡ true
-first-of true b e = refl
-first-of false b e = e
-
-second-of : (a b : Bool) → a && b ≡ true → b ≡ true
-second-of true b e = e
-second-of false b e = absurd (let z : _≡_ {A = ℕ} 0 1 = cc in omega arith)
-
 pub alone : (p : Scope) → global-scope p ≡ true → Alone p
-alone p e = record { depth = eqb-true (p .depth) 0 (first-of _ _ e); block = eqb-true (p .block) 1 (second-of (eqb (p .depth) 0) _ e) }
+alone p e = record { depth = eqb-true (p .depth) 0 (and-left _ _ e); block = eqb-true (p .block) 1 (and-right (eqb (p .depth) 0) _ e) }
 
 pub not-alone : {w : List ℕ} (p : Scope) → Sound w p → global-scope p ≡ false → 2 ≤ p .depth + p .block
 not-alone p sound e = cases (eqb (p .depth) 0) (eqb (p .block) 1) refl refl e

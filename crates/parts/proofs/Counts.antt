@@ -8,15 +8,13 @@ use lib.Dec.{eqb}
 use lib.ListN.{length}
 use Rattle.meaning.specs.Constant.{Constant}
 use Rattle.meaning.specs.Opcode.{wide, Closure}
-use Rattle.meaning.specs.State.{_>>=_, and-then, pure, if-then, only-if, get, next-register, allocate-register, add-constant, is-global, is-global-context, add-global}
+use Rattle.meaning.specs.State.{_>>=_, and-then, pure, if-then, only-if, get, next-register, add-constant, is-global, is-global-context, add-global}
 use Rattle.meaning.specs.Syntax.{Token}
 use Rattle.meaning.specs.Expressions.{next-registers}
 use Rattle.meaning.specs.Functions.{declare-name}
 use Rattle.meaning.specs.declared.Cause.{Cause}
 use Rattle.meaning.specs.declared.Cause.the-variants.{Registers, Constants}
 use Rattle.meaning.specs.declared.Instruction.{Instruction}
-use Rattle.meaning.specs.declared.Outcome.{Outcome}
-use Rattle.meaning.specs.declared.Outcome.the-variants.{Accepted, Refused}
 use Rattle.forward.specs.Forward.{Config, Run, stopped, going, bind, pick, on, at, fwd-by, sure, emit, put, closure, add-none, fwd-number, fwd-unit, fwd-zero, declare}
 use Rattle.forward.proofs.ExpressionsForward.{register-none, register-forward}
 use Rattle.forward.proofs.Opened.{register-opened, allocate-opened, constant-opened, global-opened}
@@ -25,11 +23,7 @@ use Rattle.store.specs.declared.Scope.{Scope}
 use Rattle.store.specs.Layout.{registers}
 use Rattle.store.specs.Store.{open-at, state-of, config-of, goes-on}
 use Rattle.store.specs.Promise.{Cost, Leaf, a-parameter}
-use Rattle.store.proofs.Runs.{run-going}
-
-going-is : (o : Outcome) → goes-on o → (x : ℕ) × (o ≡ Accepted x)
-going-is (Accepted x) g = (x, refl)
-going-is (Refused k n) g = absurd g
+use Rattle.store.proofs.Runs.{going-is, run-going}
 
 abbrev count : Config → ℕ
 count c = c .state .current .registers

@@ -13,7 +13,7 @@ use Rattle.store.specs.Promise.{Cost, both, live, Used, Leaf}
 use Rattle.store.proofs.Runs.{due, promised, kept-in}
 use Rattle.store.proofs.Compose.{used-then, taken-few}
 use Rattle.code.specs.Cuts.{cut-step, Leaves}
-use Rattle.parts.specs.Parts.{Spare, Owing}
+use Rattle.parts.specs.Parts.{Owing}
 use Rattle.parts.proofs.Line.{Left, Within, spare-after}
 
 module _ {first : ℕ} {w w1 : List ℕ} {p : Scope} {s s1 : Step} {u : Cost} (x : Leaves first w p s w1 s1 u) where

@@ -10,8 +10,8 @@ use Rattle.store.specs.declared.Step.{Step}
 use Rattle.store.specs.declared.Scope.{Scope}
 use Rattle.store.specs.Store.{run, with-result, goes-on, while-going, Image, Fine}
 use Rattle.store.specs.Promise.{Cost, nothing, both, Used, Roomy, Room, Moves, Leaf}
-use Rattle.store.proofs.Runs.{due, promised, kept-refl}
-use Rattle.store.proofs.Compose.{moves-then, moves-by, settled}
+use Rattle.store.proofs.Runs.{due, promised}
+use Rattle.store.proofs.Compose.{none-moved, moves-then, moves-by, settled}
 use Rattle.parts.specs.Parts.{Spare, Owing}
 
 -- ---- the line
@@ -20,18 +20,6 @@ pub record Line (w : List ℕ) (p : Scope) (s : Step) (a b e : ℕ) (w' : List �
   pub owing : Owing w p s a b e
   pub moves : Moves w p s w' p r u
   pub image : (o : List ℕ) (ps : List Proto) → Image o s ps → Image o r ps
-
--- nothing happened yet
-none-moved : {w : List ℕ} {p : Scope} {s : Step} → Fine w p s → Moves w p s w p s nothing
-none-moved {w} {p} {s} h =
-    record {
-      fine = h;
-      kept = kept-refl w p;
-      back = λ g. g;
-      used = promised (s .outcome) (λ g. record { words = omega arith; locals = omega arith; names = omega arith; registers = omega arith });
-      longer = omega arith;
-      still = λ z. refl;
-    }
 
 pub owing-from : {w : List ℕ} {p : Scope} {s : Step} {a b e : ℕ} → Fine w p s → Owing w p s a b e → Line w p s a b e w s nothing
 owing-from h o = record { owing = o; moves = none-moved h; image = λ l ps i. i }

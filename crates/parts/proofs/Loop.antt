@@ -1,7 +1,7 @@
 -- The loops over the pairs of a payload (parameters, names of a for-in): each turn takes a register and a local. What is left to do after k turns, done, makes the
 -- whole; the line so far is one of k turns.
-use Prim.Native.Nat.{ℕ, suc, _+_, _-_, _*_, _≤_, _<_}
-use mathlib.Core.Path.{_≡_, refl, sym, ap, _∙_}
+use Prim.Native.Nat.{ℕ, suc, _+_, _*_, _≤_, _<_}
+use mathlib.Core.Path.{_≡_, ap, _∙_}
 use mathlib.Core.List.{List, [], _∷_}
 use native.Mathlib.Omega.{arith}
 use native.Mathlib.Numerals.{add-one}
@@ -18,7 +18,7 @@ use Rattle.store.specs.declared.Step.{Step}
 use Rattle.store.specs.declared.Scope.{Scope}
 use Rattle.store.specs.Layout.{registers}
 use Rattle.store.specs.Store.{run, goes-on, Fine}
-use Rattle.store.specs.Promise.{Cost, uses, a-register, a-local, a-parameter, some-registers, both, nothing, Room, Moves, Leaf}
+use Rattle.store.specs.Promise.{Cost, uses, a-register, a-local, a-parameter, some-registers, both, Room, Leaf}
 use Rattle.store.proofs.Compose.{moves-by, known}
 use Rattle.parts.specs.Parts.{tokens-from}
 use Rattle.parts.proofs.Line.{Line, Within, _▹_, from as line-from}

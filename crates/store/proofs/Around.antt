@@ -1,17 +1,16 @@
 -- A block and a loop around a step, for those who call enter and leave around it: what is inside is promised in the scope inside, the whole in the scope around.
 use mathlib.Core.Path.{_≡_, refl, _∙_}
 use mathlib.Core.List.{List}
-use Prim.Native.Nat.{ℕ, suc, _+_, _-_, _<_, _≤_}
+use Prim.Native.Nat.{ℕ, _+_, _-_, _<_, _≤_}
 use native.Mathlib.Omega.{arith}
 use Rattle.store.specs.declared.Step.{Step}
 use Rattle.store.specs.declared.Scope.{Scope}
-use Rattle.store.specs.Layout.{first}
 use Rattle.store.specs.Store.{open-at, state-of, run, deeper, looped, Sound, Fine, Kept}
 use Rattle.store.specs.Promise.{Cost, nothing, boxed, Used, Moves, Leaf, Popped}
 use Rattle.store.proofs.Runs.{due, promised, stays, ran, kept-refl}
 use Rattle.store.proofs.Compose.{moves-then, moves-by}
-use Rattle.store.proofs.Leaving.{left-moves, left-runs}
-use Rattle.meaning.specs.State.{Proto, and-then, _>>=_, get, set-current, leave-block, enter-loop, leave-loop}
+use Rattle.store.proofs.Leaving.{left-moves}
+use Rattle.meaning.specs.State.{Proto, and-then, _>>=_, get, set-current, enter-loop, leave-loop}
 use Rattle.meaning.specs.declared.Outcome.{Outcome}
 use Rattle.meaning.specs.declared.Outcome.the-variants.{Accepted, Refused}
 use Rattle.forward.specs.Forward.{bind, fwd-unit}
@@ -23,14 +22,6 @@ pub block-around : {w w1 w2 w3 : List ℕ} {p : Scope} {s r : Step} {u : Cost} �
 block-around {p = p} {u = u} h k e m g =
     moves-by (boxed u) (omega arith) (omega arith) (omega arith) (λ z. refl)
     (left-moves (h .sound) (m .kept .edges (p .block) (omega arith) ∙ k .edges (p .block) (omega arith)) (moves-then refl (omega arith) (omega arith) e m) g)
-
--- the run: leave_block
-pub block-left : {w w1 w2 w3 : List ℕ} {p : Scope} {s r : Step} {u : Cost} → Fine w p s → Kept w (deeper p) w1 → Moves w1 (deeper p) s w2 (deeper p) r u → Popped w2 p w3 → (ps : List Proto) → run w3 p r ps ≡ bind (run w2 (deeper p) r ps) (fwd-unit leave-block)
-block-left {w} {w1} {w2} {w3} {p} {s} {r} h k m g =
-    left-runs w2 w3 p r (m .fine) (start (p .depth) (omega arith)) (λ j l. start (suc j) l) g
-  where
-    start : (j : ℕ) → j ≤ p .depth → first w2 j ≤ p .block
-    start j l = let a = h .sound .starts j l in omega (arith, a, m .kept .firsts j l, k .firsts j l)
 
 -- ---- loops: another scope, no code
 

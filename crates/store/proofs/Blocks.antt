@@ -14,7 +14,7 @@ use Rattle.store.specs.Layout.{registers, first, edge, local-at, block, 
 use Rattle.store.specs.Store.{open-at, around, state-of, run, deeper, Linked, Sound, Fine, Kept}
 use Rattle.store.specs.Promise.{nothing, Used, Moves, Leaf}
 use Rattle.store.proofs.Tables.{span-more, span-none}
-use Rattle.store.proofs.Regions.{Same, same-part, blocks-same, linked-same, edges-below, constants-same, globals-same, code-same, around-same, alike-by, open-by}
+use Rattle.store.proofs.Regions.{Same, same-part, blocks-same, linked-same, constants-same, globals-same, code-same, around-by, open-by}
 use Rattle.store.proofs.Steady.{kept-by, taken-same}
 use Rattle.store.proofs.Runs.{due, promised, goes, stays, ran}
 use Rattle.meaning.specs.State.{Proto, done, and-then, _>>=_, get, set-current, with-blocks, enter-block}
@@ -42,7 +42,7 @@ module _ {w w' : List ℕ} {p : Scope} (h : Sound w p) (lim : p .block < p .node
 
   pub opened-blocks : (a e : ℕ) → e ≤ p .block → span (block w' (p .nodes)) a e ≡ span (block w (p .nodes)) a e
   opened-blocks a e le =
-      blocks-same w w' (p .nodes) a e (edge w (p .nodes) (p .block)) (record { same = λ i x y. g .other i (omega arith) (omega arith) }) lower (λ i x. edges-below w (p .nodes) (p .block) (h .sorted) (suc i) (omega arith))
+      blocks-same w w' (p .nodes) (p .block) (h .sorted) lower a e le (record { same = λ i x y. g .other i (omega arith) (omega arith) })
 
   -- the new block is empty
   pub opened-new : block w' (p .nodes) (p .block) ≡ []
@@ -142,7 +142,7 @@ module _ (w w' : List ℕ) (p : Scope) (s : Step) (fine : Fine w p s) (lim : p .
 
   pub opened-around : p .depth ≤ 7 → around w' (p .nodes) (p .depth) ≡ around w (p .nodes) (p .depth)
   opened-around deep =
-      around-same w w' (p .nodes) (p .depth) (alike-by (omega arith) frames (λ j a. opened-blocks (fine .sound) lim g (first w j) (first w (suc j)) (omega (arith, fine .sound .starts (suc j) a))))
+      around-by w w' (p .nodes) (p .depth) (p .block) (omega arith) (fine .sound .starts) frames (λ a e l. opened-blocks (fine .sound) lim g a e (omega arith))
 
   block-state : p .depth ≤ 7 → (ps : List Proto) → enter-block (state-of w p s ps) ≡ done tt (state-of w' (deeper p) s ps)
   unfolding state-of open-at enter-block _>>=_ and-then get set-current

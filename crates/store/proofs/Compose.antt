@@ -35,6 +35,18 @@ used-then g h =
       registers = omega (arith, g .registers, h .registers);
     }
 
+-- nothing happened yet
+pub none-moved : {w : List ℕ} {p : Scope} {s : Step} → Fine w p s → Moves w p s w p s nothing
+none-moved {w} {p} {s} h =
+    record {
+      fine = h;
+      kept = kept-refl w p;
+      back = λ g. g;
+      used = promised (s .outcome) (λ g. record { words = omega arith; locals = omega arith; names = omega arith; registers = omega arith });
+      longer = omega arith;
+      still = λ z. refl;
+    }
+
 -- THE LAW OF COMPOSITION: a step, and a step in the same scope or one within it
 pub moves-then : {w w1 w2 : List ℕ} {p q t : Scope} {s s1 s2 : Step} {u v : Cost} → p .nodes ≡ q .nodes → p .depth ≤ q .depth → p .block ≤ q .block → Moves w p s w1 q s1 u → Moves w1 q s1 w2 t s2 v → Moves w p s w2 t s2 (both u v)
 moves-then {w} {w1} {w2} {p} {q} {t} {s} {s1} {s2} {u} {v} n d b g h =

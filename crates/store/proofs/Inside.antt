@@ -1,17 +1,15 @@
 -- A function is left: its last block's locals are popped, and the same words, read in the scope around it, stand for the enclosing function again. Around
 -- a function's lowering nothing is used up but what its constants and globals took.
-use Prim.Native.Nat.{ℕ, suc, _+_, _*_, _≤_, _<_}
+use Prim.Native.Nat.{ℕ, suc, _+_, _*_, _<_}
 use mathlib.Core.Path.{_≡_, refl, sym, ap, ap₂, _∙_}
 use mathlib.Core.List.{List, _∷_}
 use native.Mathlib.Omega.{arith}
-use native.Mathlib.Decide.{decLt}
 use native.Mathlib.Numerals.{add-one}
 use lib.ListN.{getD}
 use Rattle.store.specs.declared.Step.{Step}
 use Rattle.store.specs.declared.Scope.{Scope}
-use Rattle.store.specs.Layout.{first}
 use Rattle.store.specs.Store.{open-at, around, state-of, run, deeper, inner, Sound, Fine, Kept}
-use Rattle.store.specs.Promise.{Cost, nothing, Moves, Popped}
+use Rattle.store.specs.Promise.{Cost, Moves, Popped}
 use Rattle.store.specs.Opening.{Enters, Leavable}
 use Rattle.store.proofs.Regions.{constants-same, globals-same}
 use Rattle.store.proofs.Runs.{due, promised, goes, kept-in, stays, ran}
@@ -64,19 +62,9 @@ module _ {w w' : List ℕ} {p : Scope} {r : Step} (fine : Fine w (inner p) r) (h
   closed-around : p .depth < 7 → around w (p .nodes) (p .depth + 1) ≡ open-at w' (p .nodes) (p .depth) (p .block) (p .loops) ∷ around w' (p .nodes) (p .depth)
   unfolding around
   closed-around deep =
-      sym (left-around w w' (record { nodes = p .nodes; depth = p .depth + 1; block = p .block; loops = 0 }) r fine own outer (record { same = g .same; other = g .other; linked = g .linked }) (omega arith))
+      sym (left-around {p = record { nodes = p .nodes; depth = p .depth + 1; block = p .block; loops = 0 }} fine (record { same = g .same; other = g .other; linked = g .linked }) (omega arith))
       ∙ ap (λ d. around w' (p .nodes) d) (add-one (p .depth))
       ∙ ap₂ (λ e l. open-at w' (p .nodes) (p .depth) e l ∷ around w' (p .nodes) (p .depth)) (word (3075 + 8 * suc (p .depth)) (omega arith) ∙ here .first-is) (word (3076 + 8 * suc (p .depth)) (omega arith) ∙ here .saved-is)
-    where
-      own : first w (p .depth + 1) ≤ p .block
-      own = omega (arith, here .first-is, ap (λ j. first w j) (add-one (p .depth)))
-
-      outer : (j : ℕ) → j < p .depth + 1 → first w (suc j) ≤ p .block
-      outer j l = cases (decLt j (p .depth))
-        where
-          cases : Dec (j < p .depth) → first w (suc j) ≤ p .block
-          cases (yes a) = omega (arith, here .starts (suc j) a)
-          cases (no a) = let e : j ≡ p .depth = omega arith in rw e (omega (arith, here .first-is))
 
   closed-state : p .depth < 7 → (ps : List Proto) → close-function (state-of w (inner p) r ps) ≡ done tt (state-of w' p r ps)
   unfolding state-of close-function

@@ -12,7 +12,7 @@ use Rattle.store.specs.Layout.{registers, first, edge, block, inst-at, t
 use Rattle.store.specs.Store.{open-at, around, state-of, run, deeper, Sound, Fine, Kept}
 use Rattle.store.specs.Promise.{Cost, boxed, taken, Used, Moves, Popped}
 use Rattle.store.proofs.Tables.{span-more}
-use Rattle.store.proofs.Regions.{Same, blocks-same, constants-same, globals-same, code-same, around-same, alike-by, open-by, edges-below}
+use Rattle.store.proofs.Regions.{Same, blocks-same, constants-same, globals-same, code-same, around-by, open-by}
 use Rattle.store.proofs.Steady.{kept-by, taken-same}
 use Rattle.store.proofs.Runs.{due, promised, goes, stays, ran}
 use Rattle.meaning.specs.State.{Proto, done, and-then, _>>=_, get, set-current, with-blocks, leave-block, rest}
@@ -72,10 +72,10 @@ module _ {w w' : List ℕ} (p : Scope) (h : Sound w (deeper p)) (g : Popped w p 
   -- the blocks of the scope around
   pub popped-blocks : 5724 + 2 * p .nodes + edge w (p .nodes) (p .block) ≤ top (p .nodes) → (a e : ℕ) → e ≤ p .block → span (block w' (p .nodes)) a e ≡ span (block w (p .nodes)) a e
   popped-blocks room a e le =
-      blocks-same w w' (p .nodes) a e (edge w (p .nodes) (p .block))
-      (record { same = λ i x y. word i (omega (arith, h .blocks)) })
+      blocks-same w w' (p .nodes) (p .block) (λ i y. h .sorted i (omega arith))
       (record { same = λ i x y. word i (omega arith) })
-      (λ i x. edges-below w (p .nodes) (p .block) (λ i y. h .sorted i (omega arith)) (suc i) (omega arith))
+      a e le
+      (record { same = λ i x y. word i (omega (arith, h .blocks)) })
 
 -- ---- a block around a step
 
@@ -120,31 +120,25 @@ left-moves {w} {w2} {w3} {p} {s} {r} {u} k e m g =
     }
 
 -- the run: leave_block
-module _ (w w' : List ℕ) (p : Scope) (r : Step) (fine : Fine w (deeper p) r) (own : first w (p .depth) ≤ p .block) (outer : (j : ℕ) → j < p .depth → first w (suc j) ≤ p .block) (g : Popped w p w') where
-  at : (i : ℕ) → i < 12288 + 11 * p .nodes → getD w' i 0 ≡ getD w i 0
-  at i l = popped-same g .same i (omega arith) l
-
+module _ {w w' : List ℕ} {p : Scope} {r : Step} (fine : Fine w (deeper p) r) (g : Popped w p w') where
   room : 5724 + 2 * p .nodes + edge w (p .nodes) (p .block) ≤ top (p .nodes)
   room = omega (arith, popped-rises p (fine .sound) g, fine .room)
-
-  low-frames : Same w w' 3072 4168
-  low-frames = record { same = λ i a b. at i (omega arith) }
 
   left-open : p .depth ≤ 7 → open-at w' (p .nodes) (p .depth) (p .block) (p .loops) ≡ with-blocks (open-at w (p .nodes) (p .depth) (p .block + 1) (p .loops)) (rest (span (block w (p .nodes)) (first w (p .depth)) (p .block + 1)))
   unfolding open-at
   left-open deep =
-      open-by w w' (p .nodes) (p .depth) (p .block) (p .loops) deep low-frames
-      ∙ rw (popped-blocks p (fine .sound) g room (first w (p .depth)) (p .block) (omega arith), add-one (p .block), span-more (block w (p .nodes)) (first w (p .depth)) (p .block) own)
+      open-by w w' (p .nodes) (p .depth) (p .block) (p .loops) deep (frames p (fine .sound) g)
+      ∙ rw (popped-blocks p (fine .sound) g room (first w (p .depth)) (p .block) (omega arith), add-one (p .block), span-more (block w (p .nodes)) (first w (p .depth)) (p .block) (omega (arith, fine .sound .starts (p .depth) (omega arith))))
 
   pub left-around : p .depth ≤ 7 → around w' (p .nodes) (p .depth) ≡ around w (p .nodes) (p .depth)
-  left-around deep = around-same w w' (p .nodes) (p .depth) (alike-by (omega arith) low-frames (λ j a. popped-blocks p (fine .sound) g room (first w j) (first w (suc j)) (outer j a)))
+  left-around deep = around-by w w' (p .nodes) (p .depth) (p .block + 1) (omega arith) (fine .sound .starts) (frames p (fine .sound) g) (λ a e l. popped-blocks p (fine .sound) g room a e (omega arith))
 
   left-state : p .depth ≤ 7 → (ps : List Proto) → leave-block (state-of w (deeper p) r ps) ≡ done tt (state-of w' p r ps)
   unfolding state-of open-at leave-block _>>=_ and-then get set-current
   left-state deep ps =
       sym
       (rw
-      (constants-same w w' (r .constants) (record { same = λ i a b. at i (omega (arith, fine .constants)) }), globals-same w w' (r .globals) (omega (arith, fine .globals, fine .constants)) (record { same = λ i a b. at i (omega arith) }), left-open deep, left-around deep))
+      (constants-same w w' (r .constants) (record { same = λ i a b. word p (fine .sound) g i (omega (arith, fine .constants)) }), globals-same w w' (r .globals) (omega (arith, fine .globals, fine .constants)) (record { same = λ i a b. word p (fine .sound) g i (omega arith) }), left-open deep, left-around deep))
 
   left-by : (o : Outcome) → r .outcome ≡ o → (ps : List Proto) → run w' p r ps ≡ bind (run w (deeper p) r ps) (fwd-unit leave-block)
   left-by (Refused k n) e ps = stays w w' (deeper p) p r r (fwd-unit leave-block) k n e e ps

@@ -16,7 +16,7 @@ use Rattle.store.specs.Store.{open-at, around, state-of, Leads, Linked, 
 use Rattle.store.specs.Promise.{a-local, Roomy, Used, Moves, Leaf, Latest, Unlinked}
 use Rattle.store.proofs.Tables.{span-more, span-ext}
 use Rattle.store.proofs.Halves.{half-same, half-other, half-apart, half-small, word-other, length-half}
-use Rattle.store.proofs.Regions.{Same, local-same, blocks-same, latest-same, leads-same, edges-below, constants-same, globals-same, code-same, around-same, alike-by, open-by}
+use Rattle.store.proofs.Regions.{Same, local-same, blocks-same, latest-same, leads-same, edges-below, constants-same, globals-same, code-same, around-by, open-by}
 use Rattle.store.proofs.Steady.{kept-by, taken-same}
 use Rattle.store.proofs.Runs.{promised, ran}
 use Rattle.store.proofs.Compose.{taken-few}
@@ -157,8 +157,7 @@ block-pushed w w' n b sorted ed lo more l here a h =
     let le : edge w n b ≤ edge w n (suc b) = sorted b (omega arith) in
     let old : span (local-at w' n) (edge w n b) (edge w n (suc b)) ≡ span (local-at w n) (edge w n b) (edge w n (suc b)) = span-ext _ _ (edge w n b) (edge w n (suc b)) (λ i x y. local-same w w' n (edge w n (suc b)) lo i y) in
     let new : block w' n b ≡ l ∷ block w n b = rw (e0, more, span-more (local-at w' n) (edge w n b) (edge w n (suc b)) le, here, old) in
-    let below = edges-below w n (suc b) sorted in
-    let rest : span (block w' n) a b ≡ span (block w n) a b = blocks-same w w' n a b (edge w n (suc b)) (record { same = λ i x y. ed .same i x (omega arith) }) lo (λ i x. below (suc i) (omega arith)) in
+    let rest : span (block w' n) a b ≡ span (block w n) a b = blocks-same w w' n (suc b) sorted lo a b (omega arith) (record { same = λ i x y. ed .same i x (omega arith) }) in
     rw (span-more (block w' n) a b (omega arith), span-more (block w n) a b (omega arith), new, rest)
 
 -- ---- the whole step
@@ -256,13 +255,11 @@ module _ (w w' : List ℕ) (p : Scope) (s : Step) (x : ℕ) (fine : Fine w p s) 
           rw e
           (block-pushed w w' (p .nodes) k (rw e at (fine .sound .sorted)) (rw e at edges) (rw e at lower) (rw e at top-edge) (local-of-word x) (ap local-of-word (rw e at (g .local))) a (rw e at l))
 
-  outer-blocks : (j : ℕ) → j < p .depth → span (block w' (p .nodes)) (first w j) (first w (suc j)) ≡ span (block w (p .nodes)) (first w j) (first w (suc j))
-  outer-blocks j l =
-      let st = fine .sound .starts (suc j) l in
-      blocks-same w w' (p .nodes) (first w j) (first w (suc j)) (edge w (p .nodes) (p .block)) (record { same = λ i a c. edges .same i a (omega (arith, st)) }) lower (λ i a. edges-below w (p .nodes) (p .block) (fine .sound .sorted) (suc i) (omega (arith, st)))
+  outer-blocks : (a e : ℕ) → e < p .block → span (block w' (p .nodes)) a e ≡ span (block w (p .nodes)) a e
+  outer-blocks a e l = blocks-same w w' (p .nodes) (p .block) (fine .sound .sorted) lower a e (omega arith) (record { same = λ i x y. edges .same i x (omega arith) })
 
   local-around : around w' (p .nodes) (p .depth) ≡ around w (p .nodes) (p .depth)
-  local-around = around-same w w' (p .nodes) (p .depth) (alike-by (omega arith) frames outer-blocks)
+  local-around = around-by w w' (p .nodes) (p .depth) (p .block) (omega arith) (fine .sound .starts) frames outer-blocks
 
   local-open : open-at w' (p .nodes) (p .depth) (p .block) (p .loops) ≡ with-blocks (open-at w (p .nodes) (p .depth) (p .block) (p .loops)) (with-local (span (block w (p .nodes)) (first w (p .depth)) (p .block)) (local-of-word x))
   local-open =

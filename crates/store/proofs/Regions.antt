@@ -44,6 +44,19 @@ only-trans g h = record { length = h .length ∙ g .length; other = λ i k. h .o
 pub only-wider : {w w' : List ℕ} {a b : ℕ} (c d : ℕ) → c ≤ a → b ≤ d → Only w w' a b → Only w w' c d
 only-wider c d h k g = record { length = g .length; other = λ i x. g .other i (λ z. let y : d ≤ i = x (omega arith) in omega arith) }
 
+-- ---- edges
+
+edge-le : (w : List ℕ) (n b : ℕ) → ((i : ℕ) → i < b → edge w n i ≤ edge w n (suc i)) → (i k : ℕ) → i + k ≡ b → edge w n i ≤ edge w n b
+edge-le w n b h i zero e = let f : i ≡ b = omega arith in rw f (omega arith)
+edge-le w n b h i (suc k) e =
+    let a = edge-le w n b h (suc i) k (omega arith) in
+    let c = h i (omega arith) in
+    omega (arith, a, c)
+
+-- the edges below a block's
+pub edges-below : (w : List ℕ) (n b : ℕ) → ((i : ℕ) → i < b → edge w n i ≤ edge w n (suc i)) → (i : ℕ) → i ≤ b → edge w n i ≤ edge w n b
+edges-below w n b h i le = edge-le w n b h i (b - i) (omega arith)
+
 -- ---- each region
 
 module _ (w w' : List ℕ) where
@@ -70,17 +83,16 @@ module _ (w w' : List ℕ) where
   pub local-same : (n k : ℕ) → Same w w' (5724 + 2 * n) (5724 + 2 * n + k) → (i : ℕ) → i < k → local-at w' n i ≡ local-at w n i
   local-same n k h i l = ap local-of-word (h .same (5724 + 2 * n + i) (omega arith) (omega arith))
 
-  -- the blocks from a up to e, whose locals are below k
-  pub blocks-same : (n a e k : ℕ) → Same w w' (5708 + n) (5709 + n + e) → Same w w' (5724 + 2 * n) (5724 + 2 * n + k) → ((i : ℕ) → i < e → edge w n (suc i) ≤ k)
-      → span (block w' n) a e ≡ span (block w n) a e
-  blocks-same n a e k h l b = span-ext _ _ a e one
+  -- the blocks from a up to e, among b whose edges are in order
+  pub blocks-same : (n b : ℕ) → ((i : ℕ) → i < b → edge w n i ≤ edge w n (suc i)) → Same w w' (5724 + 2 * n) (5724 + 2 * n + edge w n b) → (a e : ℕ) → e ≤ b → Same w w' (5708 + n) (5709 + n + e) → span (block w' n) a e ≡ span (block w n) a e
+  blocks-same n b sorted l a e le h = span-ext _ _ a e one
     where
       one : (i : ℕ) → a ≤ i → i < e → block w' n i ≡ block w n i
       one i x m =
           let e0 : edge w' n i ≡ edge w n i = h .same (5708 + n + i) (omega arith) (omega arith) in
           let e1 : edge w' n (suc i) ≡ edge w n (suc i) = h .same (5708 + n + suc i) (omega arith) (omega arith) in
-          let u : edge w n (suc i) ≤ k = b i m in
-          rw (e0, e1) (span-ext _ _ (edge w n i) (edge w n (suc i)) (λ x y z. local-same n k l x (omega arith)))
+          let u = edges-below w n b sorted (suc i) (omega arith) in
+          rw (e0, e1) (span-ext _ _ (edge w n i) (edge w n (suc i)) (λ x y z. local-same n (edge w n b) l x (omega arith)))
 
   -- ---- links and heads
 
@@ -129,19 +141,6 @@ module _ (w w' : List ℕ) where
         heads = λ c x. half-kept (24576 + 22 * n + c) hh (omega arith) (omega arith) ∙ h .heads c x ∙ sym (ap (λ k. latest w' n c k) top ∙ latest-same n c (edge w n b) lo);
       }
 
--- ---- edges
-
-edge-le : (w : List ℕ) (n b : ℕ) → ((i : ℕ) → i < b → edge w n i ≤ edge w n (suc i)) → (i k : ℕ) → i + k ≡ b → edge w n i ≤ edge w n b
-edge-le w n b h i zero e = let f : i ≡ b = omega arith in rw f (omega arith)
-edge-le w n b h i (suc k) e =
-    let a = edge-le w n b h (suc i) k (omega arith) in
-    let c = h i (omega arith) in
-    omega (arith, a, c)
-
--- the edges below a block's
-pub edges-below : (w : List ℕ) (n b : ℕ) → ((i : ℕ) → i < b → edge w n i ≤ edge w n (suc i)) → (i : ℕ) → i ≤ b → edge w n i ≤ edge w n b
-edges-below w n b h i le = edge-le w n b h i (b - i) (omega arith)
-
 -- ---- functions
 
 -- what the functions around function d are made of is the same
@@ -185,15 +184,17 @@ around-same w w' n (suc d) a =
     rw (f1, s1, f0, nm, rg, hd, bl, cp, around-same w w' n d (less a))
 
 -- where frames and captures are the same, the functions differ by their blocks alone
-pub alike-by : {w w' : List ℕ} {n d : ℕ} → d ≤ 8 → Same w w' 3072 4168 → ((j : ℕ) → j < d → span (block w' n) (first w j) (first w (suc j)) ≡ span (block w n) (first w j) (first w (suc j))) → Alike w w' n d
-alike-by l g b =
-    record {
+-- the frames stay, and the blocks below b, where the functions begin
+pub around-by : (w w' : List ℕ) (n d b : ℕ) → d ≤ 8 → ((j : ℕ) → j ≤ d → first w j < b) → Same w w' 3072 4168 → ((a e : ℕ) → e < b → span (block w' n) a e ≡ span (block w n) a e) → around w' n d ≡ around w n d
+around-by w w' n d b l starts g bs =
+    around-same w w' n d
+    (record {
       frames = λ j k x y. g .same (3072 + 8 * j + k) (omega arith) (omega arith);
       firsts = λ j x. g .same (3075 + 8 * j) (omega arith) (omega arith);
       saves = λ j x. g .same (3076 + 8 * j) (omega arith) (omega arith);
       captures = λ j x. same-part (3144 + 128 * j) (3144 + 128 * suc j) (omega arith) (omega arith) g;
-      blocks = b;
-    }
+      blocks = λ j x. bs (first w j) (first w (suc j)) (starts (suc j) x);
+    })
 
 pub open-by : (w w' : List ℕ) (n d e l : ℕ) → d ≤ 7 → Same w w' 3072 4168 → open-at w' n d e l ≡ with-blocks (open-at w n d e l) (span (block w' n) (first w d) e)
 unfolding open-at

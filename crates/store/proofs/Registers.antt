@@ -10,7 +10,7 @@ use borrow.Author.Tests.{eq-eqb, ne-eqb}
 use Rattle.store.specs.declared.Step.{Step}
 use Rattle.store.specs.declared.Scope.{Scope}
 use Rattle.store.specs.Table.{tab}
-use Rattle.store.specs.Layout.{registers, first, held, edge, block, inst-at, top}
+use Rattle.store.specs.Layout.{registers, first, held, edge, inst-at, top}
 use Rattle.store.specs.Store.{open-at, around, state-of, with-result, refused-step, Fine}
 use Rattle.store.specs.Promise.{some-registers, a-register, taken, Used, Moves, Leaf}
 use Rattle.store.proofs.Regions.{Only, below, above, constants-same, globals-same, code-same, captures-same, around-same, below-256}

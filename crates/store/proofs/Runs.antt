@@ -28,8 +28,9 @@ promised (Refused k n) h = tt
 pub goes : {o : Outcome} {x : ℕ} → o ≡ Accepted x → goes-on o
 goes e = rw e tt
 
-pub refuses : {o : Outcome} {k : Cause} {n : ℕ} → o ≡ Refused k n → goes-on o → ⊥
-refuses e h = rw e at h
+pub going-is : (o : Outcome) → goes-on o → (x : ℕ) × (o ≡ Accepted x)
+going-is (Accepted x) g = (x, refl)
+going-is (Refused k n) g = absurd g
 
 pub none-due : {o : Outcome} {k : Cause} {n : ℕ} (P : Type 0) → o ≡ Refused k n → while-going o P
 none-due P e = rw e tt

@@ -10,7 +10,7 @@ use Rattle.store.specs.Table.{span}
 use Rattle.store.specs.Layout.{registers, first, saved, edge, block}
 use Rattle.store.specs.Store.{open-at, around, while-going, written-by, result-limit, Linked, Sound, Fine, Kept}
 use Rattle.store.specs.Promise.{taken}
-use Rattle.store.proofs.Regions.{Same, Only, blocks-same, linked-same, edges-below, around-same, alike-by, open-by}
+use Rattle.store.proofs.Regions.{Same, Only, blocks-same, linked-same, around-by, open-by}
 
 -- ---- the invariants
 
@@ -94,10 +94,7 @@ module _ {w w' : List ℕ} {p : Scope} {a b : ℕ} (h : Sound w p) (only : Only 
   -- the blocks of the open functions
   pub clear-blocks : (x e : ℕ) → e ≤ p .block → span (block w' (p .nodes)) x e ≡ span (block w (p .nodes)) x e
   clear-blocks x e le =
-      blocks-same w w' (p .nodes) x e (edge w (p .nodes) (p .block))
-      (record { same = λ i y z. only .other i (clear .0 i (omega arith) (omega (arith, h .blocks))) })
-      clear-locals
-      (λ i y. edges-below w (p .nodes) (p .block) (h .sorted) (suc i) (omega arith))
+      blocks-same w w' (p .nodes) (p .block) (h .sorted) clear-locals x e le (record { same = λ i y z. only .other i (clear .0 i (omega arith) (omega (arith, h .blocks))) })
 
 -- ---- a change that is apart from frames and captures too: the functions are as they were
 
@@ -119,7 +116,7 @@ module _ {w w' : List ℕ} {p : Scope} {a b : ℕ} (h : Sound w p) (shallow : p 
   open-apart = open-by w w' (p .nodes) (p .depth) (p .block) (p .loops) shallow frames ∙ rw (clear-blocks h only clear apart-firsts (first w (p .depth)) (p .block) (omega arith))
 
   pub around-apart : around w' (p .nodes) (p .depth) ≡ around w (p .nodes) (p .depth)
-  around-apart = around-same w w' (p .nodes) (p .depth) (alike-by (omega arith) frames (λ j x. clear-blocks h only clear apart-firsts (first w j) (first w (suc j)) (omega (arith, h .starts (suc j) x))))
+  around-apart = around-by w w' (p .nodes) (p .depth) (p .block) (omega arith) (h .starts) frames (λ x e l. clear-blocks h only clear apart-firsts x e (omega arith))
 
   pub taken-apart : taken w' (p .depth) ≡ taken w (p .depth)
   taken-apart = taken-same w w' (p .depth) (omega arith) frames

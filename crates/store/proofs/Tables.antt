@@ -46,11 +46,6 @@ unfolding tab
 tab-length f zero = refl
 tab-length f (suc n) = omega (arith, length-append (tab f n) (f n ∷ []), tab-length f n)
 
-pub stack-length : {X : Type 0} (f : ℕ → X) (n : ℕ) → length (stack f n) ≡ n
-unfolding stack
-stack-length f zero = refl
-stack-length f (suc n) = ap suc (stack-length f n)
-
 pub tab-ext : {X : Type 0} (f g : ℕ → X) (n : ℕ) → ((i : ℕ) → i < n → f i ≡ g i) → tab f n ≡ tab g n
 unfolding tab
 tab-ext f g zero h = refl

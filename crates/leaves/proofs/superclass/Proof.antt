@@ -1,20 +1,18 @@
 -- The class node's third word: a variable's node, or none.
 use borrow.Author.Needs.{needs}
-use Prim.Native.Nat.{_<_}
 use mathlib.Core.Path.{_≡_, sym, ap, _∙_}
 use native.Mathlib.Omega.{arith}
 use lib.Dec.{lit<}
 use denote.Ref.{now}
 use Rattle.meaning.specs.Fields.{fields, words}
-use Rattle.meaning.specs.Syntax.{super}
-use Rattle.meaning.specs.Read.{at, token}
+use Rattle.meaning.specs.Read.{at}
 use Rattle.meaning.specs.At.{word-of, expr-at}
 use Rattle.meaning.specs.Weight.{weight-super}
 use Rattle.meaning.specs.Lower.{lower-expr}
 use Rattle.meaning.proofs.Reading.{variable-node, class-node}
 use Rattle.forward.proofs.Chains.{super-chain, super-none-chain}
 use Rattle.store.specs.Promise.{nothing, uses}
-use Rattle.store.proofs.Compose.{known, room-by}
+use Rattle.store.proofs.Compose.{known}
 use Rattle.code.specs.Words.{Bytes}
 use Rattle.leaves.proofs.Held.{inside, readable, super-none, super-some}
 use Rattle.leaves.proofs.Line.{one, _▹_, room-after, always, small-emit, gives}

@@ -1,12 +1,8 @@
 -- A local, then a capture, then what stands outside the functions.
 use borrow.Author.Needs.{needs}
-use Prim.Native.Nat.{_<_}
-use mathlib.Core.Path.{_≡_, ap}
-use mathlib.Core.List.{List}
-use mathlib.Core.Option.{none, some}
+use mathlib.Core.Path.{ap}
 use native.Mathlib.Omega.{arith}
 use lib.Dec.{lit<}
-use Rattle.meaning.specs.State.{Proto}
 use Rattle.forward.proofs.Chains.{variable-chain}
 use Rattle.store.specs.Search.{option-of}
 use Rattle.store.specs.Promise.{nothing}

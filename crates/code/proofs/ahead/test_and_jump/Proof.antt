@@ -1,5 +1,5 @@
 -- `code::ahead::test_and_jump` meets its contract: two instructions are written behind the others. Assumes nothing.
-use mathlib.Core.Path.{refl, ap, _∙_}
+use mathlib.Core.Path.{refl}
 use Rattle.meaning.specs.Opcode.{inst, Jmp}
 use native.Mathlib.Omega.{arith}
 use Rattle.forward.specs.Forward.{test-and-jump}

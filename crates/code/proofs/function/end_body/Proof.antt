@@ -1,8 +1,7 @@
 -- `code::function::end_body` meets its contract: the refusals in their order, Return with the last instruction's mark, or nothing. Assumes nothing.
-use mathlib.Core.Path.{_≡_, refl, sym, ap, _∙_}
 use borrow.Author.Tests.{eq-eqb, ne-eqb}
 use denote.Ref.{now}
-use Prim.Native.Nat.{ℕ, _≤_}
+use Prim.Native.Nat.{_≤_}
 use Rattle.store.specs.Layout.{inst-at}
 use native.Mathlib.Omega.{arith}
 use Rattle.store.specs.Promise.{uses}

@@ -1,7 +1,5 @@
 -- `code::function::end_return` meets its contract: refused at register 254, else Return is written behind the others. Assumes nothing.
-use mathlib.Core.Path.{_≡_, refl, sym}
 use borrow.Author.Tests.{eq-eqb, ne-eqb}
-use Prim.Native.Nat.{ℕ}
 use native.Mathlib.Omega.{arith}
 use Rattle.store.specs.Promise.{uses}
 use Rattle.store.proofs.Runs.{leaf-absorbed}

@@ -1,14 +1,12 @@
 -- `code::patches::patch_first` meets its contract: no jump to the end is passed over, and the first one is set. Assumes nothing.
-use mathlib.Core.Path.{_≡_, refl, sym, ap, _∙_}
+use mathlib.Core.Path.{_≡_, refl, ap, _∙_}
 use Prim.Native.Nat.{ℕ, _+_, _*_, _≤_, _-_}
 use native.Mathlib.Omega.{arith}
-use native.Mathlib.Decide.{ℕ-discrete}
 use lib.ListN.{length, length-set}
 use denote.Ref.{now}
 use Rattle.store.specs.Layout.{top}
 use Rattle.code.proofs.Scans.{None, none-more, first-none, first-found}
 use Rattle.code.proofs.Turning.{no-end, end-is, turns-first}
-use borrow.Author.Needs.{needs}
 use Rattle.code.proofs.patches.patch_first.Statement.{statement}
 use Rattle.code.proofs.patches.patch_first.Tie as tie
 

@@ -1,12 +1,10 @@
 -- `code::patches::patch_loop` meets its contract: the scan's law, at `patch-jump`. Assumes nothing.
-use mathlib.Core.Path.{refl, sym, ap, _∙_}
+use mathlib.Core.Path.{ap}
 use Prim.Native.Nat.{_≤_, _-_}
 use native.Mathlib.Omega.{arith}
-use lib.ListN.{length-set}
 use denote.Ref.{now}
 use Rattle.meaning.specs.Chunk.{each-at, patch-jump, patch-loop}
 use Rattle.code.proofs.Scans.{Scanning, scan-starts, scan-step, scan-ends}
-use borrow.Author.Needs.{needs}
 use Rattle.code.proofs.patches.patch_loop.Statement.{statement}
 use Rattle.code.proofs.patches.patch_loop.Tie as tie
 

@@ -20,7 +20,8 @@ use Rattle.meaning.specs.Fields.{fields}
 use Rattle.meaning.specs.Lower.{lower-expr}
 use Rattle.meaning.specs.State.{enter-block}
 use Rattle.meaning.specs.Weight.{size-stmts}
-use Rattle.store.proofs.Around.{block-around, block-left}
+use Rattle.store.proofs.Around.{block-around}
+use Rattle.store.proofs.Leaving.{left-runs}
 use Rattle.store.proofs.Compose.{leaf-after, settled}
 use Rattle.store.specs.Promise.{Leaf, Popped, nothing}
 use Rattle.store.specs.Store.{Kept, Sound, deeper, with-result}
@@ -55,7 +56,7 @@ module _ {t w : List ℕ} {p : Scope} {s : Step} {i : ℕ} (g : GivenStmt t w p 
             let a1 = leaf-after d1 o ps z in
             let a2 = next a1 (d2 .does) in
             let a3 = next-leaf a2 l in
-            let a4 = next-left a3 (block-left (g .ready .fine) k1 m d3) in
+            let a4 = next-left a3 (left-runs (m .fine) d3) in
             ends a4 (rw (x .is) (block-chain _ _ _ (a1 .runs) _ (a2 .runs) _ (a3 .runs) _ (a4 .runs)))
 
 -- what each function that is called asks and promises; a member of the cycle at a smaller measure

@@ -18,7 +18,8 @@ use Rattle.meaning.specs.At.{count-of, stmts-at}
 use Rattle.meaning.specs.Fields.{fields}
 use Rattle.meaning.specs.State.{enter-block}
 use Rattle.meaning.specs.Weight.{size-stmts}
-use Rattle.store.proofs.Around.{block-around, block-left}
+use Rattle.store.proofs.Around.{block-around}
+use Rattle.store.proofs.Leaving.{left-runs}
 use Rattle.store.proofs.Compose.{known, leaf-after}
 use Rattle.store.specs.Promise.{Leaf, Popped, Room, nothing, uses}
 use Rattle.store.specs.Store.{Fine, Kept, Sound, deeper, while-going}
@@ -57,7 +58,7 @@ module _ {t w : List ℕ} {p : Scope} {s : Step} {i f : ℕ} (g : AskBody t w p 
                   let a1 = leaf-after d1 o ps z in
                   let a2 = next a1 (d2 .does) in
                   let a3 = next-leaf a2 d3 in
-                  let a4 = next-left a3 (block-left (g .0 .ready .fine) k1 m d4) in
+                  let a4 = next-left a3 (left-runs (m .fine) d4) in
                   let h = rw (stmts-count (fields t) i f (count-of (fields t) i) (g .0 .ends)) at (rows (stmts-at (fields t) i f (count-of (fields t) i))) in
                   ends a4 (body-chain _ _ _ h _ _ (known _ _ _ ps) _ (a1 .runs) _ (a2 .runs) _ (a3 .runs) _ (a4 .runs));
             }

@@ -27,7 +27,8 @@ use Rattle.meaning.specs.Read.{token}
 use Rattle.meaning.specs.State.{enter-block}
 use Rattle.meaning.specs.Weight.{size-funs, size-super}
 use Rattle.parts.specs.Parts.{Small}
-use Rattle.store.proofs.Around.{block-around, block-left}
+use Rattle.store.proofs.Around.{block-around}
+use Rattle.store.proofs.Leaving.{left-runs}
 use Rattle.store.proofs.Compose.{known, leaf-after}
 use Rattle.store.proofs.Runs.{due}
 use Rattle.store.specs.Promise.{Leaf, Moves, Popped, Room, both, boxed, nothing, some-registers, uses}
@@ -115,7 +116,7 @@ module _ {t w : List ℕ} {p : Scope} {s : Step} {i : ℕ} (g : GivenStmt t w p 
                     let a4 = next-leaf a3 d4 in
                     let a5 = next a4 (d5 .does) in
                     let a6 = next a5 (d6 .does) in
-                    let a7 = next-left a6 (block-left (d3 .moves .fine) k4 ((from inside-block ▹ d5 .does .moves ▹ d6 .does .moves) .moves) d7) in
+                    let a7 = next-left a6 (left-runs (d6 .does .moves .fine) d7) in
                     let a8 = next-leaf a7 (d8 .0) in
                     ends a8 (rw (x .is) (class-chain _ _ _ _ _ _ _ (a1 .runs) _ (known _ _ _ (a1 .protos)) _ (a2 .runs) _ (a3 .runs) _ (a4 .runs) _ (a5 .runs) _ (a6 .runs) _ (a7 .runs) _ (a8 .runs)))
 

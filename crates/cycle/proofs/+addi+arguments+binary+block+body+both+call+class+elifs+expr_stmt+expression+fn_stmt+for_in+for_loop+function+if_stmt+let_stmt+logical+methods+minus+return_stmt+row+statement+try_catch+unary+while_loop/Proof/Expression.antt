@@ -18,7 +18,6 @@ use Rattle.cycle.proofs.Way.{leaf-lowers, on-node, readable, refused-st
 use Rattle.meaning.specs.At.{tag-of}
 use Rattle.meaning.specs.Fields.{fields}
 use Rattle.store.proofs.Runs.{due, goes}
-use borrow.Author.Needs.{needs}
 use denote.Ref.{now}
 use mathlib.Core.Path.{_∙_, ap, refl, sym}
 use native.Mathlib.Omega.{arith}

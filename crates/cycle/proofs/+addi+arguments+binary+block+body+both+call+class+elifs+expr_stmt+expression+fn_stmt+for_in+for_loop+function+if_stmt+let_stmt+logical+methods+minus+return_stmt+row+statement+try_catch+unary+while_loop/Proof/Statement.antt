@@ -17,6 +17,7 @@ use Rattle.cycle.proofs.reading.tag_of.Reads as tag-of-reads
 use Rattle.leaves.proofs.jump.Reads as jump-reads
 use Rattle.cycle.proofs.+addi+arguments+binary+block+body+both+call+class+elifs+expr_stmt+expression+fn_stmt+for_in+for_loop+function+if_stmt+let_stmt+logical+methods+minus+return_stmt+row+statement+try_catch+unary+while_loop.Proof.Order.{block-below, class-below, expr-stmt-below, fn-stmt-below, for-in-below, for-loop-below, if-stmt-below, let-stmt-below, return-stmt-below, statement-at, try-catch-below, while-loop-below}
 use borrow.Author.Needs.{needs}
+use Rattle.cycle.proofs.Counts.{past}
 use Rattle.cycle.proofs.Nodes.{a-define, a-jump}
 use Rattle.cycle.proofs.Sizes.{define-size, fun-size}
 use Rattle.cycle.proofs.Way.{_▹_, arrive, from, leaf-lowers, on-node, readable, refused-stays}
@@ -29,7 +30,6 @@ use Rattle.meaning.specs.Weight.{size-fun}
 use Rattle.store.proofs.Runs.{due, goes}
 use Rattle.store.specs.declared.Scope.{Scope}
 use Rattle.store.specs.declared.Step.{Step}
-use borrow.Author.Needs.{needs}
 use mathlib.Core.List.{List}
 use mathlib.Core.Path.{_∙_, _≡_, ap, sym}
 use native.Mathlib.Omega.{arith}
@@ -46,9 +46,6 @@ ask-fun : {t w : List ℕ} {p : Scope} {s : Step} {i : ℕ} → GivenStmt t w p 
 ask-fun g x = rw (define-size x) at g
 
 -- what no tag takes is 16 or 17
-past : (k n : ℕ) → k ≤ n → (n ≡ k → ⊥) → k + 1 ≤ n
-past k n l h = omega arith
-
 short : (k n : ℕ) → n ≤ k + 1 → (n ≡ k + 1 → ⊥) → n ≤ k
 short k n l h = omega arith
 

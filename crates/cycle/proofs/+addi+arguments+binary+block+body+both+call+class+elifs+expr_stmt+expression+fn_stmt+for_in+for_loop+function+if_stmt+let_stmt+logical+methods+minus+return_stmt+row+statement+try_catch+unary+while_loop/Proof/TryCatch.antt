@@ -24,7 +24,8 @@ use Rattle.meaning.specs.Lower.{lower-expr}
 use Rattle.meaning.specs.Read.{token}
 use Rattle.meaning.specs.State.{enter-block}
 use Rattle.meaning.specs.Weight.{size-stmt}
-use Rattle.store.proofs.Around.{block-around, block-left}
+use Rattle.store.proofs.Around.{block-around}
+use Rattle.store.proofs.Leaving.{left-runs}
 use Rattle.store.proofs.Compose.{known, leaf-after}
 use Rattle.store.specs.Promise.{Leaf, Popped, Room, a-register, both, nothing, uses}
 use Rattle.store.specs.Store.{Fine, Kept, Sound, deeper, while-going}
@@ -90,7 +91,7 @@ module _ {t w : List ℕ} {p : Scope} {s : Step} {i : ℕ} (g : GivenStmt t w p 
                       let a4 = next-leaf a3 d4 in
                       let a5 = next-leaf a4 d5 in
                       let a6 = next a5 (d6 .does) in
-                      let a7 = next-left a6 (block-left (d3 .moves .fine) k4 m d7) in
+                      let a7 = next-left a6 (left-runs (m .fine) d7) in
                       let a8 = next-leaf a7 d8 in
                       ends a8 (rw (x .is) (try-chain _ _ _ _ _ _ (known _ _ _ ps) _ (a1 .runs) _ (a2 .runs) _ (known _ _ _ (a2 .protos)) _ (a3 .runs) _ (a4 .runs) _ (a5 .runs) _ (a6 .runs) _ (a7 .runs) _ (a8 .runs)))
 

@@ -1,5 +1,5 @@
 -- `cycle::operators::binary_opcode` meets its contract: the definition's table, entry by entry; past its end and at 0 stands 0.
-use Prim.Native.Nat.{ℕ, _+_, _<_, _≤_}
+use Prim.Native.Nat.{ℕ, _<_, _≤_}
 use mathlib.Core.Path.{_≡_, refl, sym}
 use mathlib.Core.Logic.{⊎-elim}
 use mathlib.Core.List.{[], _∷_}
@@ -8,12 +8,9 @@ use lib.ListN.{List·getD-eq-default}
 use lib.Dec.{lit<}
 use Rattle.meaning.specs.Opcode.{binary-opcode}
 use Rattle.meaning.proofs.Lists.{lt-or-le}
+use Rattle.cycle.proofs.Counts.{past}
 use Rattle.cycle.proofs.operators.binary_opcode.Statement.{statement}
 use Rattle.cycle.proofs.operators.binary_opcode.Tie as tie
-
--- past one key
-up : (k op : ℕ) → k ≤ op → (op ≡ k → ⊥) → k + 1 ≤ op
-up k op l h = omega arith
 
 none-here : (op : ℕ) → (1 ≤ op → 13 ≤ op) → 0 ≡ binary-opcode op
 none-here op h = ⊎-elim (λ (l : op < 1). let z : op ≡ 0 = omega arith in rw z) (λ (l : 1 ≤ op). sym (List·getD-eq-default (0 ∷ 5 ∷ 11 ∷ 15 ∷ 16 ∷ 12 ∷ 14 ∷ 13 ∷ 6 ∷ 7 ∷ 8 ∷ 9 ∷ 10 ∷ []) 0 (h l))) (lt-or-le op 1)
@@ -22,7 +19,7 @@ returns-13 : tie.Need-returns-13
 returns-13 c =
     let r = c .match .rest in (
       none-here (c .before .args .op)
-          (λ l. up 12 _ (up 11 _ (up 10 _ (up 9 _ (up 8 _ (up 7 _ (up 6 _ (up 5 _ (up 4 _ (up 3 _ (up 2 _ (up 1 _ l (r .0 .0 .0 .0 .0 .0 .0 .0 .0 .0 .0 .1)) (r .0 .0 .0 .0 .0 .0 .0 .0 .0 .0 .1)) (r .0 .0 .0 .0 .0 .0 .0 .0 .0 .1)) (r .0 .0 .0 .0 .0 .0 .0 .0 .1)) (r .0 .0 .0 .0 .0 .0 .0 .1)) (r .0 .0 .0 .0 .0 .0 .1)) (r .0 .0 .0 .0 .0 .1)) (r .0 .0 .0 .0 .1)) (r .0 .0 .0 .1)) (r .0 .0 .1)) (r .0 .1)) (r .1)),
+          (λ l. past 12 _ (past 11 _ (past 10 _ (past 9 _ (past 8 _ (past 7 _ (past 6 _ (past 5 _ (past 4 _ (past 3 _ (past 2 _ (past 1 _ l (r .0 .0 .0 .0 .0 .0 .0 .0 .0 .0 .0 .1)) (r .0 .0 .0 .0 .0 .0 .0 .0 .0 .0 .1)) (r .0 .0 .0 .0 .0 .0 .0 .0 .0 .1)) (r .0 .0 .0 .0 .0 .0 .0 .0 .1)) (r .0 .0 .0 .0 .0 .0 .0 .1)) (r .0 .0 .0 .0 .0 .0 .1)) (r .0 .0 .0 .0 .0 .1)) (r .0 .0 .0 .0 .1)) (r .0 .0 .0 .1)) (r .0 .0 .1)) (r .0 .1)) (r .1)),
       lit< tt,
     )
 

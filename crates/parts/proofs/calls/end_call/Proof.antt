@@ -2,7 +2,6 @@
 use borrow.Author.Needs.{needs}
 use Rattle.parts.proofs.calls.end_call.Statement.{statement}
 use Rattle.parts.proofs.calls.end_call.Tie as tie
-use Prim.Native.Nat.{_+_}
 use native.Mathlib.Omega.{arith}
 use Rattle.forward.proofs.Leaves.{end-call-chain}
 use Rattle.store.specs.Promise.{uses, a-register, both}

@@ -3,10 +3,8 @@
 use borrow.Author.Needs.{needs}
 use Rattle.parts.proofs.calls.open_call.Statement.{statement}
 use Rattle.parts.proofs.calls.open_call.Tie as tie
-use Prim.Native.Nat.{_+_}
 use native.Mathlib.Omega.{arith}
 use Rattle.forward.proofs.Leaves.{open-call-chain}
-use Rattle.store.specs.Promise.{uses, some-registers, both}
 use Rattle.store.proofs.Compose.{known}
 use Rattle.parts.proofs.Line.{from, _▹_, room, here, given, settling, ends}
 use Rattle.parts.proofs.Counts.{emit-keeps, takes, many-taken}

@@ -4,9 +4,6 @@ use Rattle.parts.proofs.classes.add_method.Statement.{statement}
 use Rattle.parts.proofs.classes.add_method.Tie as tie
 use Rattle.forward.proofs.Leaves.{add-method-chain}
 use Rattle.store.proofs.Compose.{known}
-use Rattle.parts.proofs.Loop.{no-turn}
-use Rattle.parts.proofs.Tokens.{left-more}
-use Rattle.parts.proofs.Counts.{takes}
 use Rattle.parts.proofs.Line.{from, _▹_, room, given, ends}
 
 emit-wide-requires : tie.Need-emit-wide-requires

@@ -2,13 +2,10 @@
 use borrow.Author.Needs.{needs}
 use Rattle.parts.proofs.classes.end_class.Statement.{statement}
 use Rattle.parts.proofs.classes.end_class.Tie as tie
-use Prim.Native.Nat.{ℕ, _+_, _-_}
-use native.Mathlib.Omega.{arith}
 use Rattle.meaning.specs.Read.{token}
 use Rattle.forward.proofs.Leaves.{end-class-chain}
 use Rattle.store.specs.Promise.{uses}
 use Rattle.store.proofs.Runs.{due, goes, none-due, leaf-absorbed}
-use Rattle.store.proofs.Compose.{known}
 use Rattle.parts.proofs.Line.{from, _▹_, owes, given, settling, ends}
 
 returns : tie.Need-returns

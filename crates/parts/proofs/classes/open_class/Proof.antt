@@ -2,15 +2,13 @@
 use borrow.Author.Needs.{needs}
 use Rattle.parts.proofs.classes.open_class.Statement.{statement}
 use Rattle.parts.proofs.classes.open_class.Tie as tie
-use Prim.Native.Nat.{ℕ, _+_, _-_}
 use native.Mathlib.Omega.{arith}
 use Rattle.meaning.specs.Read.{token}
 use Rattle.forward.proofs.Leaves.{open-class-chain}
-use Rattle.store.specs.Promise.{both, uses, some-registers}
 use Rattle.store.proofs.Runs.{due}
 use Rattle.store.proofs.Compose.{known}
-use Rattle.parts.proofs.Line.{from, _▹_, room, here, given, ends}
-use Rattle.parts.proofs.Counts.{put-keeps, constant-keeps, takes, declare-takes}
+use Rattle.parts.proofs.Line.{from, _▹_, room, here, ends}
+use Rattle.parts.proofs.Counts.{put-keeps, takes, declare-takes}
 
 next-register-requires : tie.Need-next-register-requires
 next-register-requires c κs = c .before .before .before .declare .ensures .0 0 .moves .fine

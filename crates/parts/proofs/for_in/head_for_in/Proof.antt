@@ -1,4 +1,4 @@
--- Refused at entry; else Length, Lt, Test and Jump, then the names: forward's line `head-for-in-calls`, where Lt and its result are one call.
+-- Refused at entry; else Length, Lt, Test and Jump, then the names: the line `head-calls`, where Lt and its result are one call.
 use Prim.Native.Nat.{ℕ, _+_}
 use mathlib.Core.Path.{refl}
 use mathlib.Core.List.{List}

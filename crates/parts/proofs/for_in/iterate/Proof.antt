@@ -1,6 +1,5 @@
 -- One name: its local and GetIterk, forward's line `iterate-one-calls`. Several: GetIter, then `iterate_each`, forward's line `iterate-many-calls`.
-use Prim.Native.Nat.{ℕ, _+_, _≤_, _<_}
-use mathlib.Core.Path.{_≡_}
+use Prim.Native.Nat.{ℕ, _+_, _≤_}
 use mathlib.Core.List.{List, [], _∷_}
 use native.Mathlib.Omega.{arith}
 use borrow.Author.Needs.{needs}

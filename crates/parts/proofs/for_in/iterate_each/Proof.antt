@@ -1,5 +1,5 @@
 -- Each turn is a name's register and local, and its GetIteri (Loop.antt); where none is left the result is 0. The k-th name has register `count + k`, so k is a byte.
-use Prim.Native.Nat.{_-_, _<_, _≤_}
+use Prim.Native.Nat.{_-_}
 use native.Mathlib.Omega.{arith}
 use borrow.Author.Needs.{needs}
 use Rattle.nodes.proofs.Words.{words-count}

@@ -2,14 +2,12 @@
 use borrow.Author.Needs.{needs}
 use Rattle.parts.proofs.for_in.open_for_in.Statement.{statement}
 use Rattle.parts.proofs.for_in.open_for_in.Tie as tie
-use Prim.Native.Nat.{_+_}
 use native.Mathlib.Omega.{arith}
 use lib.Ieee.{toBits, ofBits}
 use Rattle.forward.proofs.Leaves.{open-for-in-chain}
-use Rattle.store.specs.Promise.{uses, some-registers, both}
 use Rattle.store.proofs.Compose.{known}
 use Rattle.parts.proofs.Line.{from, _▹_, room, here, ends}
-use Rattle.parts.proofs.Counts.{put-keeps, constant-keeps, takes}
+use Rattle.parts.proofs.Counts.{put-keeps, takes}
 
 put-wide-requires : tie.Need-put-wide-requires
 put-wide-requires c κs =

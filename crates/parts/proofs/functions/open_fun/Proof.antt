@@ -2,10 +2,8 @@
 use borrow.Author.Needs.{needs}
 use Rattle.parts.proofs.functions.open_fun.Statement.{statement}
 use Rattle.parts.proofs.functions.open_fun.Tie as tie
-use Prim.Native.Nat.{ℕ, _+_}
 use native.Mathlib.Omega.{arith}
 use Rattle.meaning.specs.Read.{token}
-use Rattle.store.specs.Promise.{both, uses, some-registers}
 use Rattle.store.proofs.Compose.{known}
 use Rattle.parts.proofs.Line.{from, _▹_, room, here, ends}
 use Rattle.parts.proofs.Named.{open-fun-chain}

@@ -2,10 +2,7 @@
 use borrow.Author.Needs.{needs}
 use Rattle.parts.proofs.functions.open_function.Statement.{statement}
 use Rattle.parts.proofs.functions.open_function.Tie as tie
-use Prim.Native.Nat.{ℕ, _+_}
-use native.Mathlib.Omega.{arith}
 use Rattle.forward.proofs.Leaves.{open-function-chain}
-use Rattle.store.specs.Promise.{both, uses, some-registers}
 use Rattle.parts.proofs.Line.{from, _▹_, room, here, ends}
 
 parameters-requires : tie.Need-parameters-requires

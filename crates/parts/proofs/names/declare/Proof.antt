@@ -2,15 +2,11 @@
 use borrow.Author.Needs.{needs}
 use Rattle.parts.proofs.names.declare.Statement.{statement}
 use Rattle.parts.proofs.names.declare.Tie as tie
-use Prim.Native.Nat.{ℕ, _+_, _-_}
 use mathlib.Core.Path.{sym, _∙_}
 use native.Mathlib.Omega.{arith}
 use Rattle.meaning.specs.Read.{token}
 use Rattle.forward.proofs.Leaves.{declare-chain}
 use Rattle.forward.proofs.Chains.{declare-name-chain}
-use Rattle.store.specs.Promise.{both, a-register}
-use Rattle.store.proofs.Compose.{known}
-use Rattle.parts.specs.Parts.{a-name}
 use Rattle.parts.proofs.Line.{from, _▹_, owes, spared, here, ends, stays-put}
 use Rattle.parts.proofs.Context.{alone}
 use Rattle.parts.proofs.Counts.{global-keeps}

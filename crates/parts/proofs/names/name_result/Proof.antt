@@ -2,15 +2,12 @@
 use borrow.Author.Needs.{needs}
 use Rattle.parts.proofs.names.name_result.Statement.{statement}
 use Rattle.parts.proofs.names.name_result.Tie as tie
-use Prim.Native.Nat.{ℕ, _+_, _-_}
 use mathlib.Core.Path.{sym, _∙_}
 use native.Mathlib.Omega.{arith}
 use Rattle.meaning.specs.Read.{token}
 use Rattle.forward.proofs.Leaves.{name-result-chain}
-use Rattle.store.specs.Promise.{both, uses}
 use Rattle.store.proofs.Runs.{due}
 use Rattle.store.proofs.Compose.{known}
-use Rattle.parts.specs.Parts.{a-name-back}
 use Rattle.parts.proofs.Line.{owing-from, _▹_, room, here, given, ends}
 use Rattle.parts.proofs.Context.{alone, not-alone}
 use Rattle.parts.proofs.Counts.{put-keeps}

@@ -2,15 +2,13 @@
 use borrow.Author.Needs.{needs}
 use Rattle.parts.proofs.names.new_global.Statement.{statement}
 use Rattle.parts.proofs.names.new_global.Tie as tie
-use Prim.Native.Nat.{ℕ, _+_}
-use mathlib.Core.Path.{sym, _∙_}
 use native.Mathlib.Omega.{arith}
 use Rattle.meaning.specs.Read.{token}
 use Rattle.meaning.specs.declared.Cause.the-variants.{Redefined}
 use Rattle.forward.proofs.Chains.{new-global-chain}
 use Rattle.store.specs.Promise.{nothing}
-use Rattle.store.proofs.Compose.{known, refused-leaf}
-use Rattle.parts.proofs.Line.{from, _▹_, owes, spared, here, ends}
+use Rattle.store.proofs.Compose.{refused-leaf}
+use Rattle.parts.proofs.Line.{from, _▹_, spared, here, ends}
 
 returns : tie.Need-returns
 returns c =
