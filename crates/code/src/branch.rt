@@ -10,6 +10,7 @@ use crate::patches::patch_first;
 use crate::word::pack_wide;
 use crate::word::write;
 use instruction::OpCode;
+use meaning::NO_MARK;
 use meaning::Outcome;
 use store::Scope;
 use store::Step;
@@ -17,8 +18,6 @@ use store::Step;
 const REGISTER_TRY_CATCH: u32 = OpCode::RegisterTryCatch as u32;
 
 const DEREGISTER_TRY_CATCH: u32 = OpCode::DeregisterTryCatch as u32;
-
-const NO_MARK: u32 = 65535;
 
 // visit_if_stmt: every jump to the end, from `first` on.
 pub fn end_if(work: &mut [u32], step: Step, scope: Scope, first: usize) -> Step

@@ -1,4 +1,4 @@
-// Pending code in the work area, patches, and finished prototypes in the output (document 01, modules 1 and 4: image writing).
+// Pending code in the work area, patches, and finished prototypes in the output (document 01, module 4).
 mod ahead;
 mod branch;
 mod function;

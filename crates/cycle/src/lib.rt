@@ -25,6 +25,7 @@ use crate::reading::words_of;
 use crate::scopes::in_branch;
 use crate::scopes::in_loop;
 use instruction::OpCode;
+use meaning::NO_MARK;
 use meaning::Outcome;
 use store::Scope;
 use store::Step;
@@ -67,8 +68,6 @@ const SET_GLOBAL: u32 = OpCode::SetGlobal as u32;
 const BRANCH_BLOCKS: usize = 0;
 
 const NO_NAME: usize = 65535;
-
-const NO_MARK: u32 = 65535;
 
 // ---- rows of children
 

@@ -13,9 +13,8 @@ ghost use Rattle.parts.specs.Parts.{tokens-from};
 ghost use Rattle.cycle.specs.Cycle.{first-words, branches-of};
 use crate::Branches;
 use crate::Words;
+use meaning::NO_MARK;
 use store::Scope;
-
-const NO_MARK: u32 = 65535;
 
 // Word k of a payload, or 0 where it has fewer.
 fn word_at(payload: &[u8], k: usize) -> usize

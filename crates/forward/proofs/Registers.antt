@@ -32,7 +32,7 @@ registers-follow node node′ s t u r q e f =
     let h = such _ _ q u (register-counts node′ t) f in
     h .0 ∙ g .1 ∙ sym (ap (λ n. n + 1) (g .0))
 
--- the same with declare_name between
+-- the same with declare-name between
 pub declared-follow : (node node′ : ℕ) (x : Token) (s t u v : State) (r q : ℕ) → next-register node s ≡ done r t → declare-name x t ≡ done tt u → next-register node′ u ≡ done q v → q ≡ r + 1
 declared-follow node node′ x s t u v r q e d f =
     let g = such _ _ r t (register-counts node s) e in

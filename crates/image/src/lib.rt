@@ -2,7 +2,7 @@
 mod constants;
 
 pub use constants::finish;
-ghost use Prim.Native.Nat.{ℕ, _+_, _*_, _%_, _<_, _≤_};
+ghost use Prim.Native.Nat.{_+_, _*_, _%_, _<_, _≤_};
 ghost use mathlib.Core.Path.{_≡_};
 ghost use mathlib.Core.List.{[], _∷_, _++_};
 ghost use lib.ListN.{length};
@@ -11,11 +11,10 @@ ghost use Rattle.store.specs.Half.{half};
 ghost use Rattle.store.specs.Table.{tab};
 ghost use Rattle.store.specs.Layout.{top, capture-of, capture-at, held, unpacked, inst-at};
 ghost use Rattle.image.specs.Output.{Spliced, Placed, proto-of};
+use instruction::OpCode;
+use meaning::NO_MARK;
 
-// Opcode Return, by document 01's number, and its "no mark".
-const RETURN: u32 = 20;
-
-const NO_MARK: u32 = 65535;
+const RETURN: u32 = OpCode::Return as u32;
 
 // A word, high byte first.
 fn put_word(out: &mut [u8], at: usize, n: u32)

@@ -2,8 +2,6 @@
 use crate::file;
 use crate::file::Case;
 use meaning::Answer;
-ghost use Prim.Native.Nat.{_<_, _≤_};
-ghost use lib.ListN.{length};
 
 // Noise that another number gives anew.
 fn next(x: u32) -> u32 {

@@ -1,5 +1,8 @@
 // The types that the crates share. The definitions of specs/ give document 01's number and values for each case of an enum.
 
+// The mark of an instruction that has none (01, "no mark").
+pub const NO_MARK: u32 = 65535;
+
 // A constant. A number is its f64; a NaN keeps its 64 bits in a case of its own (docs/DECISIONS.md).
 pub enum Literal {
     Number(f64),

@@ -5,14 +5,13 @@ ghost use Rattle.forward.specs.Forward.{open-catch};
 ghost use Rattle.store.specs.Store.{Fine};
 ghost use Rattle.store.specs.Promise.{uses, a-register, both, Room, Leaf};
 use instruction::OpCode;
+use meaning::NO_MARK;
 use store::Scope;
 use store::Step;
 
 const DEREGISTER_TRY_CATCH: u32 = OpCode::DeregisterTryCatch as u32;
 
 const GET_EXCEPT: u32 = OpCode::GetExcept as u32;
-
-const NO_MARK: u32 = 65535;
 
 // visit_try_catch_stmt before the catch part's body.
 pub fn open_catch(

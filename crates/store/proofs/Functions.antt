@@ -1,4 +1,4 @@
--- A function inside another: its frame and its first block are set up, and around its lowering the words stand for the enclosing function again.
+-- A function inside another: its frame and its first block are set up.
 use Prim.Native.Nat.{ℕ, suc, _+_, _*_, _%_, _≤_, _<_}
 use mathlib.Core.Path.{_≡_, refl, sym, ap, ap₂, _∙_}
 use mathlib.Core.List.{List, _∷_}

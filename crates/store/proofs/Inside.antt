@@ -1,5 +1,5 @@
--- A function is left: its last block's locals are popped, and the same words, read in the scope around it, stand for the enclosing function again. Around
--- a function's lowering nothing is used up but what its constants and globals took.
+-- A function is left: its last block's locals are popped, and the same words, read in the scope around it, stand for the enclosing function again. What
+-- leaving asks of the words (`Leavable`) still holds after the body.
 use Prim.Native.Nat.{ℕ, suc, _+_, _*_, _<_}
 use mathlib.Core.Path.{_≡_, refl, sym, ap, ap₂, _∙_}
 use mathlib.Core.List.{List, _∷_}

@@ -1,4 +1,4 @@
--- What a step stands for, refused or not; what a refused step does; how promises follow one another.
+-- What a step stands for, refused or not; what a refused step does, and what is due while none is.
 use Prim.Native.Nat.{ℕ, _≤_}
 use mathlib.Core.Path.{_≡_, refl, sym, ap, _∙_}
 use mathlib.Core.List.{List}

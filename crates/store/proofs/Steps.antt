@@ -1,4 +1,4 @@
--- Steps: a refused one, one with another result.
+-- A step that is refused.
 use Prim.Native.Nat.{ℕ, _≤_, _<_}
 use mathlib.Core.Path.{_≡_, refl}
 use mathlib.Core.List.{List}

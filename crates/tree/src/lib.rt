@@ -1,4 +1,4 @@
-// Tree files: fields, literals, and refusals 1 to 6 (document 01, "Tree file" and "Outcome").
+// Tree files: fields, shapes, owners, and refusals 1 to 6 (document 01, "Tree file" and "Outcome").
 mod fields;
 mod owners;
 mod rows;

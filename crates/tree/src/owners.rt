@@ -1,4 +1,4 @@
-// Refusals 4 and 5, from what the pass over the shapes left in the scratch.
+// Refusals 4 and 5, from what the walk over the fields left in the scratch.
 use crate::rows::wide32;
 ghost use mathlib.Core.Path.{_≡_};
 ghost use mathlib.Core.List.{_++_};

@@ -3,7 +3,6 @@
 use crate::fields::is_whole;
 use crate::fields::payload;
 use crate::fields::span_of;
-use crate::fields::wide;
 use crate::fields::word;
 use crate::rows::LIMITS;
 use crate::rows::ROWS;

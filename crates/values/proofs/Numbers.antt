@@ -19,7 +19,7 @@ use Rattle.meaning.specs.Constant.{number, constant-of, Proper, small-value, sm
 use Rattle.meaning.specs.declared.Literal.the-variants.{Number, NotANumber}
 use Rattle.meaning.proofs.Lists.{false-true, all-to, all-below}
 use Rattle.values.specs.declared.literal.Immediate.the-variants.{Is, Not}
-use Rattle.values.specs.Literals.{number-of, bits-of, small-as, small-of}
+use Rattle.values.specs.Literals.{number-of, small-as, small-of}
 
 -- ---- NaN patterns
 
@@ -40,15 +40,6 @@ number-constant n h = go (nanBits binary64 n) refl
     go : (b : Bool) → nanBits binary64 n ≡ b → constant-of (cond b (NotANumber n) (Number (ofBits binary64 n))) ≡ number n
     go true e = refl
     go false e = ap number (toBits-ofBits binary64 n h (proper n e))
-
--- written back by its bits
-pub number-bits : (n : ℕ) → n < 2 ^ 64 → bits-of (number-of n) ≡ n
-unfolding number-of
-number-bits n h = go (nanBits binary64 n) refl
-  where
-    go : (b : Bool) → nanBits binary64 n ≡ b → bits-of (cond b (NotANumber n) (Number (ofBits binary64 n))) ≡ n
-    go true e = refl
-    go false e = toBits-ofBits binary64 n h (proper n e)
 
 pub number-proper : (n : ℕ) → Proper (number-of n)
 unfolding number-of

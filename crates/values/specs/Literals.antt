@@ -4,7 +4,7 @@ use mathlib.Core.Bool.{cond}
 use mathlib.Core.List.{List}
 use mathlib.Core.Option.{Option, none, some}
 use lib.Dec.{eqb}
-use lib.Ieee.{binary64, nanBits, ofBits, toBits}
+use lib.Ieee.{binary64, nanBits, ofBits}
 use Rattle.meaning.specs.Read.{at, bits}
 use Rattle.meaning.specs.Constant.{Constant, number, text, other, small-value}
 use Rattle.meaning.specs.declared.Literal.{Literal}
@@ -23,13 +23,6 @@ literal-of tag ws = cond (eqb tag 0x01) (number-of (bits ws)) (cond (eqb tag 0x0
 -- the constant that it stands for, as the readers of meaning/specs/Read have it
 unfoldable pub constant-at : (tag : ℕ) → (words : List ℕ) → Constant
 constant-at tag ws = cond (eqb tag 0x01) (number (bits ws)) (cond (eqb tag 0x02) (text (at ws 0)) (other (at ws 0)))
-
--- what an image holds of it: a number's bits, a name, a word
-abbrev pub bits-of : Literal → ℕ
-bits-of (Number x) = toBits binary64 x
-bits-of (NotANumber bits) = bits
-bits-of (Text name) = name
-bits-of (Other word) = word
 
 -- a number from 0 to 255 or none, as the enum has it
 abbrev pub small-as : Option ℕ → Immediate

@@ -1,4 +1,4 @@
-// What the cases of the shared enums are worth: literals read, tested and written by their bits; outcomes told as numbers.
+// What the cases of the shared enums are worth: literals read and tested; outcomes told as numbers.
 mod answer;
 mod literal;
 
@@ -6,7 +6,6 @@ pub use answer::answer_of;
 pub use answer::cause_number;
 pub use literal::Immediate;
 pub use literal::bits_at;
-pub use literal::bits_of;
 pub use literal::literal_of;
 pub use literal::number_of;
 pub use literal::small;

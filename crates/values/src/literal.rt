@@ -1,12 +1,11 @@
-// Literals (01, "A constant is a binary64 number, a text or another literal"): read from a payload, tested for Addi, written back by their bits.
+// Literals (01, "A constant is a binary64 number, a text or another literal"): read from a payload, which keeps all their bits, and tested for Addi.
 use meaning::Literal;
 ghost use mathlib.Core.Path.{_≡_};
-ghost use Prim.Native.Nat.{_+_, _*_, _<_};
-ghost use lib.Ieee.{binary64, toBits};
+ghost use Prim.Native.Nat.{_<_};
 ghost use Rattle.meaning.specs.Fields.{words};
 ghost use Rattle.meaning.specs.Read.{at, bits};
 ghost use Rattle.meaning.specs.Constant.{number, constant-of, Proper, small-value};
-ghost use Rattle.values.specs.Literals.{number-of, literal-of, constant-at, bits-of, small-as, small-of};
+ghost use Rattle.values.specs.Literals.{number-of, literal-of, constant-at, small-as, small-of};
 
 // What the test for Addi finds.
 pub enum Immediate {
@@ -67,27 +66,6 @@ pub fn literal_of(tag: u8, p: &[u8]) -> Literal
         return Literal::Text(w as u16);
     }
     Literal::Other(w as u16)
-}
-
-fn bits_of_number(x: f64) -> u64
-    ensures { λ r. ⌜ r ≡ toBits binary64 x ⌝ }
-{
-    if x == x {
-        return f64::to_bits(x);
-    }
-    0x7FF8_0000_0000_0000
-}
-
-// What an image holds of a literal: a number's bits, a name, a word.
-pub fn bits_of(l: Literal) -> u64
-    ensures { λ r. ⌜ r ≡ bits-of l ⌝ }
-{
-    match l {
-        Literal::Number(x) => bits_of_number(x),
-        Literal::NotANumber(bits) => bits,
-        Literal::Text(name) => name as u64,
-        Literal::Other(word) => word as u64,
-    }
 }
 
 // The whole part is a byte only from above -1 to below 256; the comparison then says whether there is no other part.

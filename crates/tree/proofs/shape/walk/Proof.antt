@@ -1,4 +1,4 @@
--- The tables that are lent are those of specs/Rows.antt, number by number.
+-- The tables that are lent are those of specs/Rows.antt and the bounds of meaning/specs/Grammar.antt, number by number.
 use borrow.Author.Needs.{needs}
 use mathlib.Core.Path.{refl}
 use Rattle.meaning.specs.Grammar.{bounds}

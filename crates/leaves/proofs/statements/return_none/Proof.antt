@@ -13,8 +13,8 @@ use Rattle.store.proofs.Compose.{room-by}
 use Rattle.code.specs.Words.{Bytes}
 use Rattle.leaves.proofs.Held.{inside, readable}
 use Rattle.leaves.proofs.Line.{one, always, small-put, gives}
-use Rattle.leaves.proofs.return_none.Statement.{statement}
-use Rattle.leaves.proofs.return_none.Tie as tie
+use Rattle.leaves.proofs.statements.return_none.Statement.{statement}
+use Rattle.leaves.proofs.statements.return_none.Tie as tie
 
 word-of-requires : tie.Need-word-of-requires
 word-of-requires c κs =

@@ -6,8 +6,8 @@ use Rattle.forward.proofs.Chains.{named-chain}
 use Rattle.store.specs.Promise.{nothing}
 use Rattle.store.proofs.Compose.{known}
 use Rattle.leaves.proofs.Line.{one, _▹_, room-after, always, small-put, gives}
-use Rattle.leaves.proofs.named.Statement.{statement}
-use Rattle.leaves.proofs.named.Tie as tie
+use Rattle.leaves.proofs.variables.named.Statement.{statement}
+use Rattle.leaves.proofs.variables.named.Tie as tie
 
 put-wide-requires : tie.Need-put-wide-requires
 put-wide-requires c κs =

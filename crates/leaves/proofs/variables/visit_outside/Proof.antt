@@ -7,8 +7,8 @@ use Rattle.forward.proofs.Chains.{outside-chain}
 use Rattle.store.specs.Promise.{nothing}
 use Rattle.store.proofs.Compose.{refused-leaf}
 use Rattle.leaves.proofs.Line.{one, small-refused, gives}
-use Rattle.leaves.proofs.visit_outside.Statement.{statement}
-use Rattle.leaves.proofs.visit_outside.Tie as tie
+use Rattle.leaves.proofs.variables.visit_outside.Statement.{statement}
+use Rattle.leaves.proofs.variables.visit_outside.Tie as tie
 
 returns : tie.Need-returns
 returns c =

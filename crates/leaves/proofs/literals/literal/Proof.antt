@@ -14,8 +14,8 @@ use Rattle.store.specs.Promise.{uses}
 use Rattle.store.proofs.Compose.{known}
 use Rattle.leaves.proofs.Held.{readable, literal-is}
 use Rattle.leaves.proofs.Line.{one, _▹_, room-after, always, small-put, gives}
-use Rattle.leaves.proofs.literal.Statement.{statement}
-use Rattle.leaves.proofs.literal.Tie as tie
+use Rattle.leaves.proofs.literals.literal.Statement.{statement}
+use Rattle.leaves.proofs.literals.literal.Tie as tie
 
 tag-of-requires : tie.Need-tag-of-requires
 tag-of-requires c κs =

@@ -11,8 +11,8 @@ use Rattle.meaning.proofs.Reading.{number-node}
 use Rattle.values.specs.Literals.{number-of as literal-by, small-of as small-by}
 use Rattle.values.proofs.Numbers.{small-bits}
 use Rattle.leaves.proofs.Held.{inside, readable, plain-operand, is-small, not-small}
-use Rattle.leaves.proofs.small_operand.Statement.{statement}
-use Rattle.leaves.proofs.small_operand.Tie as tie
+use Rattle.leaves.proofs.literals.small_operand.Statement.{statement}
+use Rattle.leaves.proofs.literals.small_operand.Tie as tie
 
 returns : tie.Need-returns
 returns c =

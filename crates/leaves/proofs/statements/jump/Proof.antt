@@ -11,8 +11,8 @@ use Rattle.store.specs.Promise.{uses}
 use Rattle.store.proofs.Compose.{room-by}
 use Rattle.leaves.proofs.Held.{inside, readable, jump-size}
 use Rattle.leaves.proofs.Line.{one, gives}
-use Rattle.leaves.proofs.jump.Statement.{statement}
-use Rattle.leaves.proofs.jump.Tie as tie
+use Rattle.leaves.proofs.statements.jump.Statement.{statement}
+use Rattle.leaves.proofs.statements.jump.Tie as tie
 
 word-of-requires : tie.Need-word-of-requires
 word-of-requires c κs =

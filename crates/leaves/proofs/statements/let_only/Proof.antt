@@ -16,8 +16,8 @@ use Rattle.store.proofs.Pools.{global-here}
 use Rattle.code.specs.Words.{Bytes}
 use Rattle.leaves.proofs.Held.{inside, readable}
 use Rattle.leaves.proofs.Line.{one, _▹_, room-after, always, small-put, gives}
-use Rattle.leaves.proofs.let_only.Statement.{statement}
-use Rattle.leaves.proofs.let_only.Tie as tie
+use Rattle.leaves.proofs.statements.let_only.Statement.{statement}
+use Rattle.leaves.proofs.statements.let_only.Tie as tie
 
 payload-of-requires : tie.Need-payload-of-requires
 payload-of-requires c κs =

@@ -11,8 +11,8 @@ use Rattle.store.specs.Promise.{uses}
 use Rattle.store.proofs.Compose.{room-by}
 use Rattle.leaves.proofs.Held.{inside, readable}
 use Rattle.leaves.proofs.Line.{one, gives}
-use Rattle.leaves.proofs.variable.Statement.{statement}
-use Rattle.leaves.proofs.variable.Tie as tie
+use Rattle.leaves.proofs.variables.variable.Statement.{statement}
+use Rattle.leaves.proofs.variables.variable.Tie as tie
 
 payload-of-requires : tie.Need-payload-of-requires
 payload-of-requires c κs =

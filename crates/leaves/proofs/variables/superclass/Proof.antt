@@ -16,8 +16,8 @@ use Rattle.store.proofs.Compose.{known}
 use Rattle.code.specs.Words.{Bytes}
 use Rattle.leaves.proofs.Held.{inside, readable, super-none, super-some}
 use Rattle.leaves.proofs.Line.{one, _▹_, room-after, always, small-emit, gives}
-use Rattle.leaves.proofs.superclass.Statement.{statement}
-use Rattle.leaves.proofs.superclass.Tie as tie
+use Rattle.leaves.proofs.variables.superclass.Statement.{statement}
+use Rattle.leaves.proofs.variables.superclass.Tie as tie
 
 payload-of-requires : tie.Need-payload-of-requires
 payload-of-requires c κs =

@@ -10,8 +10,8 @@ use Rattle.store.specs.Promise.{uses}
 use Rattle.store.proofs.Compose.{loops-told, refused-leaf}
 use Rattle.code.specs.Words.{Bytes}
 use Rattle.leaves.proofs.Line.{one, always, small-put, small-refused, gives}
-use Rattle.leaves.proofs.visit_jump.Statement.{statement}
-use Rattle.leaves.proofs.visit_jump.Tie as tie
+use Rattle.leaves.proofs.statements.visit_jump.Statement.{statement}
+use Rattle.leaves.proofs.statements.visit_jump.Tie as tie
 
 returns : tie.Need-returns
 returns c =

@@ -10,8 +10,8 @@ use Rattle.store.proofs.Compose.{known, settled}
 use Rattle.code.specs.Words.{Bytes}
 use Rattle.leaves.proofs.Held.{not-found, found-small}
 use Rattle.leaves.proofs.Line.{one, asked, _▹_, room-after, always, small-emit, gives, told-by}
-use Rattle.leaves.proofs.visit_variable_expr.Statement.{statement}
-use Rattle.leaves.proofs.visit_variable_expr.Tie as tie
+use Rattle.leaves.proofs.variables.visit_variable_expr.Statement.{statement}
+use Rattle.leaves.proofs.variables.visit_variable_expr.Tie as tie
 
 returns : tie.Need-returns
 returns c =

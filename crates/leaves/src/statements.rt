@@ -1,0 +1,87 @@
+// Statements without a child: let, break, continue, return.
+ghost use mathlib.Core.Path.{_≡_};
+ghost use Prim.Native.Nat.{_<_, _≤_};
+ghost use Rattle.meaning.specs.Fields.{fields};
+ghost use Rattle.meaning.specs.At.{tag-of, count-of};
+ghost use Rattle.meaning.specs.Statements.{visit-jump};
+ghost use Rattle.forward.specs.Forward.{fwd};
+ghost use Rattle.store.specs.Store.{Fine};
+ghost use Rattle.store.specs.Promise.{uses, Room};
+ghost use Rattle.leaves.specs.Node.{OnNode, Gives, GivesStmt};
+use crate::LOAD_NIL;
+use instruction::OpCode;
+use meaning::Cause;
+use store::Scope;
+use store::Step;
+
+const JMP: u32 = OpCode::Jmp as u32;
+
+const RETURN: u32 = OpCode::Return as u32;
+
+const SET_GLOBAL: u32 = OpCode::SetGlobal as u32;
+
+// The marks of an unfinished jump: its a.
+const JMP_CONTINUE: u32 = instruction::JMP_CONTINUE as u32;
+
+const JMP_BREAK: u32 = instruction::JMP_BREAK as u32;
+
+// fn visit_let_stmt without an initializer: a global, or a local.
+pub fn let_only(tree: &[u8], work: &mut [u32], step: Step, scope: Scope, node: usize) -> Step
+    requires { ⌜ OnNode (now tree) (now work) scope step 1 node × (tag-of (fields (now tree)) node ≡ 0x11) × (count-of (fields (now tree)) node ≡ 2) ⌝ }
+    ensures { λ r. ⌜ GivesStmt (now (tree .entry)) (now (work .entry)) scope step (now (work .exit)) r node ⌝ }
+{
+    let payload = nodes::payload_of(tree, work, 12288 + 15 * scope.nodes, node);
+    let name = nodes::child(payload, 0);
+    let mark = nodes::word(payload, 1);
+    if store::is_global_context(scope) {
+        let constant = parts::new_global(work, step, scope, node, name);
+        let register = store::next_register(work, constant, scope, node);
+        let nil = code::emit(work, register, scope, LOAD_NIL, register.result, 0, 0, mark);
+        return code::put_wide(
+            work,
+            nil,
+            scope,
+            SET_GLOBAL,
+            register.result,
+            constant.result,
+            mark,
+            0,
+        );
+    }
+    let register = store::next_register(work, step, scope, node);
+    store::allocate_register(work, register, scope, name, register.result);
+    register
+}
+
+// fn visit_break_stmt, fn visit_continue_stmt, by the jump's kind: 11 Stray.
+fn visit_jump(work: &mut [u32], step: Step, scope: Scope, node: usize, kind: u32, mark: u32) -> Step
+    requires { ⌜ Fine (now work) scope step × Room (now work) scope step 0 2 0 × (kind < 256) ⌝ }
+    ensures { λ r. ⌜ Gives (now (work .entry)) scope step (now (work .exit)) r (uses 2 0 0) (fwd (visit-jump node kind mark)) ⌝ }
+{
+    if scope.loops == 0 {
+        return store::refuse(step, Cause::Stray, node);
+    }
+    code::put(work, step, scope, JMP, kind, 0, 0, mark, 0)
+}
+
+// A break or a continue.
+pub fn jump(tree: &[u8], work: &mut [u32], step: Step, scope: Scope, node: usize) -> Step
+    requires { ⌜ OnNode (now tree) (now work) scope step 1 node × (0x16 ≤ tag-of (fields (now tree)) node) × (tag-of (fields (now tree)) node ≤ 0x17) ⌝ }
+    ensures { λ r. ⌜ GivesStmt (now (tree .entry)) (now (work .entry)) scope step (now (work .exit)) r node ⌝ }
+{
+    let base = 12288 + 15 * scope.nodes;
+    let mark = nodes::word_of(tree, work, base, node, 0);
+    if nodes::tag_of(tree, work, base, node) == 0x16 {
+        return visit_jump(work, step, scope, node, JMP_BREAK, mark);
+    }
+    visit_jump(work, step, scope, node, JMP_CONTINUE, mark)
+}
+
+// fn visit_return_stmt without a value.
+pub fn return_none(tree: &[u8], work: &mut [u32], step: Step, scope: Scope, node: usize) -> Step
+    requires { ⌜ OnNode (now tree) (now work) scope step 1 node × (tag-of (fields (now tree)) node ≡ 0x18) × (count-of (fields (now tree)) node ≡ 1) ⌝ }
+    ensures { λ r. ⌜ GivesStmt (now (tree .entry)) (now (work .entry)) scope step (now (work .exit)) r node ⌝ }
+{
+    let mark = nodes::word_of(tree, work, 12288 + 15 * scope.nodes, node, 0);
+    code::put(work, step, scope, RETURN, 0, 0, 0, mark, 0)
+}
