@@ -7,7 +7,7 @@ use Rattle.store.specs.declared.Step.{Step}
 use Rattle.store.specs.declared.Scope.{Scope}
 use Rattle.store.specs.Layout.{name-of, registers, held, first, saved, edge}
 use Rattle.store.specs.Store.{run, main-scope, inner, first-step, Image, Fine}
-use Rattle.store.specs.Promise.{Cost, Room, nothing, Leaf}
+use Rattle.store.specs.Promise.{Room, nothing, Leaf}
 use Rattle.meaning.specs.Lower.{start}
 use Rattle.meaning.specs.State.{enter-function}
 use Rattle.forward.specs.Forward.{config, going, fwd-unit}
@@ -54,7 +54,3 @@ pub record Leavable (w : List ℕ) (p : Scope) : Type 0 where
   pub starts : (j : ℕ) → j ≤ p .depth → first w j < p .block
   pub first-is : first w (suc (p .depth)) ≡ p .block
   pub saved-is : saved w (suc (p .depth)) ≡ p .loops
-
--- the cost of a function inside: its code, its locals and its registers are given back
-abbrev pub inside : Cost → Cost
-inside u = record { words = 0; locals = 0; names = u .names; words-back = 0; locals-back = 0; names-back = u .names-back }

@@ -139,7 +139,7 @@ pub record Does (w o : List ℕ) (p : Scope) (s : Step) (w' o' : List ℕ) (q : 
   pub same : length o' ≡ length o
   pub does : (ps : List Proto) → Image o s ps → After w' o' q r (bind (run w p s ps) op)
 
--- the locals of the innermost block around p are popped: nothing but heads changed
+-- the locals of the block inside p are popped: nothing but heads changed
 pub record Popped (w : List ℕ) (p : Scope) (w' : List ℕ) : Type 0 where
   pub same : length w' ≡ length w
   pub other : (i : ℕ) → (12288 + 11 * p .nodes ≤ i → 12288 + 15 * p .nodes ≤ i) → getD w' i 0 ≡ getD w i 0
@@ -156,7 +156,7 @@ pub record Unlinked (w : List ℕ) (p : Scope) (w' : List ℕ) : Type 0 where
   pub other : (i : ℕ) → (4688 ≤ i → 5708 + p .nodes ≤ i) → getD w' i 0 ≡ getD w i 0
   pub linked : Linked w' (p .nodes) (p .block)
 
--- the cost of a step inside a block or a function: its locals are given back
+-- the cost of a step inside a block: its locals are given back
 abbrev pub boxed : Cost → Cost
 boxed u = record { words = u .words; locals = 0; names = u .names; words-back = u .words-back; locals-back = 0; names-back = u .names-back }
 
