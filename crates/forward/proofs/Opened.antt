@@ -9,10 +9,9 @@ use native.Mathlib.Omega.{arith}
 use lib.ListN.{length}
 use lib.Dec.{eqb}
 use Rattle.meaning.specs.Constant.{Constant}
-use Rattle.meaning.specs.State.{State, Open, Proto, M, refused, done, and-then, _>>=_, _>>_, pure, refuse, if-then, get, set-current, with-registers, with-blocks, with-local, rest, around, next-register, allocate-register, add-constant, add-global, not-found, full, found, search-outward, searched, get-upvalue}
+use Rattle.meaning.specs.State.{State, Open, M, refused, done, and-then, _>>=_, _>>_, pure, refuse, if-then, get, set-current, with-registers, with-blocks, with-local, next-register, allocate-register, add-constant, add-global, not-found, full, found, search-outward, searched, get-upvalue}
 use Rattle.meaning.specs.declared.Cause.{Cause}
 use Rattle.meaning.specs.declared.Cause.the-variants.{Registers, Captures, Constants}
-use Rattle.meaning.specs.declared.Instruction.{Instruction}
 use Rattle.forward.specs.Forward.{Config, config, Run, stopped, going, bind, pick, on, at, fwd-by, fwd-number, fwd-unit, Answers}
 
 -- ---- registers, locals, blocks, loops
@@ -97,18 +96,3 @@ pub upvalue-found : (node name : ℕ) (c : Config) (i : ℕ) (f : Open) (fs : Li
     → Answers (going c) (get-upvalue node name) (some i) (going (at (with-functions (c .state) f fs) c))
 unfolding get-upvalue searched
 upvalue-found node name c i f fs h = answers-done c (get-upvalue node name) (some i) (with-functions (c .state) f fs) (rw h)
-
--- ---- functions
-
--- the prototype of the current function, with that code
-abbrev pub finished : ℕ → List Instruction → State → Proto
-finished params code s = record { name = s .current .name; params = params; registers = s .current .registers; captures = s .current .captures; code = code }
-
--- the state with it; the function is closed, or is main
-abbrev pub after : ℕ → List Instruction → State → State
-after params code s =
-    record { constants = s .constants; prototypes = s .prototypes ++ finished params code s ∷ []; globals = s .globals; current = around (s .current) (s .outer); outer = rest (s .outer) }
-
-abbrev pub with-prototype : ℕ → List Instruction → State → State
-with-prototype params code s =
-    record { constants = s .constants; prototypes = s .prototypes ++ finished params code s ∷ []; globals = s .globals; current = s .current; outer = s .outer }

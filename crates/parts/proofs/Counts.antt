@@ -5,19 +5,17 @@ use mathlib.Core.Bool.{Bool, true, false}
 use mathlib.Core.List.{List, []}
 use native.Mathlib.Omega.{arith}
 use lib.Dec.{eqb}
-use lib.ListN.{length}
-use Rattle.meaning.specs.Constant.{Constant}
 use Rattle.meaning.specs.Opcode.{wide, Closure}
-use Rattle.meaning.specs.State.{_>>=_, and-then, pure, if-then, only-if, get, next-register, add-constant, is-global, is-global-context, add-global}
+use Rattle.meaning.specs.State.{_>>=_, and-then, pure, if-then, only-if, get, next-register, is-global, is-global-context, add-global}
 use Rattle.meaning.specs.Syntax.{Token}
 use Rattle.meaning.specs.Expressions.{next-registers}
 use Rattle.meaning.specs.Functions.{declare-name}
 use Rattle.meaning.specs.declared.Cause.{Cause}
-use Rattle.meaning.specs.declared.Cause.the-variants.{Registers, Constants}
+use Rattle.meaning.specs.declared.Cause.the-variants.{Registers}
 use Rattle.meaning.specs.declared.Instruction.{Instruction}
 use Rattle.forward.specs.Forward.{Config, Run, stopped, going, bind, pick, on, at, fwd-by, sure, emit, put, closure, add-none, fwd-number, fwd-unit, fwd-zero, declare}
 use Rattle.forward.proofs.ExpressionsForward.{register-none, register-forward}
-use Rattle.forward.proofs.Opened.{register-opened, allocate-opened, constant-opened, global-opened}
+use Rattle.forward.proofs.Opened.{register-opened, allocate-opened, global-opened}
 use Rattle.store.specs.declared.Step.{Step}
 use Rattle.store.specs.declared.Scope.{Scope}
 use Rattle.store.specs.Layout.{registers}
@@ -75,9 +73,6 @@ put-keeps v i = tells (λ x n x' n'. Keeps v n x' n') (λ c d e. keeps-by {c = p
 pub closure-keeps : {w w' : List ℕ} {p q : Scope} {s r : Step} {u : Cost} (register mark : ℕ) → Leaf w p s w' q r u (sure (closure register mark)) → goes-on (r .outcome) → Keeps register (registers w (p .depth)) (r .result) (registers w' (q .depth))
 unfolding closure
 closure-keeps register mark = tells (λ x n x' n'. Keeps register n x' n') (λ c d e. keeps-by {c = put register (wide Closure register (c .result) mark) c} (un-going e))
-
-pub constant-keeps : {w w' : List ℕ} {p q : Scope} {s r : Step} {u : Cost} (node : ℕ) (v : Constant) → Leaf w p s w' q r u (fwd-number (add-constant node v)) → goes-on (r .outcome) → registers w' (q .depth) ≡ registers w (p .depth)
-constant-keeps node v = tells (λ x n x' n'. n' ≡ n) (λ c d e. sym (ap (λ (y : Config). count y) (un-pick (eqb (length (c .state .constants)) 1024) Constants node _ d (sym (constant-opened node v c) ∙ e))))
 
 pub global-keeps : {w w' : List ℕ} {p q : Scope} {s r : Step} {u : Cost} (name : ℕ) → Leaf w p s w' q r u (fwd-unit (add-global name)) → goes-on (r .outcome) → Keeps (s .result) (registers w (p .depth)) (r .result) (registers w' (q .depth))
 global-keeps name = tells Keeps (λ c d e. keeps-by (un-going (sym (global-opened name c) ∙ e)))
