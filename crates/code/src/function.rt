@@ -108,7 +108,7 @@ pub fn end_body(
         if code == first {
             return store::refuse(step, Cause::Empty, node);
         }
-        let top = 12288 + 11 * scope.nodes;
+        let top = 12288 + 10 * scope.nodes;
         let mark = work[top - (2 * code - 1)];
         write(
             work,

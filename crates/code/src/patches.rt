@@ -43,7 +43,7 @@ pub(crate) fn patch_loop(work: &mut [u32], nodes: usize, first: usize, end: usiz
     requires { ⌜ (top nodes ≤ length (now work)) × (2 * end ≤ top nodes) × (first ≤ end) × (nodes ≤ 32768) ⌝ }
     ensures { λ _. ⌜ Recoded (now (work .entry)) nodes end end (mended patch-loop first) (now (work .exit)) ⌝ }
 {
-    let top = 12288 + 11 * nodes;
+    let top = 12288 + 10 * nodes;
     let size = end - first;
     let mut i = first;
     while i < end {
@@ -69,7 +69,7 @@ pub(crate) fn patch_ends(work: &mut [u32], nodes: usize, first: usize, end: usiz
     requires { ⌜ (top nodes ≤ length (now work)) × (2 * end ≤ top nodes) × (first ≤ end) × (nodes ≤ 32768) ⌝ }
     ensures { λ _. ⌜ Recoded (now (work .entry)) nodes end end (mended patch-ends first) (now (work .exit)) ⌝ }
 {
-    let top = 12288 + 11 * nodes;
+    let top = 12288 + 10 * nodes;
     let size = end - first;
     let mut i = first;
     while i < end {
@@ -84,7 +84,7 @@ pub(crate) fn patch_first(work: &mut [u32], nodes: usize, first: usize, end: usi
     requires { ⌜ (top nodes ≤ length (now work)) × (2 * end ≤ top nodes) × (first ≤ end) × (nodes ≤ 32768) ⌝ }
     ensures { λ _. ⌜ Recoded (now (work .entry)) nodes end end (mended (patch-first offset) first) (now (work .exit)) ⌝ }
 {
-    let top = 12288 + 11 * nodes;
+    let top = 12288 + 10 * nodes;
     let mut i = first;
     while i < end {
         let at = top - (2 * i + 2);

@@ -36,7 +36,7 @@ pub(crate) fn write(work: &mut [u32], nodes: usize, at: usize, word: u32, mark: 
     requires { ⌜ (top nodes ≤ length (now work)) × (2 * at + 2 ≤ top nodes) × (nodes ≤ 32768) ⌝ }
     ensures { λ _. ⌜ Wrote (now (work .entry)) nodes at word mark (now (work .exit)) ⌝ }
 {
-    let top = 12288 + 11 * nodes;
+    let top = 12288 + 10 * nodes;
     work[top - (2 * at + 2)] = word;
     work[top - (2 * at + 1)] = mark;
 }

@@ -113,7 +113,7 @@ fn put_code(work: &[u32], out: &mut [u8], at: usize, nodes: usize, first: usize,
     requires { ⌜ (top nodes ≤ length (now work)) × (2 * (first + count) ≤ top nodes) × (nodes ≤ 32768) × (at + 9 * count ≤ length (now out)) ⌝ }
     ensures { λ _. ⌜ Spliced (now (out .entry)) at (inst-bytes (tab (λ i. inst-at (now (work .entry)) nodes (first + i)) count)) (now (out .exit)) ⌝ }
 {
-    let top = 12288 + 11 * nodes;
+    let top = 12288 + 10 * nodes;
     let mut i: usize = 0;
     while i < count {
         let k = 2 * (first + i);

@@ -42,7 +42,7 @@ module _ {w w' : List ℕ} {p : Scope} {r : Step} (fine : Fine w (inner p) r) (h
   sound : Sound w (deeper p)
   sound = inner-deeper (fine .sound) here
 
-  word : (i : ℕ) → i < 12288 + 11 * p .nodes → getD w' i 0 ≡ getD w i 0
+  word : (i : ℕ) → i < 12288 + 10 * p .nodes → getD w' i 0 ≡ getD w i 0
   word i l = popped-same g .same i (omega arith) l
 
   pub closed-fine : Fine w' p r

@@ -22,15 +22,15 @@ use Rattle.forward.specs.Forward.{bind, fwd-unit}
 
 -- ---- the words after popping
 
-pub popped-same : {w w' : List ℕ} {p : Scope} → Popped w p w' → Same w w' 0 (12288 + 11 * p .nodes)
+pub popped-same : {w w' : List ℕ} {p : Scope} → Popped w p w' → Same w w' 0 (12288 + 10 * p .nodes)
 popped-same g = record { same = λ i a b. g .other i (λ z. absurd (omega arith)) }
 
 -- everything but the heads
 module _ {w w' : List ℕ} (p : Scope) (h : Sound w (deeper p)) (g : Popped w p w') where
-  low : Same w w' 0 (12288 + 11 * p .nodes)
+  low : Same w w' 0 (12288 + 10 * p .nodes)
   low = popped-same g
 
-  word : (i : ℕ) → i < 12288 + 11 * p .nodes → getD w' i 0 ≡ getD w i 0
+  word : (i : ℕ) → i < 12288 + 10 * p .nodes → getD w' i 0 ≡ getD w i 0
   word i l = low .same i (omega arith) l
 
   pub popped-edge : (i : ℕ) → i ≤ p .block + 1 → edge w' (p .nodes) i ≡ edge w (p .nodes) i

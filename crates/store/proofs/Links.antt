@@ -23,13 +23,13 @@ use Rattle.meaning.specs.State.{Local, local-in-block, local-of}
 -- ---- the latest of a bucket
 
 module _ (w : List ℕ) (n b : ℕ) where
-  pub latest-hit : (k : ℕ) → local-at w n k .name % (8 * n) ≡ b → latest w n b (suc k) ≡ suc k
+  pub latest-hit : (k : ℕ) → local-at w n k .name % (10 * n) ≡ b → latest w n b (suc k) ≡ suc k
   unfolding latest
-  latest-hit k e = rw (eq-eqb (local-at w n k .name % (8 * n)) b e)
+  latest-hit k e = rw (eq-eqb (local-at w n k .name % (10 * n)) b e)
 
-  pub latest-miss : (k : ℕ) → ¬ (local-at w n k .name % (8 * n) ≡ b) → latest w n b (suc k) ≡ latest w n b k
+  pub latest-miss : (k : ℕ) → ¬ (local-at w n k .name % (10 * n) ≡ b) → latest w n b (suc k) ≡ latest w n b k
   unfolding latest
-  latest-miss k e = rw (ne-eqb (local-at w n k .name % (8 * n)) b e)
+  latest-miss k e = rw (ne-eqb (local-at w n k .name % (10 * n)) b e)
 
   pub latest-none : latest w n b 0 ≡ 0
   unfolding latest
@@ -37,32 +37,32 @@ module _ (w : List ℕ) (n b : ℕ) where
 
   pub latest-le : (k : ℕ) → latest w n b k ≤ k
   latest-le zero = omega (arith, latest-none)
-  latest-le (suc k) = cases (latest-le k) (ℕ-discrete (local-at w n k .name % (8 * n)) b)
+  latest-le (suc k) = cases (latest-le k) (ℕ-discrete (local-at w n k .name % (10 * n)) b)
     where
-      cases : latest w n b k ≤ k → Dec (local-at w n k .name % (8 * n) ≡ b) → latest w n b (suc k) ≤ suc k
+      cases : latest w n b k ≤ k → Dec (local-at w n k .name % (10 * n) ≡ b) → latest w n b (suc k) ≤ suc k
       cases ih (yes e) = omega (arith, latest-hit k e)
       cases ih (no e) = omega (arith, latest-miss k e)
 
   -- between the latest and the end there is none
   pub latest-between : (k e : ℕ) → latest w n b k ≤ e → e ≤ k → latest w n b e ≡ latest w n b k
   latest-between zero e h l = let z : e ≡ 0 = omega arith in rw z
-  latest-between (suc k) e h l = cases (λ x y. latest-between k e x y) (ℕ-discrete e (suc k)) (ℕ-discrete (local-at w n k .name % (8 * n)) b)
+  latest-between (suc k) e h l = cases (λ x y. latest-between k e x y) (ℕ-discrete e (suc k)) (ℕ-discrete (local-at w n k .name % (10 * n)) b)
     where
-      cases : (latest w n b k ≤ e → e ≤ k → latest w n b e ≡ latest w n b k) → Dec (e ≡ suc k) → Dec (local-at w n k .name % (8 * n) ≡ b) → latest w n b e ≡ latest w n b (suc k)
+      cases : (latest w n b k ≤ e → e ≤ k → latest w n b e ≡ latest w n b k) → Dec (e ≡ suc k) → Dec (local-at w n k .name % (10 * n) ≡ b) → latest w n b e ≡ latest w n b (suc k)
       cases ih (yes x) y = rw x
       cases ih (no x) (yes y) = absurd (omega (arith, latest-hit k y))
       cases ih (no x) (no y) = let m = latest-miss k y in ih (omega arith) (omega arith) ∙ sym m
 
-  pub latest-gap : (k m : ℕ) → latest w n b k ≤ m → m < k → ¬ (local-at w n m .name % (8 * n) ≡ b)
+  pub latest-gap : (k m : ℕ) → latest w n b k ≤ m → m < k → ¬ (local-at w n m .name % (10 * n) ≡ b)
   latest-gap k m l h e = omega (arith, latest-hit m e, latest-between k (suc m) (omega arith) h)
 
   -- the latest is in the bucket
-  pub latest-in : (k i : ℕ) → latest w n b k ≡ suc i → local-at w n i .name % (8 * n) ≡ b
+  pub latest-in : (k i : ℕ) → latest w n b k ≡ suc i → local-at w n i .name % (10 * n) ≡ b
   latest-in zero i e = absurd (omega (arith, latest-none))
-  latest-in (suc k) i e = cases (λ x. latest-in k i x) (ℕ-discrete (local-at w n k .name % (8 * n)) b)
+  latest-in (suc k) i e = cases (λ x. latest-in k i x) (ℕ-discrete (local-at w n k .name % (10 * n)) b)
     where
-      cases : (latest w n b k ≡ suc i → local-at w n i .name % (8 * n) ≡ b) → Dec (local-at w n k .name % (8 * n) ≡ b) → local-at w n i .name % (8 * n) ≡ b
-      cases ih (yes y) = let z : k ≡ i = omega (arith, latest-hit k y) in ap (λ j. local-at w n j .name % (8 * n)) (sym z) ∙ y
+      cases : (latest w n b k ≡ suc i → local-at w n i .name % (10 * n) ≡ b) → Dec (local-at w n k .name % (10 * n) ≡ b) → local-at w n i .name % (10 * n) ≡ b
+      cases ih (yes y) = let z : k ≡ i = omega (arith, latest-hit k y) in ap (λ j. local-at w n j .name % (10 * n)) (sym z) ∙ y
       cases ih (no y) = ih (sym (latest-miss k y) ∙ e)
 
 -- ---- the search by name
@@ -132,7 +132,7 @@ in-blocks w n name a (suc m) ha he = cases (in-blocks w n name a m ha (λ i k. h
 -- ---- the walk
 
 -- the walk starts at the head, the latest of all
-module _ (w : List ℕ) (n b k : ℕ) (h : Linked w n b) (range : k < 8 * n) where
+module _ (w : List ℕ) (n b k : ℕ) (h : Linked w n b) (range : k < 10 * n) where
   pub head-within : head w n k ≤ edge w n b
   head-within = let e = h .heads k range in omega (arith, latest-le w n k (edge w n b))
 
@@ -157,7 +157,7 @@ module _ (w : List ℕ) (n b k i : ℕ) (h : Linked w n b) (some : 0 < i) (withi
   turn : Leads w n b (i - 1)
   turn = h .links (i - 1) (omega arith)
 
-  in-bucket : local-at w n (i - 1) .name % (8 * n) ≡ k
+  in-bucket : local-at w n (i - 1) .name % (10 * n) ≡ k
   in-bucket = let s : i ≡ suc (i - 1) = omega arith in latest-in w n k i (i - 1) (own ∙ s)
 
   to : link w (i - 1) ≡ latest w n k (turn .back)
@@ -177,7 +177,7 @@ module _ (w : List ℕ) (n b k i : ℕ) (h : Linked w n b) (some : 0 < i) (withi
       latest-between w n k (turn .back) (max (link w (i - 1)) end) (omega (arith, to)) (omega (arith, to)) ∙ sym to
 
   -- below `end`, where all from i on have another name than the one that is sought: what is passed over is shadowed by one of them
-  pub walk-miss : (name e end : ℕ) → name % (8 * n) ≡ k → e ≤ b → end ≡ edge w n e → i ≤ end → ((m : ℕ) → i ≤ m → m < end → ¬ (local-at w n m .name ≡ name)) → ¬ (local-at w n (i - 1) .name ≡ name)
+  pub walk-miss : (name e end : ℕ) → name % (10 * n) ≡ k → e ≤ b → end ≡ edge w n e → i ≤ end → ((m : ℕ) → i ≤ m → m < end → ¬ (local-at w n m .name ≡ name)) → ¬ (local-at w n (i - 1) .name ≡ name)
       → (m : ℕ) → link w (i - 1) ≤ m → m < end → ¬ (local-at w n m .name ≡ name)
   walk-miss name e end kn eb ee le all ne m lo hi g = cases (decLt m (turn .back)) (decLt m (i - 1))
     where
@@ -185,8 +185,8 @@ module _ (w : List ℕ) (n b k i : ℕ) (h : Linked w n b) (some : 0 < i) (withi
       from-here j x y z (yes q) = ne (ap (λ r. local-at w n r .name) (sym q) ∙ z)
       from-here j x y z (no q) = all j (omega arith) y z
 
-      in-k : local-at w n m .name % (8 * n) ≡ k
-      in-k = ap (λ x. x % (8 * n)) g ∙ kn
+      in-k : local-at w n m .name % (10 * n) ≡ k
+      in-k = ap (λ x. x % (10 * n)) g ∙ kn
 
       below : (s : Shadowed w n b (i - 1) m) → m < i - 1 → Dec (s .by < end) → ⊥
       below s x (yes q) = from-here (s .by) (s .later) q (s .same ∙ g) (ℕ-discrete (s .by) (i - 1))
@@ -197,8 +197,8 @@ module _ (w : List ℕ) (n b k i : ℕ) (h : Linked w n b) (some : 0 < i) (withi
       cases (no x) (yes y) = let s = turn .shadowed m (omega arith) y (in-k ∙ sym in-bucket) in below s y (decLt (s .by) end)
       cases (no x) (no y) = from-here m (omega arith) hi g (ℕ-discrete m (i - 1))
 
-pub walk-start : (w : List ℕ) (n name end i : ℕ) → latest w n (name % (8 * n)) end ≡ i → (m : ℕ) → i ≤ m → m < end → ¬ (local-at w n m .name ≡ name)
-walk-start w n name end i e m l h g = latest-gap w n (name % (8 * n)) end m (omega arith) h (ap (λ x. x % (8 * n)) g)
+pub walk-start : (w : List ℕ) (n name end i : ℕ) → latest w n (name % (10 * n)) end ≡ i → (m : ℕ) → i ≤ m → m < end → ¬ (local-at w n m .name ≡ name)
+walk-start w n name end i e m l h g = latest-gap w n (name % (10 * n)) end m (omega arith) h (ap (λ x. x % (10 * n)) g)
 
 unsuc : (i a : ℕ) → a < i → i ≡ suc (i - 1)
 unsuc i a h = omega arith
@@ -233,14 +233,14 @@ pub record Heads (w w1 : List ℕ) (n from i c : ℕ) : Type 0 where
 
 pub record Popping (w w1 : List ℕ) (n from i : ℕ) : Type 0 where
   pub same : length w1 ≡ length w
-  pub other : (j : ℕ) → (12288 + 11 * n ≤ j → 12288 + 15 * n ≤ j) → getD w1 j 0 ≡ getD w j 0
-  pub heads : (c : ℕ) → c < 8 * n → Heads w w1 n from i c
+  pub other : (j : ℕ) → (12288 + 10 * n ≤ j → 12288 + 15 * n ≤ j) → getD w1 j 0 ≡ getD w j 0
+  pub heads : (c : ℕ) → c < 10 * n → Heads w w1 n from i c
 
 pub popping-start : {w : List ℕ} {n b : ℕ} (from i : ℕ) → from ≤ i → i ≡ edge w n b → Linked w n b → Popping w w n from i
 popping-start {w} {n} from i l e h = record { same = refl; other = λ j l. refl; heads = λ c m. record { back = i; low = l; high = omega arith; leads = h .heads c m ∙ ap (λ k. latest w n c k) (sym e) } }
 
 -- the link of the local that is popped becomes the head of its bucket; its block starts at edge e
-module _ (w w1 : List ℕ) (n e i k v b : ℕ) (linked : Linked w n b) (inner : e ≤ b) (from : edge w n e ≤ i) (within : i < edge w n b) (few : edge w n b ≤ n + 2040) (long : 12288 + 16 * n ≤ length w) (range : k < 8 * n) (own : local-at w n i .name % (8 * n) ≡ k) (back : v ≡ link w1 i)
+module _ (w w1 : List ℕ) (n e i k v b : ℕ) (linked : Linked w n b) (inner : e ≤ b) (from : edge w n e ≤ i) (within : i < edge w n b) (few : edge w n b ≤ n + 2040) (long : 12288 + 16 * n ≤ length w) (range : k < 10 * n) (own : local-at w n i .name % (10 * n) ≡ k) (back : v ≡ link w1 i)
     (g : Popping w w1 n (edge w n e) (suc i)) where
   old : Leads w n b i
   old = linked .links i within
@@ -248,32 +248,32 @@ module _ (w w1 : List ℕ) (n e i k v b : ℕ) (linked : Linked w n b) (inner : 
   link-back : v ≡ latest w n k (old .back)
   link-back = back ∙ half-word w w1 (9376 + i) (g .other ((9376 + i) / 2) (λ z. absurd (omega arith))) ∙ old .leads ∙ ap (λ c. latest w n c (old .back)) own
 
-  inside : (24576 + 22 * n + k) / 2 < length w1
+  inside : (24576 + 20 * n + k) / 2 < length w1
   inside = omega (arith, g .same)
 
   tiny : v < 65536
   tiny = omega (arith, back, half-small w1 (9376 + i))
 
-  pub popping-next : Popping w (with-half w1 (24576 + 22 * n + k) v) n (edge w n e) i
+  pub popping-next : Popping w (with-half w1 (24576 + 20 * n + k) v) n (edge w n e) i
   popping-next =
       record {
-        same = length-half w1 (24576 + 22 * n + k) v ∙ g .same;
-        other = λ j l. word-other w1 (24576 + 22 * n + k) j v (λ e. let x = l (omega arith) in omega arith) ∙ g .other j l;
+        same = length-half w1 (24576 + 20 * n + k) v ∙ g .same;
+        other = λ j l. word-other w1 (24576 + 20 * n + k) j v (λ e. let x = l (omega arith) in omega arith) ∙ g .other j l;
         heads = λ c l. cases c l (ℕ-discrete c k) (g .heads c l) (decLt i (g .heads c l .back));
       }
     where
-      cases : (c : ℕ) → c < 8 * n → Dec (c ≡ k) → (h : Heads w w1 n (edge w n e) (suc i) c) → Dec (i < h .back) → Heads w (with-half w1 (24576 + 22 * n + k) v) n (edge w n e) i c
+      cases : (c : ℕ) → c < 10 * n → Dec (c ≡ k) → (h : Heads w w1 n (edge w n e) (suc i) c) → Dec (i < h .back) → Heads w (with-half w1 (24576 + 20 * n + k) v) n (edge w n e) i c
       cases c l (yes x) h y =
-          record { back = old .back; low = old .within e inner from; high = old .before; leads = rw x (half-same w1 (24576 + 22 * n + k) v inside tiny ∙ link-back) }
+          record { back = old .back; low = old .within e inner from; high = old .before; leads = rw x (half-same w1 (24576 + 20 * n + k) v inside tiny ∙ link-back) }
       cases c l (no x) h (no y) =
-          record { back = h .back; low = h .low; high = omega arith; leads = half-other w1 (24576 + 22 * n + k) v inside tiny (24576 + 22 * n + c) (omega arith) ∙ h .leads }
+          record { back = h .back; low = h .low; high = omega arith; leads = half-other w1 (24576 + 20 * n + k) v inside tiny (24576 + 20 * n + c) (omega arith) ∙ h .leads }
       cases c l (no x) h (yes y) =
           let z : h .back ≡ suc i = omega (arith, h .high) in
           record {
             back = i;
             low = from;
             high = omega arith;
-            leads = half-other w1 (24576 + 22 * n + k) v inside tiny (24576 + 22 * n + c) (omega arith) ∙ h .leads ∙ ap (λ m. latest w n c m) z ∙ latest-miss w n c i (λ q. x (sym q ∙ own));
+            leads = half-other w1 (24576 + 20 * n + k) v inside tiny (24576 + 20 * n + c) (omega arith) ∙ h .leads ∙ ap (λ m. latest w n c m) z ∙ latest-miss w n c i (λ q. x (sym q ∙ own));
           }
 
 -- the locals that are left are linked

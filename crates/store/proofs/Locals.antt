@@ -28,7 +28,7 @@ use Rattle.forward.specs.Forward.{fwd-unit}
 -- local i is pushed as the word x; its block's edge stands at `at`
 pub record Pushed (w w' : List ℕ) (n at i x : ℕ) : Type 0 where
   pub length : length w' ≡ length w
-  pub other : (j : ℕ) → (4688 ≤ j → 5708 + n ≤ j) → ¬ (j ≡ at) → ¬ (j ≡ 5724 + 2 * n + i) → (12288 + 11 * n ≤ j → 12288 + 15 * n ≤ j) → getD w' j 0 ≡ getD w j 0
+  pub other : (j : ℕ) → (4688 ≤ j → 5708 + n ≤ j) → ¬ (j ≡ at) → ¬ (j ≡ 5724 + 2 * n + i) → (12288 + 10 * n ≤ j → 12288 + 15 * n ≤ j) → getD w' j 0 ≡ getD w j 0
   pub edge : getD w' at 0 ≡ i + 1
   pub local : getD w' (5724 + 2 * n + i) 0 ≡ x
 
@@ -37,15 +37,15 @@ pub record Hung (w w' : List ℕ) (n i b : ℕ) : Type 0 where
   pub link-here : link w' i ≡ head w n b
   pub link-other : (j : ℕ) → j < i → link w' j ≡ link w j
   pub head-here : head w' n b ≡ i + 1
-  pub head-other : (c : ℕ) → c < 8 * n → ¬ (c ≡ b) → head w' n c ≡ head w n c
+  pub head-other : (c : ℕ) → c < 10 * n → ¬ (c ≡ b) → head w' n c ≡ head w n c
 
 -- the four stores
-module _ (w : List ℕ) (n at i b x : ℕ) (long : 12288 + 16 * n ≤ length w) (few : i ≤ n + 2040) (small : n ≤ 32768) (edges : 5708 + n ≤ at) (below : at < 5724 + 2 * n) (room : 5724 + 2 * n + i < 12288 + 11 * n) (in-range : b < 8 * n) where
+module _ (w : List ℕ) (n at i b x : ℕ) (long : 12288 + 16 * n ≤ length w) (few : i ≤ n + 2040) (small : n ≤ 32768) (edges : 5708 + n ≤ at) (below : at < 5724 + 2 * n) (room : 5724 + 2 * n + i < 12288 + 10 * n) (in-range : b < 10 * n) where
   abbrev w1 : List ℕ
   w1 = with-half w (9376 + i) (head w n b)
 
   abbrev w2 : List ℕ
-  w2 = with-half w1 (24576 + 22 * n + b) (i + 1)
+  w2 = with-half w1 (24576 + 20 * n + b) (i + 1)
 
   abbrev w3 : List ℕ
   w3 = set w2 (5724 + 2 * n + i) x
@@ -57,7 +57,7 @@ module _ (w : List ℕ) (n at i b x : ℕ) (long : 12288 + 16 * n ≤ length w) 
   l1 = length-half w (9376 + i) (head w n b)
 
   l2 : length w2 ≡ length w
-  l2 = length-half w1 (24576 + 22 * n + b) (i + 1) ∙ l1
+  l2 = length-half w1 (24576 + 20 * n + b) (i + 1) ∙ l1
 
   l3 : length w3 ≡ length w
   l3 = length-set w2 (5724 + 2 * n + i) x ∙ l2
@@ -73,7 +73,7 @@ module _ (w : List ℕ) (n at i b x : ℕ) (long : 12288 + 16 * n ≤ length w) 
         other = λ j a c e f.
             getD-set-other w3 at j (i + 1) 0 c
             ∙ getD-set-other w2 (5724 + 2 * n + i) j x 0 e
-            ∙ word-other w1 (24576 + 22 * n + b) j (i + 1) (λ z. let y = f (omega arith) in omega arith)
+            ∙ word-other w1 (24576 + 20 * n + b) j (i + 1) (λ z. let y = f (omega arith) in omega arith)
             ∙ word-other w (9376 + i) j (head w n b) (λ z. let y = a (omega arith) in omega arith);
         edge = getD-set-same w3 at (i + 1) 0 (omega (arith, l3));
         local = getD-set-other w3 at (5724 + 2 * n + i) (i + 1) 0 (omega arith) ∙ getD-set-same w2 (5724 + 2 * n + i) x 0 (omega (arith, l2));
@@ -84,27 +84,27 @@ module _ (w : List ℕ) (n at i b x : ℕ) (long : 12288 + 16 * n ≤ length w) 
       record {
         link-here =
             last-two (9376 + i) (omega arith) (omega arith)
-            ∙ half-other w1 (24576 + 22 * n + b) (i + 1) (omega (arith, l1)) (omega arith) (9376 + i) (omega arith)
-            ∙ half-same w (9376 + i) (head w n b) (omega arith) (half-small w (24576 + 22 * n + b));
+            ∙ half-other w1 (24576 + 20 * n + b) (i + 1) (omega (arith, l1)) (omega arith) (9376 + i) (omega arith)
+            ∙ half-same w (9376 + i) (head w n b) (omega arith) (half-small w (24576 + 20 * n + b));
         link-other = λ j l.
             last-two (9376 + j) (omega arith) (omega arith)
-            ∙ half-other w1 (24576 + 22 * n + b) (i + 1) (omega (arith, l1)) (omega arith) (9376 + j) (omega arith)
-            ∙ half-other w (9376 + i) (head w n b) (omega arith) (half-small w (24576 + 22 * n + b)) (9376 + j) (omega arith);
-        head-here = last-two (24576 + 22 * n + b) (omega arith) (omega arith) ∙ half-same w1 (24576 + 22 * n + b) (i + 1) (omega (arith, l1)) (omega arith);
+            ∙ half-other w1 (24576 + 20 * n + b) (i + 1) (omega (arith, l1)) (omega arith) (9376 + j) (omega arith)
+            ∙ half-other w (9376 + i) (head w n b) (omega arith) (half-small w (24576 + 20 * n + b)) (9376 + j) (omega arith);
+        head-here = last-two (24576 + 20 * n + b) (omega arith) (omega arith) ∙ half-same w1 (24576 + 20 * n + b) (i + 1) (omega (arith, l1)) (omega arith);
         head-other = λ c l ne.
-            last-two (24576 + 22 * n + c) (omega arith) (omega arith)
-            ∙ half-other w1 (24576 + 22 * n + b) (i + 1) (omega (arith, l1)) (omega arith) (24576 + 22 * n + c) (omega arith)
-            ∙ half-other w (9376 + i) (head w n b) (omega arith) (half-small w (24576 + 22 * n + b)) (24576 + 22 * n + c) (omega arith);
+            last-two (24576 + 20 * n + c) (omega arith) (omega arith)
+            ∙ half-other w1 (24576 + 20 * n + b) (i + 1) (omega (arith, l1)) (omega arith) (24576 + 20 * n + c) (omega arith)
+            ∙ half-other w (9376 + i) (head w n b) (omega arith) (half-small w (24576 + 20 * n + b)) (24576 + 20 * n + c) (omega arith);
       }
 
 -- ---- the links
 
-module _ (w w' : List ℕ) (n k b x : ℕ) (few : edge w n k ≤ n + 2040) (blocks : k ≤ n + 10) (room : 5724 + 2 * n + edge w n k < 12288 + 11 * n) (range : b < 8 * n) (bx : x / 255 % (8 * n) ≡ b) (g : Pushed w w' n (5708 + n + k) (edge w n k) x) (hung : Hung w w' n (edge w n k) b) (h : Linked w n k) where
+module _ (w w' : List ℕ) (n k b x : ℕ) (few : edge w n k ≤ n + 2040) (blocks : k ≤ n + 10) (room : 5724 + 2 * n + edge w n k < 12288 + 10 * n) (range : b < 10 * n) (bx : x / 255 % (10 * n) ≡ b) (g : Pushed w w' n (5708 + n + k) (edge w n k) x) (hung : Hung w w' n (edge w n k) b) (h : Linked w n k) where
   lo : Same w w' (5724 + 2 * n) (5724 + 2 * n + edge w n k)
   lo = record { same = λ j a c. g .other j (λ z. omega arith) (omega arith) (omega arith) (λ z. absurd (omega arith)) }
 
-  here : local-at w' n (edge w n k) .name % (8 * n) ≡ b
-  here = ap (λ y. y / 255 % (8 * n)) (g .local) ∙ bx
+  here : local-at w' n (edge w n k) .name % (10 * n) ≡ b
+  here = ap (λ y. y / 255 % (10 * n)) (g .local) ∙ bx
 
   one-more : edge w' n k ≡ suc (edge w n k)
   one-more = g .edge ∙ add-one (edge w n k)
@@ -134,7 +134,7 @@ module _ (w w' : List ℕ) (n k b x : ℕ) (few : edge w n k ≤ n + 2040) (bloc
             leads = hung .link-here ∙ h .heads b range ∙ sym (ap (λ y. latest w' n y (edge w n k)) here ∙ latest-old b);
           })
 
-      head-at : (c : ℕ) → c < 8 * n → Dec (c ≡ b) → head w' n c ≡ latest w' n c (edge w' n k)
+      head-at : (c : ℕ) → c < 10 * n → Dec (c ≡ b) → head w' n c ≡ latest w' n c (edge w' n k)
       head-at c l (yes e) = rw (one-more, e) (hung .head-here ∙ add-one (edge w n k) ∙ sym (latest-hit w' n b (edge w n k) here))
       head-at c l (no e) = rw one-more (hung .head-other c l e ∙ h .heads c l ∙ sym (latest-miss w' n c (edge w n k) (λ z. e (sym z ∙ here)) ∙ latest-old c))
 

@@ -76,7 +76,7 @@ framed w j name block loops fits =
 -- ---- the start
 
 -- the heads are cleared, then the first two edges, then main's frame is set up
-module _ (w w1 w2 w' : List ℕ) (n : ℕ) (some : 1 ≤ n) (few : n ≤ 32768) (long : 12288 + 16 * n ≤ length w) (cleared : Zeroed w (12288 + 11 * n) (12288 + 15 * n) w1) (edged : w2 ≡ set (set w1 (5708 + n) 0) (5709 + n) 0) (framed : Framed w2 0 65535 0 0 w') where
+module _ (w w1 w2 w' : List ℕ) (n : ℕ) (some : 1 ≤ n) (few : n ≤ 32768) (long : 12288 + 16 * n ≤ length w) (cleared : Zeroed w (12288 + 10 * n) (12288 + 15 * n) w1) (edged : w2 ≡ set (set w1 (5708 + n) 0) (5709 + n) 0) (framed : Framed w2 0 65535 0 0 w') where
   length-w2 : length w2 ≡ length w
   length-w2 = ap length edged ∙ length-set (set w1 (5708 + n) 0) (5709 + n) 0 ∙ length-set w1 (5708 + n) 0 ∙ cleared .same
 
@@ -94,13 +94,13 @@ module _ (w w1 w2 w' : List ℕ) (n : ℕ) (some : 1 ≤ n) (few : n ≤ 32768) 
           let at : 5708 + n + i ≡ 5709 + n = omega arith in
           rw at (getD-set-same (set w1 (5708 + n) 0) (5709 + n) 0 0 (omega (arith, l1)))
 
-  above : (i : ℕ) → 12288 + 11 * n ≤ i → getD w' i 0 ≡ getD w1 i 0
+  above : (i : ℕ) → 12288 + 10 * n ≤ i → getD w' i 0 ≡ getD w1 i 0
   above i h =
       framed .other i (λ z. omega arith)
       ∙ ap (λ l. getD l i 0) edged
       ∙ under (set w1 (5708 + n) 0) (5709 + n) 0 i (omega arith) (getD-set-other w1 (5708 + n) i 0 0 (omega arith))
 
-  heads : (i : ℕ) → 12288 + 11 * n ≤ i → i < 12288 + 15 * n → getD w' i 0 ≡ 0
+  heads : (i : ℕ) → 12288 + 10 * n ≤ i → i < 12288 + 15 * n → getD w' i 0 ≡ 0
   heads i h k = above i h ∙ cleared .zeros i h k
 
   same : length w' ≡ length w
@@ -111,12 +111,12 @@ module _ (w w1 w2 w' : List ℕ) (n : ℕ) (some : 1 ≤ n) (few : n ≤ 32768) 
   start-linked =
       record {
         links = λ i h. absurd (omega (arith, edges 1 (omega arith)));
-        heads = λ b h. empty b h (ℕ-discrete ((24576 + 22 * n + b) % 2) 0) ∙ sym (ap (λ k. latest w' n b k) (edges 1 (omega arith)));
+        heads = λ b h. empty b h (ℕ-discrete ((24576 + 20 * n + b) % 2) 0) ∙ sym (ap (λ k. latest w' n b k) (edges 1 (omega arith)));
       }
     where
-      empty : (b : ℕ) → b < 8 * n → Dec ((24576 + 22 * n + b) % 2 ≡ 0) → head w' n b ≡ 0
-      empty b h (yes e) = omega (arith, half-even w' (24576 + 22 * n + b) e, heads ((24576 + 22 * n + b) / 2) (omega arith) (omega arith))
-      empty b h (no e) = omega (arith, half-odd w' (24576 + 22 * n + b) e, heads ((24576 + 22 * n + b) / 2) (omega arith) (omega arith))
+      empty : (b : ℕ) → b < 10 * n → Dec ((24576 + 20 * n + b) % 2 ≡ 0) → head w' n b ≡ 0
+      empty b h (yes e) = omega (arith, half-even w' (24576 + 20 * n + b) e, heads ((24576 + 20 * n + b) / 2) (omega arith) (omega arith))
+      empty b h (no e) = omega (arith, half-odd w' (24576 + 20 * n + b) e, heads ((24576 + 20 * n + b) / 2) (omega arith) (omega arith))
 
   start-sound : Sound w' (main-scope n)
   start-sound =

@@ -129,16 +129,16 @@ module _ (w w' : List ℕ) where
               lk
               ∙ h .leads
               ∙ sym
-              (ap (λ x. latest w' n (x / 255 % (8 * n)) (h .back)) wi
-              ∙ latest-same n (local-at w n i .name % (8 * n)) (h .back) (same-part (5724 + 2 * n) (5724 + 2 * n + h .back) (omega arith) (omega (arith, h .before)) lo));
+              (ap (λ x. latest w' n (x / 255 % (10 * n)) (h .back)) wi
+              ∙ latest-same n (local-at w n i .name % (10 * n)) (h .back) (same-part (5724 + 2 * n) (5724 + 2 * n + h .back) (omega arith) (omega (arith, h .before)) lo));
         }
 
-  pub linked-same : (n b b' : ℕ) → edge w n b ≤ 2040 + 2 * n → Same w w' 4688 (5708 + n) → Same w w' (12288 + 11 * n) (12288 + 15 * n) → Same w w' (5724 + 2 * n) (5724 + 2 * n + edge w n b) → edge w' n b' ≡ edge w n b
+  pub linked-same : (n b b' : ℕ) → edge w n b ≤ 2040 + 2 * n → Same w w' 4688 (5708 + n) → Same w w' (12288 + 10 * n) (12288 + 15 * n) → Same w w' (5724 + 2 * n) (5724 + 2 * n + edge w n b) → edge w' n b' ≡ edge w n b
       → ((e : ℕ) → e ≤ b' → edge w' n e < edge w n b → (e ≤ b) × (edge w' n e ≡ edge w n e)) → Linked w n b → Linked w' n b'
   linked-same n b b' l hl hh lo top es h =
       record {
         links = λ i x. leads-same n b b' lo es i (omega arith) (half-kept (9376 + i) hl (omega arith) (omega arith)) (λ j y s. omega (arith, s .inside)) (h .links i (omega arith));
-        heads = λ c x. half-kept (24576 + 22 * n + c) hh (omega arith) (omega arith) ∙ h .heads c x ∙ sym (ap (λ k. latest w' n c k) top ∙ latest-same n c (edge w n b) lo);
+        heads = λ c x. half-kept (24576 + 20 * n + c) hh (omega arith) (omega arith) ∙ h .heads c x ∙ sym (ap (λ k. latest w' n c k) top ∙ latest-same n c (edge w n b) lo);
       }
 
 -- ---- functions

@@ -22,10 +22,10 @@ module _ (w : List ℕ) (n k l e : ℕ) (h : Linked w n k) (inside : l < edge w 
   here = h .links l inside
 
   pub next-less : e < l
-  next-less = omega (arith, here .before, here .leads, latest-le w n (local-at w n l .name % (8 * n)) (here .back))
+  next-less = omega (arith, here .before, here .leads, latest-le w n (local-at w n l .name % (10 * n)) (here .back))
 
-  pub next-in : local-at w n e .name % (8 * n) ≡ local-at w n l .name % (8 * n)
-  next-in = latest-in w n (local-at w n l .name % (8 * n)) (here .back) e (sym (here .leads) ∙ to)
+  pub next-in : local-at w n e .name % (10 * n) ≡ local-at w n l .name % (10 * n)
+  next-in = latest-in w n (local-at w n l .name % (10 * n)) (here .back) e (sym (here .leads) ∙ to)
 
   there : Leads w n k e
   there = h .links e (omega (arith, next-less))
@@ -44,14 +44,14 @@ module _ (w : List ℕ) (n k l e : ℕ) (h : Linked w n k) (inside : l < edge w 
     newest j x y =
         record { by = c; later = omega arith; inside = omega arith; same = sym (x ∙ same); together = λ q m z. omega (arith, there .within q m (below q m z)) }
 
-    above : (j : ℕ) → e < j → j < l → local-at w n j .name % (8 * n) ≡ local-at w n l .name % (8 * n) → Shadowed w n k l j
+    above : (j : ℕ) → e < j → j < l → local-at w n j .name % (10 * n) ≡ local-at w n l .name % (10 * n) → Shadowed w n k l j
     above j x y z = cases (decLt j (here .back))
       where
         cases : Dec (j < here .back) → Shadowed w n k l j
-        cases (yes a) = absurd (latest-gap w n (local-at w n l .name % (8 * n)) (here .back) j (omega (arith, here .leads)) a z)
+        cases (yes a) = absurd (latest-gap w n (local-at w n l .name % (10 * n)) (here .back) j (omega (arith, here .leads)) a z)
         cases (no a) = here .shadowed j (omega arith) y z
 
-    passed : (j : ℕ) → there .back ≤ j → j < l → local-at w n j .name % (8 * n) ≡ local-at w n l .name % (8 * n) → Shadowed w n k l j
+    passed : (j : ℕ) → there .back ≤ j → j < l → local-at w n j .name % (10 * n) ≡ local-at w n l .name % (10 * n) → Shadowed w n k l j
     passed j x y z = cases (decLt j e) (ℕ-discrete j e)
       where
         -- by one that shadowed it, or by what shadows that
@@ -59,7 +59,7 @@ module _ (w : List ℕ) (n k l e : ℕ) (h : Linked w n k) (inside : l < edge w 
         again s (no a) b = record { by = s .by; later = omega arith; inside = s .inside; same = s .same; together = s .together }
         again s (yes a) (yes b) = newest j (sym (s .same) ∙ ap (λ i. local-at w n i .name) b) x
         again s (yes a) (no b) =
-            let t = above (s .by) (omega (arith, s .later)) a (ap (λ y. y % (8 * n)) (s .same) ∙ z) in
+            let t = above (s .by) (omega (arith, s .later)) a (ap (λ y. y % (10 * n)) (s .same) ∙ z) in
             record { by = t .by; later = t .later; inside = t .inside; same = t .same ∙ s .same; together = λ q m r. s .together q m (t .together q m r) }
 
         cases : Dec (j < e) → Dec (j ≡ e) → Shadowed w n k l j
@@ -105,7 +105,7 @@ module _ (w : List ℕ) (n k l e : ℕ) (h : Linked w n k) (inside : l < edge w 
                 half-same w (9376 + l) (link w e) fits (half-small w (9376 + e))
                 ∙ there .leads
                 ∙ ap (λ b. latest w n b (there .back)) next-in
-                ∙ sym (ap (λ x. latest w' n (x / 255 % (8 * n)) (there .back)) (words l) ∙ latest-same w w' n (local-at w n l .name % (8 * n)) (there .back) (record { same = λ i x y. other i (λ z. omega arith) }));
+                ∙ sym (ap (λ x. latest w' n (x / 255 % (10 * n)) (there .back)) (words l) ∙ latest-same w w' n (local-at w n l .name % (10 * n)) (there .back) (record { same = λ i x y. other i (λ z. omega arith) }));
           }
 
       pub unlinked : Linked w' n k
@@ -113,7 +113,7 @@ module _ (w : List ℕ) (n k l e : ℕ) (h : Linked w n k) (inside : l < edge w 
           record {
             links = λ i x. links i (omega (arith, edges k)) (ℕ-discrete i l);
             heads = λ b x.
-                half-other w (9376 + l) (link w e) fits (half-small w (9376 + e)) (24576 + 22 * n + b) (omega arith)
+                half-other w (9376 + l) (link w e) fits (half-small w (9376 + e)) (24576 + 20 * n + b) (omega arith)
                 ∙ h .heads b x
                 ∙ sym (ap (λ m. latest w' n b m) (edges k) ∙ latest-same w w' n b (edge w n k) lo);
           }
@@ -126,7 +126,7 @@ module _ (w : List ℕ) (n k l e : ℕ) (h : Linked w n k) (inside : l < edge w 
 
 -- a link leads back
 pub link-le : {w : List ℕ} {n k : ℕ} (l : ℕ) → Linked w n k → l < edge w n k → link w l ≤ l
-link-le {w} {n} l h x = let g = h .links l x in omega (arith, g .before, g .leads, latest-le w n (local-at w n l .name % (8 * n)) (g .back))
+link-le {w} {n} l h x = let g = h .links l x in omega (arith, g .before, g .leads, latest-le w n (local-at w n l .name % (10 * n)) (g .back))
 
 pub taken-out : {w : List ℕ} {p : Scope} {name : ℕ} (l e : ℕ) → Sound w p → Latest w p name → l < edge w (p .nodes) (p .block) → link w l ≡ suc e → edge w (p .nodes) (p .block - 1) ≤ e → local-at w (p .nodes) e .name ≡ name → Unlinked w p (with-half w (9376 + l) (link w e))
 taken-out {w} {p} l e s g inside to from own =

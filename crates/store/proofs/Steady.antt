@@ -67,7 +67,7 @@ kept-by d len g es os =
 
 -- where the words from a up to b lie: constants, frames, captures, globals; or pending code
 abbrev pub Clear : (w : List ℕ) (p : Scope) (a b : ℕ) → Type 0
-Clear w p a b = ((c : ℕ) → 4688 ≤ c → c < 5724 + 2 * p .nodes + edge w (p .nodes) (p .block) → a ≤ c → b ≤ c) × ((c : ℕ) → 12288 + 11 * p .nodes ≤ c → a ≤ c → b ≤ c)
+Clear w p a b = ((c : ℕ) → 4688 ≤ c → c < 5724 + 2 * p .nodes + edge w (p .nodes) (p .block) → a ≤ c → b ≤ c) × ((c : ℕ) → 12288 + 10 * p .nodes ≤ c → a ≤ c → b ≤ c)
 
 module _ {w w' : List ℕ} {p : Scope} {a b : ℕ} (h : Sound w p) (only : Only w w' a b) (clear : Clear w p a b) (firsts : (j : ℕ) → j ≤ p .depth → first w' j ≡ first w j) where
   clear-locals : Same w w' (5724 + 2 * p .nodes) (5724 + 2 * p .nodes + edge w (p .nodes) (p .block))

@@ -7,13 +7,13 @@
 --     4,168          520                   globals: halves
 --     4,688          1,020 + n             links: a half for each local
 --     5,708 + n      16 + n                edges of blocks: block i has the locals from edge i up to edge i + 1
---     5,724 + 2 n    up to 12,288 + 11 n   locals upward, a word each; pending code downward, two words an instruction
---     12,288 + 11 n  4 n                   heads: 8 n halves
+--     5,724 + 2 n    up to 12,288 + 10 n   locals upward, a word each; pending code downward, two words an instruction
+--     12,288 + 10 n  5 n                   heads: 10 n halves
 --     12,288 + 15 n  n                     the nodes' offsets in the tree
 --
 -- A ninth function is refused; its frame is there so that the steps after the refusal, which change nothing, have a scope of their own.
 -- Registers pay for what has no node: a register takes three words at most (a for-in's name: an instruction and a local), a node eight. Eight open
--- functions have 2,040 registers, and 6,564 + 9 n words hold 3 * 2,040 + 8 n.
+-- functions have 2,040 registers, and 6,564 + 8 n words hold 3 * 2,040 + 8 n.
 use Prim.Native.Nat.{ℕ, zero, suc, _+_, _-_, _*_, _/_, _%_}
 use mathlib.Core.Bool.{cond}
 use mathlib.Core.List.{List}
@@ -95,7 +95,7 @@ block w n i = span (local-at w n) (edge w n i) (edge w n (suc i))
 -- the latest of the first k locals whose name falls into bucket b, counted from 1; 0 where there is none
 unfoldable pub latest : List ℕ → (n b k : ℕ) → ℕ
 latest w n b zero = 0
-latest w n b (suc k) = cond (eqb (local-at w n k .name % (8 * n)) b) (suc k) (latest w n b k)
+latest w n b (suc k) = cond (eqb (local-at w n k .name % (10 * n)) b) (suc k) (latest w n b k)
 
 -- the link of local i: the latest before it in its bucket, but for those that a later one of their name and block shadows
 abbrev pub link : List ℕ → ℕ → ℕ
@@ -103,13 +103,13 @@ link w i = half w (9376 + i)
 
 -- the head of bucket b: the latest of all locals in it
 abbrev pub head : List ℕ → (n b : ℕ) → ℕ
-head w n b = half w (24576 + 22 * n + b)
+head w n b = half w (24576 + 20 * n + b)
 
 -- ---- pending code
 
 -- the first word above the pending code, which goes downward from here
 abbrev pub top : ℕ → ℕ
-top n = 12288 + 11 * n
+top n = 12288 + 10 * n
 
 -- a word as an instruction, the opcode in its lowest byte, then a, b and c; the mark has a word of its own
 abbrev pub unpacked : (word mark : ℕ) → Instruction

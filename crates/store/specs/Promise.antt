@@ -142,7 +142,7 @@ pub record Does (w o : List ℕ) (p : Scope) (s : Step) (w' o' : List ℕ) (q : 
 -- the locals of the block inside p are popped: nothing but heads changed
 pub record Popped (w : List ℕ) (p : Scope) (w' : List ℕ) : Type 0 where
   pub same : length w' ≡ length w
-  pub other : (i : ℕ) → (12288 + 11 * p .nodes ≤ i → 12288 + 15 * p .nodes ≤ i) → getD w' i 0 ≡ getD w i 0
+  pub other : (i : ℕ) → (12288 + 10 * p .nodes ≤ i → 12288 + 15 * p .nodes ≤ i) → getD w' i 0 ≡ getD w i 0
   pub linked : Linked w' (p .nodes) (p .block)
 
 -- the latest local is one of that name in the innermost block

@@ -154,13 +154,13 @@ pub record Leads (w : List ℕ) (n b i : ℕ) : Type 0 where
   pub back : ℕ
   pub before : back ≤ i
   pub within : (e : ℕ) → e ≤ b → edge w n e ≤ i → edge w n e ≤ back
-  pub shadowed : (j : ℕ) → back ≤ j → j < i → local-at w n j .name % (8 * n) ≡ local-at w n i .name % (8 * n) → Shadowed w n b i j
-  pub leads : link w i ≡ latest w n (local-at w n i .name % (8 * n)) back
+  pub shadowed : (j : ℕ) → back ≤ j → j < i → local-at w n j .name % (10 * n) ≡ local-at w n i .name % (10 * n) → Shadowed w n b i j
+  pub leads : link w i ≡ latest w n (local-at w n i .name % (10 * n)) back
 
 -- the locals of the first b blocks are linked by the bucket of their name
 pub record Linked (w : List ℕ) (n b : ℕ) : Type 0 where
   pub links : (i : ℕ) → i < edge w n b → Leads w n b i
-  pub heads : (c : ℕ) → c < 8 * n → head w n c ≡ latest w n c (edge w n b)
+  pub heads : (c : ℕ) → c < 10 * n → head w n c ≡ latest w n c (edge w n b)
 
 -- the words in a scope
 pub record Sound (w : List ℕ) (p : Scope) : Type 0 where

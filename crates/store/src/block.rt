@@ -41,6 +41,6 @@ pub fn leave_block(work: &mut [u32], scope: Scope)
         let name = (work[5724 + 2 * nodes + i] / 255) as usize;
         let b = bucket(name, nodes);
         let before = half_at(work, 9376 + i);
-        set_half(work, 24576 + 22 * nodes + b, before);
+        set_half(work, 24576 + 20 * nodes + b, before);
     }
 }

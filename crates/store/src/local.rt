@@ -19,9 +19,9 @@ use crate::register::next_register;
 // The bucket of a name.
 pub(crate) fn bucket(name: usize, nodes: usize) -> usize
     requires { ⌜ (1 ≤ nodes) × (nodes ≤ 32768) ⌝ }
-    ensures { λ r. ⌜ (r ≡ name % (8 * nodes)) × (r < 8 * nodes) ⌝ }
+    ensures { λ r. ⌜ (r ≡ name % (10 * nodes)) × (r < 10 * nodes) ⌝ }
 {
-    let buckets = 8 * nodes;
+    let buckets = 10 * nodes;
     if name < buckets { name } else { name % buckets }
 }
 
@@ -32,7 +32,7 @@ pub(crate) fn look(work: &[u32], nodes: usize, start: usize, end: usize, name: u
 {
     let b = bucket(name, nodes);
     let base = 5724 + 2 * nodes;
-    let mut i = half_at(work, 24576 + 22 * nodes + b) as usize;
+    let mut i = half_at(work, 24576 + 20 * nodes + b) as usize;
     while end < i {
         i = half_at(work, 9376 + (i - 1)) as usize;
     }
@@ -96,7 +96,7 @@ pub fn allocate_register(work: &mut [u32], step: Step, scope: Scope, name: usize
     let count = work[at];
     let i = count as usize;
     let b = bucket(name, nodes);
-    let head = 24576 + 22 * nodes + b;
+    let head = 24576 + 20 * nodes + b;
     let before = half_at(work, head);
     set_half(work, 9376 + i, before);
     set_half(work, head, count + 1);

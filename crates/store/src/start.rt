@@ -36,7 +36,7 @@ pub fn begin(work: &mut [u32], nodes: usize) -> Step
     requires { ⌜ (1 ≤ nodes) × (nodes ≤ 32768) × (12288 + 16 * nodes ≤ length (now work)) ⌝ }
     ensures { λ r. ⌜ (r ≡ first-step) × Begun (now (work .entry)) nodes (now (work .exit)) ⌝ }
 {
-    zero(work, 12288 + 11 * nodes, 12288 + 15 * nodes);
+    zero(work, 12288 + 10 * nodes, 12288 + 15 * nodes);
     work[5708 + nodes] = 0;
     work[5709 + nodes] = 0;
     open_frame(work, 0, 65535, 0, 0);

@@ -165,15 +165,15 @@ fn names() -> Vec<Worst> {
         of("250 captures by 64 functions, through 6", through(5, times(64, || expression(user())))),
         large("250 captures through 6 functions, 64 times", through(5, vec![expression(minuses(6, user()))])),
         large("a bucket of 400 locals, 1,024 times", bucket_of_lets(1_640, 400)),
-        large("a bucket of 2,000 locals, 1,024 times", bucket_of_lets(8_191, 2_000)),
-        large("captures behind a bucket of 2,000 locals", bucket_of_captures(8_191, 2_000)),
-        large("a bucket of locals in 60 blocks, 1,024 times", bucket_of_blocks(8_191, 60)),
+        large("a bucket of 2,000 locals, 1,024 times", bucket_of_lets(6_553, 2_000)),
+        large("captures behind a bucket of 2,000 locals", bucket_of_captures(6_553, 2_000)),
+        large("a bucket of locals in 100 blocks, 1,024 times", bucket_of_blocks(6_553, 100)),
     ]
 }
 
-/// Two names that differ by the number of buckets, 8 for each node.
+/// Two names that differ by the number of buckets, 10 for each node.
 fn in_one_bucket(nodes: usize) -> (Pair, Pair) {
-    ((1, M), ((8 * nodes + 1) as u16, M))
+    ((1, M), ((10 * nodes + 1) as u16, M))
 }
 
 /// Locals of one name, then uses of the other one, a parameter, which are lowered 1,024 times.

@@ -92,7 +92,7 @@ loop-again c =
     let l = leaving (start .pre) in
     let inv = loop .inv in
     let u : loop .i ≡ suc i = omega arith in
-    let own : local-at w n i .name % (8 * n) ≡ bucket .result = ap (λ x. x / 255 % (8 * n)) (sym (inv .2 .other (5724 + 2 * n + i) (λ z. absurd (omega (arith, l .fits, inv .0))))) ∙ sym (bucket .ensures .0) in
+    let own : local-at w n i .name % (10 * n) ≡ bucket .result = ap (λ x. x / 255 % (10 * n)) (sym (inv .2 .other (5724 + 2 * n + i) (λ z. absurd (omega (arith, l .fits, inv .0))))) ∙ sym (bucket .ensures .0) in
     (omega arith, omega arith, rw (set-half .ensures) (popping-next w (loop .work) n (a .scope .block) i (bucket .result) (half-at .result) (a .scope .block + 1) (l .linked) (omega arith) (omega (arith, inv .1)) (omega (arith, inv .0, l .ends)) (omega (arith, l .fits, l .ends)) (l .long) (bucket .ensures .1) own (half-at .ensures) (rw u at (inv .2))))
 
 same-length : tie.Need-same-length Inv-loop μ-loop

@@ -28,7 +28,7 @@ set-half-requires c κs =
     let bucket = c .before .before .before .bucket in
     let a = start .args in
     let n = a .scope .nodes in
-    (omega (arith, start .pre .0 .sound .long, start .pre .0 .sound .count), omega (arith, half-at .ensures, half-small (now (a .work)) (24576 + 22 * n + bucket .result)))
+    (omega (arith, start .pre .0 .sound .long, start .pre .0 .sound .count), omega (arith, half-at .ensures, half-small (now (a .work)) (24576 + 20 * n + bucket .result)))
 
 add-work : tie.Need-add-work
 add-work c =
@@ -65,8 +65,8 @@ unlink-requires c κs =
     let room = due (a .step .outcome) (start .pre .1 .roomy) (goes (enum-told .given .1)) in
     let small = due (a .step .outcome) (start .pre .3) (goes (enum-told .given .1)) in
     let e1 : x / 255 ≡ a .name = omega arith in
-    let bx : x / 255 % (8 * n) ≡ b = ap (λ y. y % (8 * n)) e1 ∙ sym (bucket .ensures .0) in
-    let r : 5724 + 2 * n + i < 12288 + 11 * n = omega (arith, local-room deep room .0) in
+    let bx : x / 255 % (10 * n) ≡ b = ap (λ y. y % (10 * n)) e1 ∙ sym (bucket .ensures .0) in
+    let r : 5724 + 2 * n + i < 12288 + 10 * n = omega (arith, local-room deep room .0) in
     let pushed = pushed-by w n (5708 + n + p .block) i b x (s .long) (s .count) (s .few) (omega arith) (omega (arith, s .blocks)) r (bucket .ensures .1) in
     let hung = hung-by w n (5708 + n + p .block) i b x (s .long) (s .count) (s .few) (omega arith) (omega (arith, s .blocks)) r (bucket .ensures .1) in
     let linked = linked-push w _ n (p .block) b x (s .count) (s .blocks) r (bucket .ensures .1) bx pushed hung (s .linked) in

@@ -12,14 +12,14 @@ use Rattle.store.specs.Search.{found-of}
 use Rattle.store.proofs.Links.{head-within, turn-less, turn-self, walk-self, walk-start, walk-hit, walk-none, walk-miss, skip-start, skip-self, skip-next, skip-end}
 
 abbrev Inv-loop : tie.InvT-loop
-Inv-loop work nodes start end name b base i₀ i = (i ≤ i₀) × (latest work nodes (name % (8 * nodes)) (max i end) ≡ i)
+Inv-loop work nodes start end name b base i₀ i = (i ≤ i₀) × (latest work nodes (name % (10 * nodes)) (max i end) ≡ i)
 
 abbrev μ-loop : tie.MeasureT-loop
 μ-loop work nodes start end name b base i₀ i = i
 
 abbrev Inv-loop2 : tie.InvT-loop2
 Inv-loop2 work nodes start end name b base i₀ i =
-    (i ≤ end) × (latest work nodes (name % (8 * nodes)) i ≡ i) × ((m : ℕ) → i ≤ m → m < end → ¬ (local-at work nodes m .name ≡ name))
+    (i ≤ end) × (latest work nodes (name % (10 * nodes)) i ≡ i) × ((m : ℕ) → i ≤ m → m < end → ¬ (local-at work nodes m .name ≡ name))
 
 abbrev μ-loop2 : tie.MeasureT-loop2
 μ-loop2 work nodes start end name b base i₀ i = i
@@ -40,7 +40,7 @@ loop-holds c =
     let bucket = c .before .bucket in
     let a = start .args in
     let w = now (a .work) in
-    let k : ℕ = a .name % (8 * a .nodes) in
+    let k : ℕ = a .name % (10 * a .nodes) in
     let p = start .pre in
     let b = bucket .ensures in
     let e = c .half-at .ensures ∙ ap (λ x. head w (a .nodes) x) (b .0) in
@@ -67,7 +67,7 @@ loop-less c =
     let half-at = c .before .before .before .half-at in
     let a = start .args in
     let w = now (a .work) in
-    let k : ℕ = a .name % (8 * a .nodes) in
+    let k : ℕ = a .name % (10 * a .nodes) in
     let p = start .pre in
     let b = bucket .ensures in
     let u = head-within w (a .nodes) (p .blocks) (bucket .result) (p .linked) (b .1) in
@@ -83,7 +83,7 @@ loop-again c =
     let half-at = c .before .before .before .half-at in
     let a = start .args in
     let w = now (a .work) in
-    let k : ℕ = a .name % (8 * a .nodes) in
+    let k : ℕ = a .name % (10 * a .nodes) in
     let p = start .pre in
     let b = bucket .ensures in
     let u = head-within w (a .nodes) (p .blocks) (bucket .result) (p .linked) (b .1) in
@@ -99,7 +99,7 @@ loop2-holds c =
     let loop = c .before .loop in
     let a = start .args in
     let w = now (a .work) in
-    let k : ℕ = a .name % (8 * a .nodes) in
+    let k : ℕ = a .name % (10 * a .nodes) in
     let p = start .pre in
     let e = skip-end w (a .nodes) k (loop .i) (a .end) (c .loop-test .left) (loop .inv .1) in
     (c .loop-test .left, walk-self w (a .nodes) k (loop .i) (a .end) e, walk-start w (a .nodes) (a .name) (a .end) (loop .i) e)
@@ -137,7 +137,7 @@ loop2-less c =
     let loop2 = c .before .before .before .before .loop2 in
     let a = start .args in
     let w = now (a .work) in
-    let k : ℕ = a .name % (8 * a .nodes) in
+    let k : ℕ = a .name % (10 * a .nodes) in
     let p = start .pre in
     omega (arith, c .half-at3 .ensures, turn-less w (a .nodes) (p .blocks) k (loop2 .i) (p .linked) (omega arith) (omega (arith, p .within, loop2 .inv .0)) (loop2 .inv .1))
 
@@ -149,7 +149,7 @@ loop2-again c =
     let if1 = c .before .if1 in
     let a = start .args in
     let w = now (a .work) in
-    let k : ℕ = a .name % (8 * a .nodes) in
+    let k : ℕ = a .name % (10 * a .nodes) in
     let p = start .pre in
     let e = c .half-at3 .ensures in
     let l : loop2 .i ≤ edge w (a .nodes) (p .blocks) = omega (arith, p .within, loop2 .inv .0) in (
