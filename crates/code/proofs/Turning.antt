@@ -1,10 +1,10 @@
 -- What the scans do with one packed word: a continue, a break and a jump to the end are set, all else stays. Assumes nothing.
 use mathlib.Core.Path.{_≡_, refl, sym, ap, _∙_}
 use mathlib.Core.Bool.{Bool, true, false, _&&_}
-use Prim.Native.Nat.{ℕ, _-_, _/_, _%_, _<_}
+use Prim.Native.Nat.{ℕ, _+_, _-_, _*_, _/_, _%_, _<_}
 use native.Mathlib.Omega.{arith}
 use lib.Dec.{eqb}
-use borrow.Author.Tests.{eqb-true}
+use borrow.Author.Tests.{eqb-true, eq-eqb}
 use Rattle.store.specs.Layout.{unpacked}
 use Rattle.meaning.specs.Opcode.{wide, back, Jmp, is-continue, is-break, is-end-jump}
 use Rattle.meaning.specs.Chunk.{patch-jump, patch-end, jump-by}
@@ -14,6 +14,19 @@ use Rattle.code.specs.Words.{Packs, Turns}
 -- a jump's opcode
 jump-opcode : (x k : ℕ) → eqb (x % 256) 3 && eqb (x / 256 % 256) k ≡ true → x % 256 ≡ 3
 jump-opcode x k h = eqb-true (x % 256) 3 (and-left (eqb (x % 256) 3) (eqb (x / 256 % 256) k) h)
+
+-- the low half of a word is the opcode and a
+module _ (x k : ℕ) (small : k < 256) where
+  pub kind-is : x % 65536 ≡ 3 + 256 * k → eqb (x % 256) 3 && eqb (x / 256 % 256) k ≡ true
+  kind-is e = rw (eq-eqb (x % 256) 3 (omega arith), eq-eqb (x / 256 % 256) k (omega arith))
+
+  pub kind-not : ¬ (x % 65536 ≡ 3 + 256 * k) → eqb (x % 256) 3 && eqb (x / 256 % 256) k ≡ false
+  kind-not ne = cases (eqb (x % 256) 3) (eqb (x / 256 % 256) k) refl refl
+    where
+      cases : (b c : Bool) → eqb (x % 256) 3 ≡ b → eqb (x / 256 % 256) k ≡ c → b && c ≡ false
+      cases true true p q = absurd (ne (omega (arith, eqb-true (x % 256) 3 p, eqb-true (x / 256 % 256) k q)))
+      cases true false p q = refl
+      cases false c p q = refl
 
 module _ {x y : ℕ} (size i : ℕ) where
   pub turns-continue : is-continue (unpacked x 0) ≡ true → Packs y (wide Jmp 0 (back i)) → Turns x (patch-jump size i) y

@@ -1,12 +1,13 @@
 -- Pending code as words: what the inner functions promise.
 use Prim.Native.Nat.{ℕ, _+_, _-_, _*_, _<_, _≤_}
 use mathlib.Core.Path.{_≡_}
+use mathlib.Core.Bool.{Bool, true, false}
 use mathlib.Core.List.{List, [], _∷_, _++_}
 use lib.ListN.{length, getD, set, take, drop}
 use Rattle.store.specs.Table.{tab}
 use Rattle.store.specs.Layout.{top, unpacked, inst-at}
 use Rattle.meaning.specs.Opcode.{wide, back, Jmp}
-use Rattle.meaning.specs.Chunk.{patch-loop}
+use Rattle.meaning.specs.Chunk.{each-at, patch-jump, patch-loop, patch-end}
 use Rattle.meaning.specs.declared.Instruction.{Instruction}
 
 -- operands that fit their bytes
@@ -41,6 +42,15 @@ pub record Recoded (w : List ℕ) (n k k' : ℕ) (f : List Instruction → List 
 -- the code from `first` on, anew
 abbrev pub mended : (List Instruction → List Instruction) → ℕ → List Instruction → List Instruction
 mended f first l = take first l ++ f (drop first l)
+
+-- what a scan makes of instruction i of its size: a loop's continues and breaks, or an if's jumps to its end
+abbrev pub patch-by : Bool → (size i : ℕ) → Instruction → Instruction
+patch-by true = patch-jump
+patch-by false = patch-end
+
+-- every instruction in turn
+abbrev pub patched : Bool → List Instruction → List Instruction
+patched looped code = each-at (patch-by looped (length code)) 0 code
 
 -- the code of a loop, at its end: the jump back, the jump out, breaks and continues
 abbrev pub closed-loop : (first condition test mark : ℕ) → List Instruction → List Instruction

@@ -3,54 +3,30 @@ ghost use mathlib.Core.Path.{_≡_};
 ghost use Prim.Native.Nat.{_*_, _≤_};
 ghost use lib.ListN.{length};
 ghost use Rattle.meaning.specs.Chunk.{patch-jump, patch-loop, patch-end, patch-ends, patch-first};
-ghost use Rattle.store.specs.Layout.{top, unpacked};
-ghost use Rattle.code.specs.Words.{Turns, Recoded, mended};
+ghost use Rattle.store.specs.Layout.{top};
+ghost use Rattle.code.specs.Words.{Turns, Recoded, mended, patch-by, patched};
 use crate::JMP;
 use crate::word::jump_back;
 use crate::word::pack_wide;
-use meaning::Instruction;
 
-// A packed word, taken apart.
-fn unpack(x: u32) -> Instruction
-    ensures { λ r. ⌜ r ≡ unpacked x 0 ⌝ }
-{
-    Instruction {
-        opcode: (x % 256) as u8,
-        a: (x / 256 % 256) as u8,
-        b: (x / 65536 % 256) as u8,
-        c: (x / 16777216 % 256) as u8,
-        mark: 0,
-    }
-}
+// The low half of a continue's and of a break's word, by which fn is_continue and fn is_break go: the opcode and a.
+const CONTINUE: u32 = JMP + 256 * (instruction::JMP_CONTINUE as u32);
+
+const BREAK: u32 = JMP + 256 * (instruction::JMP_BREAK as u32);
 
 // "Patch continue and break": instruction i of a loop's `size`.
 fn patch_jump(x: u32, size: usize, i: usize) -> u32
     requires { ⌜ i ≤ size ⌝ }
     ensures { λ r. ⌜ Turns x (patch-jump size i) r ⌝ }
 {
-    let jump = unpack(x);
-    if instruction::is_continue(jump) {
+    let kind = x % 65536;
+    if kind == CONTINUE {
         return jump_back(i);
     }
-    if instruction::is_break(jump) {
+    if kind == BREAK {
         return pack_wide(JMP, 0, size - i);
     }
     x
-}
-
-// The jumps of a loop, whose code stands from `first` up to `end`.
-pub(crate) fn patch_loop(work: &mut [u32], nodes: usize, first: usize, end: usize)
-    requires { ⌜ (top nodes ≤ length (now work)) × (2 * end ≤ top nodes) × (first ≤ end) × (nodes ≤ 32768) ⌝ }
-    ensures { λ _. ⌜ Recoded (now (work .entry)) nodes end end (mended patch-loop first) (now (work .exit)) ⌝ }
-{
-    let top = 12288 + 10 * nodes;
-    let size = end - first;
-    let mut i = first;
-    while i < end {
-        let at = top - (2 * i + 2);
-        work[at] = patch_jump(work[at], size, i - first);
-        i += 1;
-    }
 }
 
 // "Jump to the next instruction after this chunk": instruction i of an if's `size`.
@@ -64,19 +40,45 @@ fn patch_end(x: u32, size: usize, i: usize) -> u32
     x
 }
 
-// The jumps to the end of an if, whose code stands from `first` up to `end`.
-pub(crate) fn patch_ends(work: &mut [u32], nodes: usize, first: usize, end: usize)
+fn patch(x: u32, looped: bool, size: usize, i: usize) -> u32
+    requires { ⌜ i ≤ size ⌝ }
+    ensures { λ r. ⌜ Turns x (patch-by looped size i) r ⌝ }
+{
+    if looped {
+        return patch_jump(x, size, i);
+    }
+    patch_end(x, size, i)
+}
+
+// The jumps of a loop, or of an if, whose code stands from `first` up to `end`.
+fn patch_each(work: &mut [u32], nodes: usize, first: usize, end: usize, looped: bool)
     requires { ⌜ (top nodes ≤ length (now work)) × (2 * end ≤ top nodes) × (first ≤ end) × (nodes ≤ 32768) ⌝ }
-    ensures { λ _. ⌜ Recoded (now (work .entry)) nodes end end (mended patch-ends first) (now (work .exit)) ⌝ }
+    ensures { λ _. ⌜ Recoded (now (work .entry)) nodes end end (mended (patched looped) first) (now (work .exit)) ⌝ }
 {
     let top = 12288 + 10 * nodes;
     let size = end - first;
     let mut i = first;
     while i < end {
         let at = top - (2 * i + 2);
-        work[at] = patch_end(work[at], size, i - first);
+        work[at] = patch(work[at], looped, size, i - first);
         i += 1;
     }
+}
+
+// The continues and breaks of a loop.
+pub(crate) fn patch_loop(work: &mut [u32], nodes: usize, first: usize, end: usize)
+    requires { ⌜ (top nodes ≤ length (now work)) × (2 * end ≤ top nodes) × (first ≤ end) × (nodes ≤ 32768) ⌝ }
+    ensures { λ _. ⌜ Recoded (now (work .entry)) nodes end end (mended patch-loop first) (now (work .exit)) ⌝ }
+{
+    patch_each(work, nodes, first, end, true);
+}
+
+// The jumps to the end of an if.
+pub(crate) fn patch_ends(work: &mut [u32], nodes: usize, first: usize, end: usize)
+    requires { ⌜ (top nodes ≤ length (now work)) × (2 * end ≤ top nodes) × (first ≤ end) × (nodes ≤ 32768) ⌝ }
+    ensures { λ _. ⌜ Recoded (now (work .entry)) nodes end end (mended patch-ends first) (now (work .exit)) ⌝ }
+{
+    patch_each(work, nodes, first, end, false);
 }
 
 // The first jump to the end of a try.

