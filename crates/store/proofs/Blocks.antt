@@ -14,7 +14,7 @@ use Rattle.store.specs.Layout.{registers, first, edge, local-at, block, 
 use Rattle.store.specs.Store.{open-at, around, state-of, run, deeper, Linked, Sound, Fine, Kept}
 use Rattle.store.specs.Promise.{nothing, Used, Moves, Leaf}
 use Rattle.store.proofs.Tables.{span-more, span-none}
-use Rattle.store.proofs.Regions.{Same, same-part, blocks-same, linked-same, constants-same, globals-same, code-same, around-by, open-by}
+use Rattle.store.proofs.Regions.{Same, same-part, locals-same, blocks-same, linked-same, constants-same, globals-same, code-same, around-by, open-by}
 use Rattle.store.proofs.Steady.{kept-by, taken-same}
 use Rattle.store.proofs.Runs.{due, promised, goes, stays, ran}
 use Rattle.meaning.specs.State.{Proto, done, and-then, _>>=_, get, set-current, with-blocks, enter-block}
@@ -31,8 +31,11 @@ pub record Opened (w w' : List ℕ) (p : Scope) : Type 0 where
   pub firsts : (j : ℕ) → j ≤ p .depth → first w' j ≡ first w j
 
 module _ {w w' : List ℕ} {p : Scope} (h : Sound w p) (lim : p .block < p .nodes + 10) (g : Opened w w' p) where
-  lower : Same w w' (5724 + 2 * p .nodes) (5724 + 2 * p .nodes + edge w (p .nodes) (p .block))
-  lower = record { same = λ i a b. g .other i (omega arith) (omega arith) }
+  registers-same : Same w w' 4688 (5708 + p .nodes)
+  registers-same = record { same = λ i a b. g .other i (omega arith) (omega arith) }
+
+  words-same : Same w w' (5724 + 2 * p .nodes) (5724 + 2 * p .nodes + edge w (p .nodes) (p .block))
+  words-same = record { same = λ i a b. g .other i (omega arith) (omega arith) }
 
   pub opened-edge : (i : ℕ) → i ≤ p .block → edge w' (p .nodes) i ≡ edge w (p .nodes) i
   opened-edge i l = g .other (5708 + p .nodes + i) (omega arith) (omega arith)
@@ -42,7 +45,7 @@ module _ {w w' : List ℕ} {p : Scope} (h : Sound w p) (lim : p .block < p .node
 
   pub opened-blocks : (a e : ℕ) → e ≤ p .block → span (block w' (p .nodes)) a e ≡ span (block w (p .nodes)) a e
   opened-blocks a e le =
-      blocks-same w w' (p .nodes) (p .block) (h .sorted) lower a e le (record { same = λ i x y. g .other i (omega arith) (omega arith) })
+      blocks-same w w' (p .nodes) (p .block) (h .sorted) (locals-same w w' (p .nodes) _ (h .count) registers-same words-same) a e le (record { same = λ i x y. g .other i (omega arith) (omega arith) })
 
   -- the new block is empty
   pub opened-new : block w' (p .nodes) (p .block) ≡ []
@@ -68,10 +71,9 @@ module _ {w w' : List ℕ} {p : Scope} (h : Sound w p) (lim : p .block < p .node
         starts = st;
         count = omega (arith, opened-top, h .count);
         linked =
-            linked-same w w' (p .nodes) (p .block) (p .block + 1) (omega (arith, h .count))
+            linked-same w w' (p .nodes) (p .block) (p .block + 1) (h .count) registers-same
             (record { same = λ i a b. g .other i (omega arith) (omega arith) })
-            (record { same = λ i a b. g .other i (omega arith) (omega arith) })
-            lower
+            words-same
             opened-top
             (λ e x y. older e x y (decLt e (p .block + 1)))
             (h .linked);

@@ -2,7 +2,7 @@
 use mathlib.Core.Path.{_≡_, refl, sym, ap, ap₂, _∙_}
 use mathlib.Core.Bool.{_&&_, Bool·beq}
 use mathlib.Core.List.{List, [], _∷_, _++_}
-use Prim.Native.Nat.{ℕ, zero, suc, _+_, _*_, _-_, _%_, _<_, _≤_}
+use Prim.Native.Nat.{ℕ, zero, suc, _+_, _*_, _-_, _/_, _%_, _<_, _≤_}
 use native.Mathlib.Omega.{arith}
 use native.Mathlib.Decide.{decLt}
 use lib.ListN.{length, getD, set, length-set}
@@ -12,11 +12,11 @@ use borrow.Author.Tests.{lt-ltb, le-ltb, eq-eqb, ne-eqb, le-leb, lt-leb}
 use Rattle.store.specs.declared.Found.the-variants.{At, Nothing, Full}
 use Rattle.store.specs.Half.{half, with-half}
 use Rattle.store.specs.Table.{tab, span}
-use Rattle.store.specs.Layout.{edge, local-of-word, block, first, held, capture-of, capture-at}
+use Rattle.store.specs.Layout.{edge, block, first, held, capture-of, capture-at}
 use Rattle.store.specs.Store.{open-at, around}
 use Rattle.store.specs.Search.{search-of, Caught, Added}
 use Rattle.store.proofs.Tables.{tab-none, tab-suc, tab-front, tab-length, tab-ext, span-ext}
-use Rattle.store.proofs.Halves.{half-same, half-other, half-apart, word-other, length-half}
+use Rattle.store.proofs.Halves.{half-same, half-other, half-apart, half-word, word-other, length-half}
 use Rattle.store.proofs.Regions.{around-same, below-256}
 use Rattle.meaning.specs.State.{capture-index, add-upvalue}
 
@@ -86,7 +86,7 @@ blocks-high w w' h n a e = span-ext _ _ a e one
     one i k m =
         let e0 : edge w' n i ≡ edge w n i = h (5708 + n + i) (omega arith) in
         let e1 : edge w' n (suc i) ≡ edge w n (suc i) = h (5708 + n + suc i) (omega arith) in
-        rw (e0, e1) (span-ext _ _ (edge w n i) (edge w n (suc i)) (λ x y z. ap local-of-word (h (5724 + 2 * n + x) (omega arith))))
+        rw (e0, e1) (span-ext _ _ (edge w n i) (edge w n (suc i)) (λ x y z. rw (h (5724 + 2 * n + x) (omega arith), half-word w w' (9376 + x) (h ((9376 + x) / 2) (omega arith)))))
 
 -- ---- an equal capture, no room, one more
 

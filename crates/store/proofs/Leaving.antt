@@ -12,7 +12,7 @@ use Rattle.store.specs.Layout.{registers, first, edge, block, inst-at, t
 use Rattle.store.specs.Store.{open-at, around, state-of, run, deeper, Sound, Fine, Kept}
 use Rattle.store.specs.Promise.{Cost, boxed, taken, Used, Moves, Popped}
 use Rattle.store.proofs.Tables.{span-more}
-use Rattle.store.proofs.Regions.{Same, blocks-same, constants-same, globals-same, code-same, around-by, open-by}
+use Rattle.store.proofs.Regions.{Same, locals-same, blocks-same, constants-same, globals-same, code-same, around-by, open-by}
 use Rattle.store.proofs.Steady.{kept-by, taken-same}
 use Rattle.store.proofs.Runs.{due, promised, goes, stays, ran}
 use Rattle.meaning.specs.State.{Proto, done, and-then, _>>=_, get, set-current, with-blocks, leave-block, rest}
@@ -73,7 +73,7 @@ module _ {w w' : List ℕ} (p : Scope) (h : Sound w (deeper p)) (g : Popped w p 
   pub popped-blocks : 5724 + 2 * p .nodes + edge w (p .nodes) (p .block) ≤ top (p .nodes) → (a e : ℕ) → e ≤ p .block → span (block w' (p .nodes)) a e ≡ span (block w (p .nodes)) a e
   popped-blocks room a e le =
       blocks-same w w' (p .nodes) (p .block) (λ i y. h .sorted i (omega arith))
-      (record { same = λ i x y. word i (omega arith) })
+      (locals-same w w' (p .nodes) _ (omega (arith, popped-rises, h .count)) (record { same = λ i x y. word i (omega arith) }) (record { same = λ i x y. word i (omega arith) }))
       a e le
       (record { same = λ i x y. word i (omega (arith, h .blocks)) })
 

@@ -16,8 +16,8 @@ use Rattle.store.specs.Layout.{edge, local-at, block, latest, link, head
 use Rattle.store.specs.Store.{Shadowed, Leads, Linked}
 use Rattle.store.specs.Search.{seek}
 use Rattle.store.proofs.Tables.{span-more, span-none}
-use Rattle.store.proofs.Halves.{half-same, half-other, half-small, half-word, word-other, length-half}
-use Rattle.store.proofs.Regions.{Same, same-part, latest-same, leads-same, edges-below}
+use Rattle.store.proofs.Halves.{half-same, half-other, word-other, length-half}
+use Rattle.store.proofs.Regions.{Locals, fewer, locals-same, latest-same, leads-same, edges-below}
 use Rattle.meaning.specs.State.{Local, local-in-block, local-of}
 
 -- ---- the latest of a bucket
@@ -160,25 +160,25 @@ module _ (w : List ℕ) (n b k i : ℕ) (h : Linked w n b) (some : 0 < i) (withi
   in-bucket : local-at w n (i - 1) .name % (10 * n) ≡ k
   in-bucket = let s : i ≡ suc (i - 1) = omega arith in latest-in w n k i (i - 1) (own ∙ s)
 
-  to : link w (i - 1) ≡ latest w n k (turn .back)
+  to : link w n (i - 1) ≡ latest w n k (turn .back)
   to = turn .leads ∙ ap (λ x. latest w n x (turn .back)) in-bucket
 
-  pub turn-less : link w (i - 1) < i
+  pub turn-less : link w n (i - 1) < i
   turn-less = omega (arith, to, turn .before, latest-le w n k (turn .back))
 
-  pub turn-self : latest w n k (link w (i - 1)) ≡ link w (i - 1)
-  turn-self = walk-self w n k (link w (i - 1)) (turn .back) (sym to)
+  pub turn-self : latest w n k (link w n (i - 1)) ≡ link w n (i - 1)
+  turn-self = walk-self w n k (link w n (i - 1)) (turn .back) (sym to)
 
   -- beyond the edge of a block all that is passed over is beyond it too
-  pub skip-next : (e end : ℕ) → e ≤ b → end ≡ edge w n e → end < i → latest w n k (max (link w (i - 1)) end) ≡ link w (i - 1)
+  pub skip-next : (e end : ℕ) → e ≤ b → end ≡ edge w n e → end < i → latest w n k (max (link w n (i - 1)) end) ≡ link w n (i - 1)
   skip-next e end l g m =
       let v = latest-le w n k (turn .back) in
       let u = turn .within e l (omega arith) in
-      latest-between w n k (turn .back) (max (link w (i - 1)) end) (omega (arith, to)) (omega (arith, to)) ∙ sym to
+      latest-between w n k (turn .back) (max (link w n (i - 1)) end) (omega (arith, to)) (omega (arith, to)) ∙ sym to
 
   -- below `end`, where all from i on have another name than the one that is sought: what is passed over is shadowed by one of them
   pub walk-miss : (name e end : ℕ) → name % (10 * n) ≡ k → e ≤ b → end ≡ edge w n e → i ≤ end → ((m : ℕ) → i ≤ m → m < end → ¬ (local-at w n m .name ≡ name)) → ¬ (local-at w n (i - 1) .name ≡ name)
-      → (m : ℕ) → link w (i - 1) ≤ m → m < end → ¬ (local-at w n m .name ≡ name)
+      → (m : ℕ) → link w n (i - 1) ≤ m → m < end → ¬ (local-at w n m .name ≡ name)
   walk-miss name e end kn eb ee le all ne m lo hi g = cases (decLt m (turn .back)) (decLt m (i - 1))
     where
       from-here : (j : ℕ) → i - 1 ≤ j → j < end → local-at w n j .name ≡ name → Dec (j ≡ i - 1) → ⊥
@@ -240,19 +240,16 @@ pub popping-start : {w : List ℕ} {n b : ℕ} (from i : ℕ) → from ≤ i →
 popping-start {w} {n} from i l e h = record { same = refl; other = λ j l. refl; heads = λ c m. record { back = i; low = l; high = omega arith; leads = h .heads c m ∙ ap (λ k. latest w n c k) (sym e) } }
 
 -- the link of the local that is popped becomes the head of its bucket; its block starts at edge e
-module _ (w w1 : List ℕ) (n e i k v b : ℕ) (linked : Linked w n b) (inner : e ≤ b) (from : edge w n e ≤ i) (within : i < edge w n b) (few : edge w n b ≤ n + 2040) (long : 12288 + 16 * n ≤ length w) (range : k < 10 * n) (own : local-at w n i .name % (10 * n) ≡ k) (back : v ≡ link w1 i)
+module _ (w w1 : List ℕ) (n e i k v b : ℕ) (linked : Linked w n b) (inner : e ≤ b) (from : edge w n e ≤ i) (within : i < edge w n b) (few : edge w n b ≤ n + 2040) (long : 12288 + 16 * n ≤ length w) (range : k < 10 * n) (own : local-at w n i .name % (10 * n) ≡ k) (back : v ≡ link w1 n i) (tiny : v < 65536)
     (g : Popping w w1 n (edge w n e) (suc i)) where
   old : Leads w n b i
   old = linked .links i within
 
   link-back : v ≡ latest w n k (old .back)
-  link-back = back ∙ half-word w w1 (9376 + i) (g .other ((9376 + i) / 2) (λ z. absurd (omega arith))) ∙ old .leads ∙ ap (λ c. latest w n c (old .back)) own
+  link-back = back ∙ ap (λ x. x / 65536) (g .other (5724 + 2 * n + i) (λ z. absurd (omega arith))) ∙ old .leads ∙ ap (λ c. latest w n c (old .back)) own
 
   inside : (24576 + 20 * n + k) / 2 < length w1
   inside = omega (arith, g .same)
-
-  tiny : v < 65536
-  tiny = omega (arith, back, half-small w1 (9376 + i))
 
   pub popping-next : Popping w (with-half w1 (24576 + 20 * n + k) v) n (edge w n e) i
   popping-next =
@@ -281,7 +278,7 @@ pub popping-end : {w w1 : List ℕ} {n i : ℕ} (b : ℕ) → i ≡ edge w n b �
 popping-end {w} {w1} {n} {i} b e blocks rises few h g =
     record {
       links = λ j l.
-          leads-same w w1 n (b + 1) b locals (λ x y z. (omega arith, edges x y)) j (omega (arith, edges b (omega arith))) (half-word w w1 (9376 + j) (g .other ((9376 + j) / 2) (λ z. absurd (omega (arith, edges b (omega arith))))))
+          leads-same w w1 n (b + 1) b locals (λ x y z. (omega arith, edges x y)) j (omega (arith, edges b (omega arith))) (ap (λ x. x / 65536) (g .other (5724 + 2 * n + j) (λ z. absurd (omega (arith, edges b (omega arith))))))
           (λ m x s. left j m l x s (decLt (s .by) (edge w n b)))
           (h .links j (omega (arith, edges b (omega arith))));
       heads = λ c l.
@@ -293,11 +290,11 @@ popping-end {w} {w1} {n} {i} b e blocks rises few h g =
     edges : (x : ℕ) → x ≤ b → edge w1 n x ≡ edge w n x
     edges x y = g .other (5708 + n + x) (λ z. absurd (omega arith))
 
-    locals : Same w w1 (5724 + 2 * n) (5724 + 2 * n + edge w n (b + 1))
-    locals = record { same = λ j a c. g .other j (λ z. absurd (omega arith)) }
+    locals : Locals w w1 n (edge w n (b + 1))
+    locals = locals-same w w1 n (edge w n (b + 1)) few (record { same = λ j a c. g .other j (λ z. absurd (omega arith)) }) (record { same = λ j a c. g .other j (λ z. absurd (omega arith)) })
 
-    lo : Same w w1 (5724 + 2 * n) (5724 + 2 * n + edge w n b)
-    lo = same-part (5724 + 2 * n) (5724 + 2 * n + edge w n b) (omega arith) (omega arith) locals
+    lo : Locals w w1 n (edge w n b)
+    lo = fewer (edge w n b) rises locals
 
     -- what shadows one that is left is left too
     left : (j m : ℕ) → j < edge w1 n b → m < j → (s : Shadowed w n (b + 1) j m) → Dec (s .by < edge w n b) → s .by < edge w1 n b

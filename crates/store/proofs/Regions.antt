@@ -7,7 +7,7 @@ use lib.ListN.{length, getD, set, length-set}
 use lib.Seq.{getD-set-other}
 use Rattle.store.specs.Half.{half}
 use Rattle.store.specs.Table.{tab, stack, span}
-use Rattle.store.specs.Layout.{constant-at, global-at, inst-at, edge, first, saved, held, capture-of, capture-at, local-at, local-of-word, block, latest, link, top}
+use Rattle.store.specs.Layout.{constant-at, global-at, inst-at, edge, first, saved, held, capture-of, capture-at, local-at, block, latest, link, top}
 use Rattle.store.specs.Store.{open-at, around, Shadowed, Leads, Linked}
 use Rattle.store.proofs.Tables.{tab-ext, stack-ext, span-ext}
 use Rattle.store.proofs.Halves.{half-word}
@@ -16,6 +16,16 @@ use Rattle.meaning.specs.State.{with-blocks}
 -- w' has the words of w from a up to b
 pub record Same (w w' : List ℕ) (a b : ℕ) : Type 0 where
   pub same : (i : ℕ) → a ≤ i → i < b → getD w' i 0 ≡ getD w i 0
+
+-- w' has the locals of w below k
+pub record Locals (w w' : List ℕ) (n k : ℕ) : Type 0 where
+  pub same : (i : ℕ) → i < k → local-at w' n i ≡ local-at w n i
+
+pub names : {w w' : List ℕ} {n k : ℕ} → Locals w w' n k → (i : ℕ) → i < k → local-at w' n i .name ≡ local-at w n i .name
+names h i l = ap (λ x. x .name) (h .same i l)
+
+pub fewer : {w w' : List ℕ} {n k : ℕ} (m : ℕ) → m ≤ k → Locals w w' n k → Locals w w' n m
+fewer m l h = record { same = λ i x. h .same i (omega arith) }
 
 -- w' has the words of w but for those from a up to b
 pub record Only (w w' : List ℕ) (a b : ℕ) : Type 0 where
@@ -80,11 +90,12 @@ module _ (w w' : List ℕ) where
   captures-same j n l h = tab-ext _ _ n (λ i k. ap (λ x. capture-of (x % 512)) (half-kept (6288 + 256 * j + i) h (omega arith) (omega arith)))
 
   -- the locals below k
-  pub local-same : (n k : ℕ) → Same w w' (5724 + 2 * n) (5724 + 2 * n + k) → (i : ℕ) → i < k → local-at w' n i ≡ local-at w n i
-  local-same n k h i l = ap local-of-word (h .same (5724 + 2 * n + i) (omega arith) (omega arith))
+  pub locals-same : (n k : ℕ) → k ≤ n + 2040 → Same w w' 4688 (5708 + n) → Same w w' (5724 + 2 * n) (5724 + 2 * n + k) → Locals w w' n k
+  locals-same n k few g h =
+      record { same = λ i l. rw (h .same (5724 + 2 * n + i) (omega arith) (omega arith), half-kept (9376 + i) g (omega arith) (omega arith)) }
 
   -- the blocks from a up to e, among b whose edges are in order
-  pub blocks-same : (n b : ℕ) → ((i : ℕ) → i < b → edge w n i ≤ edge w n (suc i)) → Same w w' (5724 + 2 * n) (5724 + 2 * n + edge w n b) → (a e : ℕ) → e ≤ b → Same w w' (5708 + n) (5709 + n + e) → span (block w' n) a e ≡ span (block w n) a e
+  pub blocks-same : (n b : ℕ) → ((i : ℕ) → i < b → edge w n i ≤ edge w n (suc i)) → Locals w w' n (edge w n b) → (a e : ℕ) → e ≤ b → Same w w' (5708 + n) (5709 + n + e) → span (block w' n) a e ≡ span (block w n) a e
   blocks-same n b sorted l a e le h = span-ext _ _ a e one
     where
       one : (i : ℕ) → a ≤ i → i < e → block w' n i ≡ block w n i
@@ -92,52 +103,52 @@ module _ (w w' : List ℕ) where
           let e0 : edge w' n i ≡ edge w n i = h .same (5708 + n + i) (omega arith) (omega arith) in
           let e1 : edge w' n (suc i) ≡ edge w n (suc i) = h .same (5708 + n + suc i) (omega arith) (omega arith) in
           let u = edges-below w n b sorted (suc i) (omega arith) in
-          rw (e0, e1) (span-ext _ _ (edge w n i) (edge w n (suc i)) (λ x y z. local-same n (edge w n b) l x (omega arith)))
+          rw (e0, e1) (span-ext _ _ (edge w n i) (edge w n (suc i)) (λ x y z. l .same x (omega arith)))
 
   -- ---- links and heads
 
-  pub latest-same : (n b k : ℕ) → Same w w' (5724 + 2 * n) (5724 + 2 * n + k) → latest w' n b k ≡ latest w n b k
+  pub latest-same : (n b k : ℕ) → Locals w w' n k → latest w' n b k ≡ latest w n b k
   unfolding latest
   latest-same n b zero h = refl
-  latest-same n b (suc k) h =
-      rw (h .same (5724 + 2 * n + k) (omega arith) (omega arith), latest-same n b k (same-part (5724 + 2 * n) (5724 + 2 * n + k) (omega arith) (omega arith) h))
+  latest-same n b (suc k) h = rw (names h k (omega arith), latest-same n b k (fewer k (omega arith) h))
 
   -- among more blocks or fewer: the edges of those locals are the same
-  module _ (n b b' : ℕ) (lo : Same w w' (5724 + 2 * n) (5724 + 2 * n + edge w n b)) (es : (e : ℕ) → e ≤ b' → edge w' n e < edge w n b → (e ≤ b) × (edge w' n e ≡ edge w n e)) where
+  module _ (n b b' : ℕ) (lo : Locals w w' n (edge w n b)) (es : (e : ℕ) → e ≤ b' → edge w' n e < edge w n b → (e ≤ b) × (edge w' n e ≡ edge w n e)) where
     pub shadowed-same : (i j : ℕ) → j < edge w n b → (s : Shadowed w n b i j) → s .by < edge w' n b' → Shadowed w' n b' i j
     shadowed-same i j l s m =
         record {
           by = s .by;
           later = s .later;
           inside = m;
-          same = rw (lo .same (5724 + 2 * n + s .by) (omega arith) (omega (arith, s .inside)), lo .same (5724 + 2 * n + j) (omega arith) (omega arith)) (s .same);
+          same = names lo (s .by) (s .inside) ∙ s .same ∙ sym (names lo j l);
           together = λ e x y. let z = es e x (omega (arith, s .inside)) in omega (arith, z .1, s .together e (z .0) (omega (arith, z .1)));
         }
 
-    pub leads-same : (i : ℕ) → i < edge w n b → link w' i ≡ link w i → ((j : ℕ) → j < i → (s : Shadowed w n b i j) → s .by < edge w' n b') → Leads w n b i → Leads w' n b' i
+    pub leads-same : (i : ℕ) → i < edge w n b → link w' n i ≡ link w n i → ((j : ℕ) → j < i → (s : Shadowed w n b i j) → s .by < edge w' n b') → Leads w n b i → Leads w' n b' i
     leads-same i l lk fits h =
-        let wi = lo .same (5724 + 2 * n + i) (omega arith) (omega arith) in
+        let wi = names lo i l in
         record {
           back = h .back;
           before = h .before;
           within = λ e x y. let z = es e x (omega arith) in omega (arith, z .1, h .within e (z .0) (omega (arith, z .1)));
           shadowed = λ j x y z.
-              let wj = lo .same (5724 + 2 * n + j) (omega arith) (omega arith) in
+              let wj = names lo j (omega arith) in
               let s = h .shadowed j x y (rw (wj, wi) at z) in
               shadowed-same i j (omega arith) s (fits j y s);
           leads =
               lk
               ∙ h .leads
               ∙ sym
-              (ap (λ x. latest w' n (x / 255 % (10 * n)) (h .back)) wi
-              ∙ latest-same n (local-at w n i .name % (10 * n)) (h .back) (same-part (5724 + 2 * n) (5724 + 2 * n + h .back) (omega arith) (omega (arith, h .before)) lo));
+              (ap (λ x. latest w' n (x % (10 * n)) (h .back)) wi
+              ∙ latest-same n (local-at w n i .name % (10 * n)) (h .back) (fewer (h .back) (omega (arith, h .before)) lo));
         }
 
-  pub linked-same : (n b b' : ℕ) → edge w n b ≤ 2040 + 2 * n → Same w w' 4688 (5708 + n) → Same w w' (12288 + 10 * n) (12288 + 15 * n) → Same w w' (5724 + 2 * n) (5724 + 2 * n + edge w n b) → edge w' n b' ≡ edge w n b
+  pub linked-same : (n b b' : ℕ) → edge w n b ≤ n + 2040 → Same w w' 4688 (5708 + n) → Same w w' (12288 + 10 * n) (12288 + 15 * n) → Same w w' (5724 + 2 * n) (5724 + 2 * n + edge w n b) → edge w' n b' ≡ edge w n b
       → ((e : ℕ) → e ≤ b' → edge w' n e < edge w n b → (e ≤ b) × (edge w' n e ≡ edge w n e)) → Linked w n b → Linked w' n b'
-  linked-same n b b' l hl hh lo top es h =
+  linked-same n b b' l hr hh hl top es h =
+      let lo = locals-same n (edge w n b) l hr hl in
       record {
-        links = λ i x. leads-same n b b' lo es i (omega arith) (half-kept (9376 + i) hl (omega arith) (omega arith)) (λ j y s. omega (arith, s .inside)) (h .links i (omega arith));
+        links = λ i x. leads-same n b b' lo es i (omega arith) (ap (λ y. y / 65536) (hl .same (5724 + 2 * n + i) (omega arith) (omega arith))) (λ j y s. omega (arith, s .inside)) (h .links i (omega arith));
         heads = λ c x. half-kept (24576 + 20 * n + c) hh (omega arith) (omega arith) ∙ h .heads c x ∙ sym (ap (λ k. latest w' n c k) top ∙ latest-same n c (edge w n b) lo);
       }
 

@@ -5,19 +5,19 @@ use mathlib.Core.List.{List}
 use Prim.Native.Nat.{ℕ, suc, _+_, _*_, _-_, _/_, _%_, _<_, _≤_}
 use native.Mathlib.Omega.{arith}
 use native.Mathlib.Decide.{decLt, ℕ-discrete}
-use lib.ListN.{length, getD}
+use lib.ListN.{length, getD, set, length-set}
+use lib.Seq.{getD-set-same, getD-set-other}
 use Rattle.store.specs.declared.Scope.{Scope}
-use Rattle.store.specs.Half.{with-half}
 use Rattle.store.specs.Layout.{edge, local-at, latest, link}
 use Rattle.store.specs.Store.{Shadowed, Leads, Linked, Sound}
 use Rattle.store.specs.Promise.{Latest, Unlinked}
-use Rattle.store.proofs.Halves.{half-same, half-other, half-small, word-other, length-half}
-use Rattle.store.proofs.Regions.{Same, shadowed-same, leads-same, latest-same, edges-below}
+use Rattle.store.proofs.Halves.{half-apart}
+use Rattle.store.proofs.Regions.{Locals, names, fewer, shadowed-same, leads-same, latest-same, edges-below}
 use Rattle.store.proofs.Links.{latest-le, latest-in, latest-gap}
 
 -- ---- where l leads
 
-module _ (w : List ℕ) (n k l e : ℕ) (h : Linked w n k) (inside : l < edge w n k) (to : link w l ≡ suc e) where
+module _ (w : List ℕ) (n k l e : ℕ) (h : Linked w n k) (inside : l < edge w n k) (to : link w n l ≡ suc e) where
   here : Leads w n k l
   here = h .links l inside
 
@@ -68,74 +68,84 @@ module _ (w : List ℕ) (n k l e : ℕ) (h : Linked w n k) (inside : l < edge w 
         cases (no a) (no b) = above j (omega arith) y z
 
     module _ (blocks : k ≤ n + 10) (few : edge w n k ≤ n + 2040) (long : 12288 + 16 * n ≤ length w) where
+      -- the word of local l: where e led to, and the name that it had
+      abbrev at : ℕ
+      at = 5724 + 2 * n + l
+
+      abbrev x : ℕ
+      x = link w n e * 65536 + getD w at 0 % 65536
+
       abbrev w' : List ℕ
-      w' = with-half w (9376 + l) (link w e)
+      w' = set w at x
 
-      pub other : (i : ℕ) → (4688 ≤ i → 5708 + n ≤ i) → getD w' i 0 ≡ getD w i 0
-      other i x = word-other w (9376 + l) i (link w e) (λ y. let z = x (omega arith) in omega arith)
+      pub other : (i : ℕ) → ¬ (i ≡ at) → getD w' i 0 ≡ getD w i 0
+      other i y = getD-set-other w at i x 0 y
 
-      edges : (i : ℕ) → edge w' n i ≡ edge w n i
-      edges i = other (5708 + n + i) (λ z. omega arith)
+      here' : getD w' at 0 ≡ x
+      here' = getD-set-same w at x 0 (omega arith)
 
-      lo : Same w w' (5724 + 2 * n) (5724 + 2 * n + edge w n k)
-      lo = record { same = λ i x y. other i (λ z. omega arith) }
+      edges : (i : ℕ) → i ≤ k → edge w' n i ≡ edge w n i
+      edges i y = other (5708 + n + i) (omega arith)
+
+      pub locals : Locals w w' n (edge w n k)
+      locals = record { same = λ i y. one i y (ℕ-discrete i l) }
+        where
+          own : getD w' at 0 % 65536 ≡ getD w at 0 % 65536
+          own = omega (arith, here')
+
+          one : (i : ℕ) → i < edge w n k → Dec (i ≡ l) → local-at w' n i ≡ local-at w n i
+          one i m (yes y) = rw (y, own, half-apart w at x (9376 + l) (omega arith))
+          one i m (no y) = rw (other (5724 + 2 * n + i) (omega arith), half-apart w at x (9376 + i) (omega arith))
 
       es : (q : ℕ) → q ≤ k → edge w' n q < edge w n k → (q ≤ k) × (edge w' n q ≡ edge w n q)
-      es q x y = (x, edges q)
-
-      fits : (9376 + l) / 2 < length w
-      fits = omega arith
-
-      link-other : (i : ℕ) → ¬ (i ≡ l) → link w' i ≡ link w i
-      link-other i x = half-other w (9376 + l) (link w e) fits (half-small w (9376 + e)) (9376 + i) (omega arith)
-
-      words : (i : ℕ) → getD w' (5724 + 2 * n + i) 0 ≡ getD w (5724 + 2 * n + i) 0
-      words i = other (5724 + 2 * n + i) (λ z. omega arith)
+      es q y z = (y, edges q y)
 
       beyond : Leads w' n k l
       beyond =
           record {
             back = there .back;
             before = omega (arith, there .before, next-less);
-            within = λ q x y. omega (arith, edges q, there .within q x (below q x (omega (arith, edges q))));
-            shadowed = λ j x y z.
-                let s = passed j x y (rw (words j, words l) at z) in
-                shadowed-same w w' n k k lo es l j (omega arith) s (omega (arith, s .inside, edges k));
+            within = λ q y z. omega (arith, edges q y, there .within q y (below q y (omega (arith, edges q y))));
+            shadowed = λ j y z q.
+                let s = passed j y z (rw (names locals j (omega arith), names locals l inside) at q) in
+                shadowed-same w w' n k k locals es l j (omega arith) s (omega (arith, s .inside, edges k (omega arith)));
             leads =
-                half-same w (9376 + l) (link w e) fits (half-small w (9376 + e))
+                here-link
                 ∙ there .leads
                 ∙ ap (λ b. latest w n b (there .back)) next-in
-                ∙ sym (ap (λ x. latest w' n (x / 255 % (10 * n)) (there .back)) (words l) ∙ latest-same w w' n (local-at w n l .name % (10 * n)) (there .back) (record { same = λ i x y. other i (λ z. omega arith) }));
+                ∙ sym (ap (λ y. latest w' n (y % (10 * n)) (there .back)) (names locals l inside) ∙ latest-same w w' n (local-at w n l .name % (10 * n)) (there .back) (fewer (there .back) (omega (arith, there .before, next-less)) locals));
           }
+        where
+          here-link : link w' n l ≡ link w n e
+          here-link = omega (arith, here')
 
       pub unlinked : Linked w' n k
       unlinked =
           record {
-            links = λ i x. links i (omega (arith, edges k)) (ℕ-discrete i l);
-            heads = λ b x.
-                half-other w (9376 + l) (link w e) fits (half-small w (9376 + e)) (24576 + 20 * n + b) (omega arith)
-                ∙ h .heads b x
-                ∙ sym (ap (λ m. latest w' n b m) (edges k) ∙ latest-same w w' n b (edge w n k) lo);
+            links = λ i y. links i (omega (arith, edges k (omega arith))) (ℕ-discrete i l);
+            heads = λ b y. half-apart w at x (24576 + 20 * n + b) (omega arith) ∙ h .heads b y ∙ sym (ap (λ m. latest w' n b m) (edges k (omega arith)) ∙ latest-same w w' n b (edge w n k) locals);
           }
         where
           links : (i : ℕ) → i < edge w n k → Dec (i ≡ l) → Leads w' n k i
-          links i x (yes y) = rw y beyond
-          links i x (no y) = leads-same w w' n k k lo es i x (link-other i y) (λ j m s. omega (arith, s .inside, edges k)) (h .links i x)
+          links i y (yes z) = rw z beyond
+          links i y (no z) =
+              leads-same w w' n k k locals es i y (ap (λ u. u / 65536) (other (5724 + 2 * n + i) (omega arith))) (λ j m s. omega (arith, s .inside, edges k (omega arith))) (h .links i y)
 
 -- ---- in a scope
 
 -- a link leads back
-pub link-le : {w : List ℕ} {n k : ℕ} (l : ℕ) → Linked w n k → l < edge w n k → link w l ≤ l
+pub link-le : {w : List ℕ} {n k : ℕ} (l : ℕ) → Linked w n k → l < edge w n k → link w n l ≤ l
 link-le {w} {n} l h x = let g = h .links l x in omega (arith, g .before, g .leads, latest-le w n (local-at w n l .name % (10 * n)) (g .back))
 
-pub taken-out : {w : List ℕ} {p : Scope} {name : ℕ} (l e : ℕ) → Sound w p → Latest w p name → l < edge w (p .nodes) (p .block) → link w l ≡ suc e → edge w (p .nodes) (p .block - 1) ≤ e → local-at w (p .nodes) e .name ≡ name → Unlinked w p (with-half w (9376 + l) (link w e))
+pub taken-out : {w : List ℕ} {p : Scope} {name : ℕ} (l e : ℕ) → Sound w p → Latest w p name → l < edge w (p .nodes) (p .block) → link w (p .nodes) l ≡ suc e → edge w (p .nodes) (p .block - 1) ≤ e → local-at w (p .nodes) e .name ≡ name → Unlinked w p (set w (5724 + 2 * p .nodes + l) (link w (p .nodes) e * 65536 + getD w (5724 + 2 * p .nodes + l) 0 % 65536))
 taken-out {w} {p} l e s g inside to from own =
     let some : 0 < p .block = omega (arith, s .starts 0 (omega arith)) in
     let c : ℕ = edge w (p .nodes) (p .block) - 1 in
     let last : edge w (p .nodes) (p .block) ≡ suc c = omega (arith, g .here) in
     let same = own ∙ sym (g .named) in
     record {
-      same = length-half w (9376 + l) (link w e);
-      other = other w (p .nodes) (p .block) l e (s .linked) inside to some (s .sorted) c last from same (s .blocks) (s .count) (s .long);
+      same = length-set w (5724 + 2 * p .nodes + l) (link w (p .nodes) e * 65536 + getD w (5724 + 2 * p .nodes + l) 0 % 65536);
+      other = λ i y. other w (p .nodes) (p .block) l e (s .linked) inside to some (s .sorted) c last from same (s .blocks) (s .count) (s .long) i (λ z. let u = y (omega arith) in omega arith);
+      locals = locals w (p .nodes) (p .block) l e (s .linked) inside to some (s .sorted) c last from same (s .blocks) (s .count) (s .long) .same;
       linked = unlinked w (p .nodes) (p .block) l e (s .linked) inside to some (s .sorted) c last from same (s .blocks) (s .count) (s .long);
     }

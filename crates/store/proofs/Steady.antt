@@ -10,7 +10,7 @@ use Rattle.store.specs.Table.{span}
 use Rattle.store.specs.Layout.{registers, first, saved, edge, block}
 use Rattle.store.specs.Store.{open-at, around, while-going, written-by, result-limit, Linked, Sound, Fine, Kept}
 use Rattle.store.specs.Promise.{taken}
-use Rattle.store.proofs.Regions.{Same, Only, blocks-same, linked-same, around-by, open-by}
+use Rattle.store.proofs.Regions.{Same, Only, locals-same, blocks-same, linked-same, around-by, open-by}
 
 -- ---- the invariants
 
@@ -70,8 +70,11 @@ abbrev pub Clear : (w : List ℕ) (p : Scope) (a b : ℕ) → Type 0
 Clear w p a b = ((c : ℕ) → 4688 ≤ c → c < 5724 + 2 * p .nodes + edge w (p .nodes) (p .block) → a ≤ c → b ≤ c) × ((c : ℕ) → 12288 + 10 * p .nodes ≤ c → a ≤ c → b ≤ c)
 
 module _ {w w' : List ℕ} {p : Scope} {a b : ℕ} (h : Sound w p) (only : Only w w' a b) (clear : Clear w p a b) (firsts : (j : ℕ) → j ≤ p .depth → first w' j ≡ first w j) where
-  clear-locals : Same w w' (5724 + 2 * p .nodes) (5724 + 2 * p .nodes + edge w (p .nodes) (p .block))
-  clear-locals = record { same = λ i x y. only .other i (clear .0 i (omega arith) y) }
+  clear-registers : Same w w' 4688 (5708 + p .nodes)
+  clear-registers = record { same = λ i x y. only .other i (clear .0 i x (omega arith)) }
+
+  clear-words : Same w w' (5724 + 2 * p .nodes) (5724 + 2 * p .nodes + edge w (p .nodes) (p .block))
+  clear-words = record { same = λ i x y. only .other i (clear .0 i (omega arith) y) }
 
   pub clear-edges : (i : ℕ) → i ≤ p .block → edge w' (p .nodes) i ≡ edge w (p .nodes) i
   clear-edges i x = only .other (5708 + p .nodes + i) (clear .0 (5708 + p .nodes + i) (omega arith) (omega (arith, h .blocks)))
@@ -79,10 +82,9 @@ module _ {w w' : List ℕ} {p : Scope} {a b : ℕ} (h : Sound w p) (only : Only 
   pub sound-clear : Sound w' p
   sound-clear =
       sound-again h (only .length) firsts clear-edges
-      (linked-same w w' (p .nodes) (p .block) (p .block) (omega (arith, h .count))
-      (record { same = λ i x y. only .other i (clear .0 i x (omega arith)) })
+      (linked-same w w' (p .nodes) (p .block) (p .block) (h .count) clear-registers
       (record { same = λ i x y. only .other i (clear .1 i x) })
-      clear-locals
+      clear-words
       (clear-edges (p .block) (omega arith))
       (λ e l z. (l, clear-edges e l))
       (h .linked))
@@ -94,7 +96,7 @@ module _ {w w' : List ℕ} {p : Scope} {a b : ℕ} (h : Sound w p) (only : Only 
   -- the blocks of the open functions
   pub clear-blocks : (x e : ℕ) → e ≤ p .block → span (block w' (p .nodes)) x e ≡ span (block w (p .nodes)) x e
   clear-blocks x e le =
-      blocks-same w w' (p .nodes) (p .block) (h .sorted) clear-locals x e le (record { same = λ i y z. only .other i (clear .0 i (omega arith) (omega (arith, h .blocks))) })
+      blocks-same w w' (p .nodes) (p .block) (h .sorted) (locals-same w w' (p .nodes) _ (h .count) clear-registers clear-words) x e le (record { same = λ i y z. only .other i (clear .0 i (omega arith) (omega (arith, h .blocks))) })
 
 -- ---- a change that is apart from frames and captures too: the functions are as they were
 

@@ -43,7 +43,7 @@ module _ (w w' : List ℕ) (p : Scope) (s : Step) (fine : Fine w p s) (deep : p 
   caught-fine =
       fine-words fine
       (sound-again (fine .sound) (caught .same) firsts (λ i l. edge-kept i)
-      (linked-same w w' (p .nodes) (p .block) (p .block) (omega (arith, fine .sound .count))
+      (linked-same w w' (p .nodes) (p .block) (p .block) (fine .sound .count)
       (record { same = λ i a b. caught .high i (omega arith) })
       (record { same = λ i a b. caught .high i (omega arith) })
       (record { same = λ i a b. caught .high i (omega arith) })

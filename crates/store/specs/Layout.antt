@@ -5,9 +5,9 @@
 --     3,072          72                    frames: 9 of eight words: name, registers, captures held, first block, loops of the function around it
 --     3,144          1,024                 captures: 8 x 256 halves
 --     4,168          520                   globals: halves
---     4,688          1,020 + n             links: a half for each local
+--     4,688          1,020 + n             registers of locals: halves
 --     5,708 + n      16 + n                edges of blocks: block i has the locals from edge i up to edge i + 1
---     5,724 + 2 n    up to 12,288 + 10 n   locals upward, a word each; pending code downward, two words an instruction
+--     5,724 + 2 n    up to 12,288 + 10 n   locals upward, a word each: link and name; pending code downward, two words an instruction
 --     12,288 + 10 n  5 n                   heads: 10 n halves
 --     12,288 + 15 n  n                     the nodes' offsets in the tree
 --
@@ -80,13 +80,9 @@ global-at w i = half w (8336 + i)
 abbrev pub edge : List ℕ → (n i : ℕ) → ℕ
 edge w n i = getD w (5708 + n + i) 0
 
--- a local's register is one that was taken, so below 255
-abbrev pub local-of-word : ℕ → Local
-local-of-word x = record { name = x / 255; register = x % 255 }
-
--- local i, the earliest of all open functions being 0
+-- local i, the earliest of all open functions being 0; its register is one that was taken, so below 255
 abbrev pub local-at : List ℕ → (n i : ℕ) → Local
-local-at w n i = local-of-word (getD w (5724 + 2 * n + i) 0)
+local-at w n i = record { name = getD w (5724 + 2 * n + i) 0 % 65536; register = half w (9376 + i) % 255 }
 
 -- block i; the latest local first
 abbrev pub block : List ℕ → (n i : ℕ) → List Local
@@ -98,8 +94,8 @@ latest w n b zero = 0
 latest w n b (suc k) = cond (eqb (local-at w n k .name % (10 * n)) b) (suc k) (latest w n b k)
 
 -- the link of local i: the latest before it in its bucket, but for those that a later one of their name and block shadows
-abbrev pub link : List ℕ → ℕ → ℕ
-link w i = half w (9376 + i)
+abbrev pub link : List ℕ → (n i : ℕ) → ℕ
+link w n i = getD w (5724 + 2 * n + i) 0 / 65536
 
 -- the head of bucket b: the latest of all locals in it
 abbrev pub head : List ℕ → (n b : ℕ) → ℕ

@@ -153,7 +153,8 @@ pub record Latest (w : List ℕ) (p : Scope) (name : ℕ) : Type 0 where
 -- a local that the latest one shadows may have been taken out of the links: nothing but links changed
 pub record Unlinked (w : List ℕ) (p : Scope) (w' : List ℕ) : Type 0 where
   pub same : length w' ≡ length w
-  pub other : (i : ℕ) → (4688 ≤ i → 5708 + p .nodes ≤ i) → getD w' i 0 ≡ getD w i 0
+  pub other : (i : ℕ) → (5724 + 2 * p .nodes ≤ i → 5724 + 2 * p .nodes + edge w (p .nodes) (p .block) ≤ i) → getD w' i 0 ≡ getD w i 0
+  pub locals : (i : ℕ) → i < edge w (p .nodes) (p .block) → local-at w' (p .nodes) i ≡ local-at w (p .nodes) i
   pub linked : Linked w' (p .nodes) (p .block)
 
 -- the cost of a step inside a block: its locals are given back

@@ -155,7 +155,7 @@ pub record Leads (w : List ℕ) (n b i : ℕ) : Type 0 where
   pub before : back ≤ i
   pub within : (e : ℕ) → e ≤ b → edge w n e ≤ i → edge w n e ≤ back
   pub shadowed : (j : ℕ) → back ≤ j → j < i → local-at w n j .name % (10 * n) ≡ local-at w n i .name % (10 * n) → Shadowed w n b i j
-  pub leads : link w i ≡ latest w n (local-at w n i .name % (10 * n)) back
+  pub leads : link w n i ≡ latest w n (local-at w n i .name % (10 * n)) back
 
 -- the locals of the first b blocks are linked by the bucket of their name
 pub record Linked (w : List ℕ) (n b : ℕ) : Type 0 where

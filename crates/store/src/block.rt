@@ -8,7 +8,6 @@ ghost use Rattle.store.specs.Store.{deeper, Sound, Fine, Kept};
 ghost use Rattle.store.specs.Promise.{nothing, Leaf, Popped};
 use crate::Scope;
 use crate::Step;
-use crate::half::half_at;
 use crate::half::set_half;
 use crate::local::bucket;
 
@@ -38,9 +37,8 @@ pub fn leave_block(work: &mut [u32], scope: Scope)
     let mut i = work[at + 1] as usize;
     while from < i {
         i -= 1;
-        let name = (work[5724 + 2 * nodes + i] / 255) as usize;
-        let b = bucket(name, nodes);
-        let before = half_at(work, 9376 + i);
-        set_half(work, 24576 + 20 * nodes + b, before);
+        let x = work[5724 + 2 * nodes + i];
+        let b = bucket((x % 65536) as usize, nodes);
+        set_half(work, 24576 + 20 * nodes + b, x / 65536);
     }
 }

@@ -34,15 +34,15 @@ pub(crate) fn look(work: &[u32], nodes: usize, start: usize, end: usize, name: u
     let base = 5724 + 2 * nodes;
     let mut i = half_at(work, 24576 + 20 * nodes + b) as usize;
     while end < i {
-        i = half_at(work, 9376 + (i - 1)) as usize;
+        i = (work[base + (i - 1)] / 65536) as usize;
     }
     while start < i {
         let x = work[base + (i - 1)];
-        let its = (x / 255) as usize;
+        let its = (x % 65536) as usize;
         if its == name {
-            return Found::At(x % 255);
+            return Found::At(half_at(work, 9376 + (i - 1)) % 255);
         }
-        i = half_at(work, 9376 + (i - 1)) as usize;
+        i = (x / 65536) as usize;
     }
     Found::Nothing
 }
@@ -67,18 +67,19 @@ fn unlink(work: &mut [u32], scope: Scope, name: usize)
 {
     let nodes = scope.nodes;
     let at = 5708 + nodes + scope.block;
+    let base = 5724 + 2 * nodes;
     let from = work[at - 1] as usize;
     let mut last = work[at] as usize - 1;
-    let mut next = half_at(work, 9376 + last) as usize;
+    let mut next = (work[base + last] / 65536) as usize;
     while from < next {
-        let beyond = half_at(work, 9376 + (next - 1));
-        let its = (work[5724 + 2 * nodes + (next - 1)] / 255) as usize;
+        let x = work[base + (next - 1)];
+        let its = (x % 65536) as usize;
         if its == name {
-            set_half(work, 9376 + last, beyond);
+            work[base + last] = x / 65536 * 65536 + work[base + last] % 65536;
             return;
         }
         last = next - 1;
-        next = beyond as usize;
+        next = (x / 65536) as usize;
     }
 }
 
@@ -98,9 +99,9 @@ pub fn allocate_register(work: &mut [u32], step: Step, scope: Scope, name: usize
     let b = bucket(name, nodes);
     let head = 24576 + 20 * nodes + b;
     let before = half_at(work, head);
-    set_half(work, 9376 + i, before);
+    set_half(work, 9376 + i, register);
     set_half(work, head, count + 1);
-    work[5724 + 2 * nodes + i] = (name as u32) * 255 + register;
+    work[5724 + 2 * nodes + i] = before * 65536 + name as u32;
     work[at] = count + 1;
     unlink(work, scope, name);
 }

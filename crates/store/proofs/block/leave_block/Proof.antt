@@ -3,13 +3,12 @@
 use borrow.Author.Needs.{needs}
 use Rattle.store.proofs.block.leave_block.Statement.{statement}
 use Rattle.store.proofs.block.leave_block.Tie as tie
-use Prim.Native.Nat.{ℕ, suc, _+_, _-_, _*_, _/_, _%_, _≤_}
-use mathlib.Core.Path.{_≡_, sym, ap, _∙_}
+use Prim.Native.Nat.{ℕ, suc, _+_, _-_, _*_, _%_, _≤_}
+use mathlib.Core.Path.{_≡_, refl, sym, ap, _∙_}
 use native.Mathlib.Omega.{arith}
 use denote.Ref.{now}
 use lib.ListN.{getD}
 use Rattle.store.specs.Layout.{local-at}
-use Rattle.store.proofs.Halves.{half-small}
 use Rattle.store.proofs.Links.{Popping, popping-start, popping-next, popping-end}
 use Rattle.store.proofs.Blocks.{leaving}
 
@@ -34,57 +33,38 @@ loop-holds c =
     let start = c .before .before .before .before in
     (omega arith, leaving (start .pre) .rises, popping-start _ _ (leaving (start .pre) .rises) (leaving (start .pre) .ends) (leaving (start .pre) .linked))
 
-add-name-2 : tie.Need-add-name-2 Inv-loop μ-loop
-add-name-2 c =
+add-x-2 : tie.Need-add-x-2 Inv-loop μ-loop
+add-x-2 c =
     let start = c .before .before .before .before .before .before in
     let loop = c .before .loop in
     omega (arith, leaving (start .pre) .fits, leaving (start .pre) .few, loop .inv .0)
 
-mul-name-2 : tie.Need-mul-name-2 Inv-loop μ-loop
-mul-name-2 c =
+mul-x-2 : tie.Need-mul-x-2 Inv-loop μ-loop
+mul-x-2 c =
     let start = c .before .before .before .before .before .before in
     let loop = c .before .loop in
     omega (arith, leaving (start .pre) .fits, leaving (start .pre) .few, loop .inv .0)
 
-slice-read-name : tie.Need-slice-read-name Inv-loop μ-loop
-slice-read-name c =
+slice-read-x : tie.Need-slice-read-x Inv-loop μ-loop
+slice-read-x c =
     let start = c .before .before .before .before .before .before .before in
     let loop = c .before .before .loop in
-    omega (arith, leaving (start .pre) .fits, leaving (start .pre) .long, loop .inv .0, loop .inv .2 .same)
-
-cast-name : tie.Need-cast-name Inv-loop μ-loop
-cast-name c =
-    let start = c .before .before .before .before .before .before .before in
-    let loop = c .before .before .loop in
-    omega (arith, c .slice-known4 .given (5724 + 2 * start .args .scope .nodes + (loop .i - 1)))
-
-add-half-at : tie.Need-add-half-at Inv-loop μ-loop
-add-half-at c =
-    let start = c .before .before .before .before .before .before .before .before .before in
-    let loop = c .before .before .before .before .loop in
-    omega (arith, leaving (start .pre) .fits, leaving (start .pre) .few, loop .inv .0)
-
-half-at-requires : tie.Need-half-at-requires Inv-loop μ-loop
-half-at-requires c κs =
-    let start = c .before .before .before .before .before .before .before .before .before in
-    let loop = c .before .before .before .before .loop in
     omega (arith, leaving (start .pre) .fits, leaving (start .pre) .long, loop .inv .0, loop .inv .2 .same)
 
 set-half-requires : tie.Need-set-half-requires Inv-loop μ-loop
 set-half-requires c κs =
-    let bucket = c .before .before .before .bucket in
-    let start = c .before .before .before .before .before .before .before .before .before .before .before in
-    let loop = c .before .before .before .before .before .before .loop in
-    let half-at = c .before .half-at in
-    (omega (arith, bucket .ensures .1, leaving (start .pre) .long, loop .inv .2 .same), omega (arith, half-at .ensures, half-small (loop .work) (9376 + (loop .i - 1))))
+    let start = c .before .before .before .before .before .before .before .before .before in
+    let loop = c .before .before .before .before .loop in
+    let bucket = c .before .bucket in
+    (omega (arith, bucket .ensures .1, leaving (start .pre) .long, loop .inv .2 .same), omega (arith, c .before .before .slice-known4 .given (5724 + 2 * start .args .scope .nodes + (loop .i - 1))))
 
 loop-again : tie.Need-loop-again Inv-loop μ-loop
 loop-again c =
-    let start = c .before .before .before .before .before .before .before .before .before .before .before .before .before .before in
-    let loop = c .before .before .before .before .before .before .before .before .before .loop in
-    let bucket = c .before .before .before .before .before .before .bucket in
+    let start = c .before .before .before .before .before .before .before .before .before .before .before .before in
+    let loop = c .before .before .before .before .before .before .before .loop in
+    let bucket = c .before .before .before .before .bucket in
     let set-half = c .before .before .set-half in
-    let half-at = c .before .before .before .before .half-at in
+    let known = c .before .before .before .before .before .slice-known4 in
     let a = start .args in
     let w = now (a .work) in
     let n = a .scope .nodes in
@@ -92,8 +72,8 @@ loop-again c =
     let l = leaving (start .pre) in
     let inv = loop .inv in
     let u : loop .i ≡ suc i = omega arith in
-    let own : local-at w n i .name % (10 * n) ≡ bucket .result = ap (λ x. x / 255 % (10 * n)) (sym (inv .2 .other (5724 + 2 * n + i) (λ z. absurd (omega (arith, l .fits, inv .0))))) ∙ sym (bucket .ensures .0) in
-    (omega arith, omega arith, rw (set-half .ensures) (popping-next w (loop .work) n (a .scope .block) i (bucket .result) (half-at .result) (a .scope .block + 1) (l .linked) (omega arith) (omega (arith, inv .1)) (omega (arith, inv .0, l .ends)) (omega (arith, l .fits, l .ends)) (l .long) (bucket .ensures .1) own (half-at .ensures) (rw u at (inv .2))))
+    let own : local-at w n i .name % (10 * n) ≡ bucket .result = ap (λ x. x % 65536 % (10 * n)) (sym (inv .2 .other (5724 + 2 * n + i) (λ z. absurd (omega (arith, l .fits, inv .0))))) ∙ sym (bucket .ensures .0) in
+    (omega arith, omega arith, rw (set-half .ensures) (popping-next w (loop .work) n (a .scope .block) i (bucket .result) _ (a .scope .block + 1) (l .linked) (omega arith) (omega (arith, inv .1)) (omega (arith, inv .0, l .ends)) (omega (arith, l .fits, l .ends)) (l .long) (bucket .ensures .1) own refl (omega (arith, known .given (5724 + 2 * n + i))) (rw u at (inv .2))))
 
 same-length : tie.Need-same-length Inv-loop μ-loop
 same-length c =
@@ -131,13 +111,11 @@ leave-block-spec =
     (λ c. search needs)
     (λ c. search needs)
     (λ c. search needs)
-    add-name-2
-    mul-name-2
-    slice-read-name
-    cast-name
+    add-x-2
+    mul-x-2
+    slice-read-x
+    (λ c. search needs)
     (λ c κs. search needs)
-    add-half-at
-    half-at-requires
     (λ c. search needs)
     (λ c. search needs)
     (λ c. search needs)

@@ -2,8 +2,8 @@
 use borrow.Author.Needs.{needs}
 use Rattle.store.proofs.local.allocate_register.Statement.{statement}
 use Rattle.store.proofs.local.allocate_register.Tie as tie
-use Prim.Native.Nat.{ℕ, _+_, _*_, _/_, _%_, _<_}
-use mathlib.Core.Path.{_≡_, sym, ap, _∙_}
+use Prim.Native.Nat.{ℕ, _+_, _*_, _<_}
+use mathlib.Core.Path.{sym, _∙_}
 use native.Mathlib.Omega.{arith}
 use lib.ListN.{length-set}
 use denote.Ref.{now}
@@ -24,18 +24,24 @@ returns c =
 set-half-requires : tie.Need-set-half-requires
 set-half-requires c κs =
     let start = c .before .before .before .before .before .before .before .before .before in
-    let half-at = c .before .half-at in
-    let bucket = c .before .before .before .bucket in
-    let a = start .args in
-    let n = a .scope .nodes in
-    (omega (arith, start .pre .0 .sound .long, start .pre .0 .sound .count), omega (arith, half-at .ensures, half-small (now (a .work)) (24576 + 20 * n + bucket .result)))
+    let enum-told = c .before .before .before .before .before .before .enum-told in
+    let small = due (start .args .step .outcome) (start .pre .3) (goes (enum-told .given .1)) in
+    (omega (arith, start .pre .0 .sound .long, start .pre .0 .sound .count), omega (arith, small))
+
+-- the head fits a half
+before-small : tie.Need-mul-work
+before-small c =
+    let start = c .before .before .before .before .before .before .before .before .before .before .before .before .before .before .before .before in
+    let bucket = c .before .before .before .before .before .before .before .before .before .before .bucket in
+    let half-at = c .before .before .before .before .before .before .before .before .half-at in
+    omega (arith, half-at .ensures, half-small (now (start .args .work)) (24576 + 20 * start .args .scope .nodes + bucket .result))
 
 add-work : tie.Need-add-work
 add-work c =
     let start = c .before .before .before .before .before .before .before .before .before .before .before .before .before .before .before .before in
-    let enum-told = c .before .before .before .before .before .before .before .before .before .before .before .before .before .enum-told in
-    let small = due (start .args .step .outcome) (start .pre .3) (goes (enum-told .given .1)) in
-    omega (arith, small, start .pre .2)
+    let bucket = c .before .before .before .before .before .before .before .before .before .before .bucket in
+    let half-at = c .before .before .before .before .before .before .before .before .half-at in
+    omega (arith, half-at .ensures, half-small (now (start .args .work)) (24576 + 20 * start .args .scope .nodes + bucket .result), start .pre .2)
 
 slice-write-work-2 : tie.Need-slice-write-work-2
 slice-write-work-2 c =
@@ -58,19 +64,16 @@ unlink-requires c κs =
     let n = p .nodes in
     let i : ℕ = edge w n (p .block) in
     let b = bucket .result in
-    let x : ℕ = a .name * 255 + a .register in
     let fine = start .pre .0 in
     let s = fine .sound in
     let deep = shallow (a .step) fine (enum-told .given .1) in
     let room = due (a .step .outcome) (start .pre .1 .roomy) (goes (enum-told .given .1)) in
     let small = due (a .step .outcome) (start .pre .3) (goes (enum-told .given .1)) in
-    let e1 : x / 255 ≡ a .name = omega arith in
-    let bx : x / 255 % (10 * n) ≡ b = ap (λ y. y % (10 * n)) e1 ∙ sym (bucket .ensures .0) in
     let r : 5724 + 2 * n + i < 12288 + 10 * n = omega (arith, local-room deep room .0) in
-    let pushed = pushed-by w n (5708 + n + p .block) i b x (s .long) (s .count) (s .few) (omega arith) (omega (arith, s .blocks)) r (bucket .ensures .1) in
-    let hung = hung-by w n (5708 + n + p .block) i b x (s .long) (s .count) (s .few) (omega arith) (omega (arith, s .blocks)) r (bucket .ensures .1) in
-    let linked = linked-push w _ n (p .block) b x (s .count) (s .blocks) r (bucket .ensures .1) bx pushed hung (s .linked) in
-    rw (set-half2 .ensures, set-half .ensures, half-at .ensures) (local-sound w _ p (a .step) x fine deep room pushed linked, rw e1 at (local-latest w _ p (a .step) x fine deep room pushed linked))
+    let pushed = pushed-by w n (5708 + n + p .block) i b (a .name) (a .register) (s .long) (s .count) (s .few) (omega arith) (omega (arith, s .blocks)) r (bucket .ensures .1) (start .pre .2) small in
+    let hung = hung-by w n (5708 + n + p .block) i b (a .name) (a .register) (s .long) (s .count) (s .few) (omega arith) (omega (arith, s .blocks)) r (bucket .ensures .1) (start .pre .2) small in
+    let linked = linked-push w _ n (p .block) b _ (s .blocks) (bucket .ensures .1) (sym (bucket .ensures .0)) pushed hung (s .linked) in
+    rw (set-half2 .ensures, set-half .ensures, half-at .ensures) (local-sound w _ p (a .step) _ fine deep room pushed linked, local-latest w _ p (a .step) _ fine deep room pushed linked)
 
 same-length : tie.Need-same-length
 same-length c =
@@ -94,17 +97,15 @@ returns-2 c =
     let n = p .nodes in
     let i : ℕ = edge w n (p .block) in
     let b = bucket .result in
-    let x : ℕ = a .name * 255 + a .register in
     let fine = start .pre .0 in
     let s = fine .sound in
     let deep = shallow (a .step) fine (enum-told .given .1) in
     let room = due (a .step .outcome) (start .pre .1 .roomy) (goes (enum-told .given .1)) in
     let small = due (a .step .outcome) (start .pre .3) (goes (enum-told .given .1)) in
-    let e1 : x / 255 ≡ a .name = omega arith in
-    let e2 : x % 255 ≡ a .register = omega arith in
-    let pushed = pushed-by w n (5708 + n + p .block) i b x (s .long) (s .count) (s .few) (omega arith) (omega (arith, s .blocks)) (omega (arith, local-room deep room .0)) (bucket .ensures .1) in
+    let r : 5724 + 2 * n + i < 12288 + 10 * n = omega (arith, local-room deep room .0) in
+    let pushed = pushed-by w n (5708 + n + p .block) i b (a .name) (a .register) (s .long) (s .count) (s .few) (omega arith) (omega (arith, s .blocks)) r (bucket .ensures .1) (start .pre .2) small in
     let u = rw (set-half2 .ensures, set-half .ensures, half-at .ensures) at (unlink .ensures) in
-    rw (e1, e2) at (local-leaf w _ p (a .step) x fine deep room (pushed-then (s .blocks) pushed u) (u .linked) _ (enum-told .given .1))
+    local-leaf w _ p (a .step) _ fine deep room (pushed-then (s .blocks) pushed u) (u .linked) _ (enum-told .given .1)
 
 pub allocate-register-spec : {M : Type 1} → statement M
 allocate-register-spec =
@@ -127,7 +128,7 @@ allocate-register-spec =
     set-half-requires
     (λ c. search needs)
     (λ c κs. search needs)
-    (λ c. search needs)
+    before-small
     (λ c. search needs)
     add-work
     (λ c. search needs)

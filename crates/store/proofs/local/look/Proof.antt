@@ -46,17 +46,22 @@ loop-holds c =
     let e = c .half-at .ensures ∙ ap (λ x. head w (a .nodes) x) (b .0) in
     (omega arith, rw e (skip-start w (a .nodes) (p .blocks) k (p .linked) (omega (arith, b .0, b .1)) (a .end) (p .within)))
 
-half-at-requires-2 : tie.Need-half-at-requires-2 Inv-loop μ-loop Inv-loop2 μ-loop2
-half-at-requires-2 c κs =
-    let start = c .before .before .before .before .before in
-    let bucket = c .before .before .before .bucket in
-    let half-at = c .before .before .half-at in
-    let loop = c .before .loop in
+shared-slice-read-i : tie.Need-shared-slice-read-i Inv-loop μ-loop Inv-loop2 μ-loop2
+shared-slice-read-i c =
+    let start = c .before .before .before .before .before .before in
+    let bucket = c .before .before .before .before .bucket in
+    let half-at = c .before .before .before .half-at in
+    let loop = c .before .before .loop in
     let a = start .args in
     let w = now (a .work) in
     let p = start .pre in
     let b = bucket .ensures in
     omega (arith, half-at .ensures, head-within w (a .nodes) (p .blocks) (bucket .result) (p .linked) (b .1), p .long, p .fits, loop .inv .0)
+
+cast-i-2 : tie.Need-cast-i-2 Inv-loop μ-loop Inv-loop2 μ-loop2
+cast-i-2 c =
+    let start = c .before .before .before .before .before .before in
+    omega (arith, c .shared-slice-known2 .given (5724 + 2 * start .args .nodes + (c .before .before .loop .i - 1)))
 
 loop-less : tie.Need-loop-less Inv-loop μ-loop Inv-loop2 μ-loop2
 loop-less c =
@@ -72,7 +77,7 @@ loop-less c =
     let b = bucket .ensures in
     let u = head-within w (a .nodes) (p .blocks) (bucket .result) (p .linked) (b .1) in
     let s = skip-self w (a .nodes) k (loop .i) (a .end) (loop-test .taken) (loop .inv .1) in
-    omega (arith, c .half-at2 .ensures, turn-less w (a .nodes) (p .blocks) k (loop .i) (p .linked) (omega arith) (omega (arith, half-at .ensures, loop .inv .0)) s)
+    omega (arith, turn-less w (a .nodes) (p .blocks) k (loop .i) (p .linked) (omega arith) (omega (arith, half-at .ensures, loop .inv .0)) s)
 
 loop-again : tie.Need-loop-again Inv-loop μ-loop Inv-loop2 μ-loop2
 loop-again c =
@@ -89,8 +94,8 @@ loop-again c =
     let u = head-within w (a .nodes) (p .blocks) (bucket .result) (p .linked) (b .1) in
     let s = skip-self w (a .nodes) k (loop .i) (a .end) (loop-test .taken) (loop .inv .1) in
     let l : loop .i ≤ edge w (a .nodes) (p .blocks) = omega (arith, half-at .ensures, loop .inv .0) in (
-      omega (arith, c .half-at2 .ensures, loop .inv .0, turn-less w (a .nodes) (p .blocks) k (loop .i) (p .linked) (omega arith) l s),
-      rw (c .half-at2 .ensures) (skip-next w (a .nodes) (p .blocks) k (loop .i) (p .linked) (omega arith) l s (p .block) (a .end) (p .among) (p .ends) (loop-test .taken)),
+      omega (arith, loop .inv .0, turn-less w (a .nodes) (p .blocks) k (loop .i) (p .linked) (omega arith) l s),
+      skip-next w (a .nodes) (p .blocks) k (loop .i) (p .linked) (omega arith) l s (p .block) (a .end) (p .among) (p .ends) (loop-test .taken),
     )
 
 loop2-holds : tie.Need-loop2-holds Inv-loop μ-loop Inv-loop2 μ-loop2
@@ -110,52 +115,49 @@ shared-slice-read-x c =
     let loop2 = c .before .before .loop2 in
     omega (arith, start .pre .long, start .pre .within, start .pre .fits, loop2 .inv .0)
 
-cast-its : tie.Need-cast-its Inv-loop μ-loop Inv-loop2 μ-loop2
-cast-its c =
-    let start = c .before .before .before .before .before .before .before .before in
-    let loop2 = c .before .before .loop2 in
-    omega (arith, c .shared-slice-known2 .given (5724 + 2 * start .args .nodes + (loop2 .i - 1)))
-
-returns : tie.Need-returns Inv-loop μ-loop Inv-loop2 μ-loop2
-returns c =
-    let start = c .before .before .before .before .before .before .before .before .before in
-    let loop2 = c .before .before .before .loop2 in
-    let loop2-test = c .before .before .loop2-test in
-    let a = start .args in
-    let w = now (a .work) in
-    ap found-of (sym (walk-hit w (a .nodes) (a .name) (a .start) (a .end) (loop2 .i) (loop2 .inv .0) (loop2 .inv .2) (loop2-test .taken) (c .if1 .taken)))
-
-half-at-requires-3 : tie.Need-half-at-requires-3 Inv-loop μ-loop Inv-loop2 μ-loop2
-half-at-requires-3 c κs =
+half-at-requires-2 : tie.Need-half-at-requires-2 Inv-loop μ-loop Inv-loop2 μ-loop2
+half-at-requires-2 c κs =
     let start = c .before .before .before .before .before .before .before .before .before in
     let loop2 = c .before .before .before .loop2 in
     omega (arith, start .pre .long, start .pre .within, start .pre .fits, loop2 .inv .0)
 
-loop2-less : tie.Need-loop2-less Inv-loop μ-loop Inv-loop2 μ-loop2
-loop2-less c =
-    let start = c .before .before .before .before .before .before .before .before .before .before in
-    let loop2 = c .before .before .before .before .loop2 in
-    let a = start .args in
-    let w = now (a .work) in
-    let k : ℕ = a .name % (10 * a .nodes) in
-    let p = start .pre in
-    omega (arith, c .half-at3 .ensures, turn-less w (a .nodes) (p .blocks) k (loop2 .i) (p .linked) (omega arith) (omega (arith, p .within, loop2 .inv .0)) (loop2 .inv .1))
-
-loop2-again : tie.Need-loop2-again Inv-loop μ-loop Inv-loop2 μ-loop2
-loop2-again c =
+returns : tie.Need-returns Inv-loop μ-loop Inv-loop2 μ-loop2
+returns c =
     let start = c .before .before .before .before .before .before .before .before .before .before in
     let loop2 = c .before .before .before .before .loop2 in
     let loop2-test = c .before .before .before .loop2-test in
-    let if1 = c .before .if1 in
+    let a = start .args in
+    let w = now (a .work) in
+    rw (c .half-at2 .ensures)
+    (ap found-of (sym (walk-hit w (a .nodes) (a .name) (a .start) (a .end) (loop2 .i) (loop2 .inv .0) (loop2 .inv .2) (loop2-test .taken) (c .before .if1 .taken))))
+
+cast-i-3 : tie.Need-cast-i-3 Inv-loop μ-loop Inv-loop2 μ-loop2
+cast-i-3 c =
+    let start = c .before .before .before .before .before .before .before .before .before in
+    omega (arith, c .before .shared-slice-known3 .given (5724 + 2 * start .args .nodes + (c .before .before .before .loop2 .i - 1)))
+
+loop2-less : tie.Need-loop2-less Inv-loop μ-loop Inv-loop2 μ-loop2
+loop2-less c =
+    let start = c .before .before .before .before .before .before .before .before .before in
+    let loop2 = c .before .before .before .loop2 in
     let a = start .args in
     let w = now (a .work) in
     let k : ℕ = a .name % (10 * a .nodes) in
     let p = start .pre in
-    let e = c .half-at3 .ensures in
+    turn-less w (a .nodes) (p .blocks) k (loop2 .i) (p .linked) (omega arith) (omega (arith, p .within, loop2 .inv .0)) (loop2 .inv .1)
+
+loop2-again : tie.Need-loop2-again Inv-loop μ-loop Inv-loop2 μ-loop2
+loop2-again c =
+    let start = c .before .before .before .before .before .before .before .before .before in
+    let loop2 = c .before .before .before .loop2 in
+    let a = start .args in
+    let w = now (a .work) in
+    let k : ℕ = a .name % (10 * a .nodes) in
+    let p = start .pre in
     let l : loop2 .i ≤ edge w (a .nodes) (p .blocks) = omega (arith, p .within, loop2 .inv .0) in (
-      omega (arith, e, loop2 .inv .0, turn-less w (a .nodes) (p .blocks) k (loop2 .i) (p .linked) (omega arith) l (loop2 .inv .1)),
-      rw e (turn-self w (a .nodes) (p .blocks) k (loop2 .i) (p .linked) (omega arith) l (loop2 .inv .1)),
-      rw e (walk-miss w (a .nodes) (p .blocks) k (loop2 .i) (p .linked) (omega arith) l (loop2 .inv .1) (a .name) (p .block) (a .end) refl (p .among) (p .ends) (loop2 .inv .0) (loop2 .inv .2) (if1 .left)),
+      omega (arith, loop2 .inv .0, turn-less w (a .nodes) (p .blocks) k (loop2 .i) (p .linked) (omega arith) l (loop2 .inv .1)),
+      turn-self w (a .nodes) (p .blocks) k (loop2 .i) (p .linked) (omega arith) l (loop2 .inv .1),
+      walk-miss w (a .nodes) (p .blocks) k (loop2 .i) (p .linked) (omega arith) l (loop2 .inv .1) (a .name) (p .block) (a .end) refl (p .among) (p .ends) (loop2 .inv .0) (loop2 .inv .2) (c .if1 .left),
     )
 
 returns-2 : tie.Need-returns-2 Inv-loop μ-loop Inv-loop2 μ-loop2
@@ -185,8 +187,9 @@ look-spec =
     loop-holds
     (λ c. search needs)
     (λ c. search needs)
-    half-at-requires-2
     (λ c. search needs)
+    shared-slice-read-i
+    cast-i-2
     loop-less
     loop-again
     loop2-holds
@@ -194,12 +197,12 @@ look-spec =
     (λ c. search needs)
     (λ c. search needs)
     shared-slice-read-x
-    cast-its
+    (λ c. search needs)
+    (λ c. search needs)
+    (λ c. search needs)
+    half-at-requires-2
     returns
-    (λ c. search needs)
-    (λ c. search needs)
-    half-at-requires-3
-    (λ c. search needs)
+    cast-i-3
     loop2-less
     loop2-again
     returns-2)
