@@ -12,6 +12,7 @@ use meaning::Cause;
 use meaning::Outcome;
 use store::Scope;
 use store::Step;
+use store::TOP;
 
 const RETURN: u32 = OpCode::Return as u32;
 
@@ -108,7 +109,7 @@ pub fn end_body(
         if code == first {
             return store::refuse(step, Cause::Empty, node);
         }
-        let top = 12288 + 10 * scope.nodes;
+        let top = TOP + 10 * scope.nodes;
         let mark = work[top - (2 * code - 1)];
         write(
             work,

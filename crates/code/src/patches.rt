@@ -8,6 +8,7 @@ ghost use Rattle.code.specs.Words.{Turns, Recoded, mended, patch-by, pat
 use crate::JMP;
 use crate::word::jump_back;
 use crate::word::pack_wide;
+use store::TOP;
 
 // The low half of a continue's and of a break's word, by which fn is_continue and fn is_break go: the opcode and a.
 const CONTINUE: u32 = JMP + 256 * (instruction::JMP_CONTINUE as u32);
@@ -40,6 +41,7 @@ fn patch_end(x: u32, size: usize, i: usize) -> u32
     x
 }
 
+// Instruction i of the `size` of a loop or of an if.
 fn patch(x: u32, looped: bool, size: usize, i: usize) -> u32
     requires { ⌜ i ≤ size ⌝ }
     ensures { λ r. ⌜ Turns x (patch-by looped size i) r ⌝ }
@@ -55,7 +57,7 @@ fn patch_each(work: &mut [u32], nodes: usize, first: usize, end: usize, looped: 
     requires { ⌜ (top nodes ≤ length (now work)) × (2 * end ≤ top nodes) × (first ≤ end) × (nodes ≤ 32768) ⌝ }
     ensures { λ _. ⌜ Recoded (now (work .entry)) nodes end end (mended (patched looped) first) (now (work .exit)) ⌝ }
 {
-    let top = 12288 + 10 * nodes;
+    let top = TOP + 10 * nodes;
     let size = end - first;
     let mut i = first;
     while i < end {
@@ -86,7 +88,7 @@ pub(crate) fn patch_first(work: &mut [u32], nodes: usize, first: usize, end: usi
     requires { ⌜ (top nodes ≤ length (now work)) × (2 * end ≤ top nodes) × (first ≤ end) × (nodes ≤ 32768) ⌝ }
     ensures { λ _. ⌜ Recoded (now (work .entry)) nodes end end (mended (patch-first offset) first) (now (work .exit)) ⌝ }
 {
-    let top = 12288 + 10 * nodes;
+    let top = TOP + 10 * nodes;
     let mut i = first;
     while i < end {
         let at = top - (2 * i + 2);

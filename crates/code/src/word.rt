@@ -5,6 +5,7 @@ ghost use Rattle.meaning.specs.Opcode.{inst, wide, back, Jmp};
 ghost use Rattle.store.specs.Layout.{top};
 ghost use Rattle.code.specs.Words.{Bytes, Packs, Wrote};
 use crate::JMP;
+use store::TOP;
 
 // Four bytes in a word.
 pub(crate) fn pack(op: u32, a: u32, b: u32, c: u32) -> u32
@@ -36,7 +37,7 @@ pub(crate) fn write(work: &mut [u32], nodes: usize, at: usize, word: u32, mark: 
     requires { ⌜ (top nodes ≤ length (now work)) × (2 * at + 2 ≤ top nodes) × (nodes ≤ 32768) ⌝ }
     ensures { λ _. ⌜ Wrote (now (work .entry)) nodes at word mark (now (work .exit)) ⌝ }
 {
-    let top = 12288 + 10 * nodes;
+    let top = TOP + 10 * nodes;
     work[top - (2 * at + 2)] = word;
     work[top - (2 * at + 1)] = mark;
 }

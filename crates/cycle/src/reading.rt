@@ -14,6 +14,7 @@ ghost use Rattle.cycle.specs.Cycle.{first-words, branches-of};
 use crate::Branches;
 use crate::Words;
 use meaning::NO_MARK;
+use store::OFFSETS;
 use store::Scope;
 
 // Word k of a payload, or 0 where it has fewer.
@@ -31,7 +32,7 @@ pub(crate) fn payload_of<'a>(tree: &'a [u8], work: &[u32], scope: Scope, node: u
     requires { ⌜ Readable (now tree) (now work) (12288 + 15 * scope .nodes) node × (scope .nodes ≤ 32768) ⌝ }
     ensures { λ r. ⌜ now r ≡ field-at (fields (now (tree .entry))) node .payload ⌝ }
 {
-    nodes::payload_of(tree, work, 12288 + 15 * scope.nodes, node)
+    nodes::payload_of(tree, work, OFFSETS + 15 * scope.nodes, node)
 }
 
 // The first words of a node.
@@ -61,7 +62,7 @@ pub(crate) fn tag_of(tree: &[u8], work: &[u32], scope: Scope, node: usize) -> u8
     requires { ⌜ Readable (now tree) (now work) (12288 + 15 * scope .nodes) node × (scope .nodes ≤ 32768) ⌝ }
     ensures { λ r. ⌜ r ≡ tag-of (fields (now (tree .entry))) node ⌝ }
 {
-    nodes::tag_of(tree, work, 12288 + 15 * scope.nodes, node)
+    nodes::tag_of(tree, work, OFFSETS + 15 * scope.nodes, node)
 }
 
 // How many words a node has.
@@ -69,7 +70,7 @@ pub(crate) fn count_of(tree: &[u8], work: &[u32], scope: Scope, node: usize) -> 
     requires { ⌜ Readable (now tree) (now work) (12288 + 15 * scope .nodes) node × (scope .nodes ≤ 32768) ⌝ }
     ensures { λ r. ⌜ (r ≡ count-of (fields (now (tree .entry))) node) × (r < 65536) ⌝ }
 {
-    nodes::count_of(tree, work, 12288 + 15 * scope.nodes, node)
+    nodes::count_of(tree, work, OFFSETS + 15 * scope.nodes, node)
 }
 
 // Where the parts of an if end.

@@ -13,6 +13,11 @@ ghost use Rattle.store.specs.Layout.{top, capture-of, capture-at, held, unpacke
 ghost use Rattle.image.specs.Output.{Spliced, Placed, proto-of};
 use instruction::OpCode;
 use meaning::NO_MARK;
+use store::CAPTURES;
+use store::HELD;
+use store::NAMES;
+use store::REGISTERS;
+use store::TOP;
 
 const RETURN: u32 = OpCode::Return as u32;
 
@@ -52,7 +57,7 @@ fn capture_at(work: &[u32], j: usize, i: usize) -> u32
     requires { ⌜ (5724 ≤ length (now work)) × (j ≤ 7) × (i < 256) ⌝ }
     ensures { λ r. ⌜ r ≡ half (now (work .entry)) (6288 + 256 * j + i) % 512 ⌝ }
 {
-    let k = 6288 + 256 * j + i;
+    let k = CAPTURES + 256 * j + i;
     let x = work[k / 2];
     if k % 2 == 0 {
         x % 65536 % 512
@@ -113,7 +118,7 @@ fn put_code(work: &[u32], out: &mut [u8], at: usize, nodes: usize, first: usize,
     requires { ⌜ (top nodes ≤ length (now work)) × (2 * (first + count) ≤ top nodes) × (nodes ≤ 32768) × (at + 9 * count ≤ length (now out)) ⌝ }
     ensures { λ _. ⌜ Spliced (now (out .entry)) at (inst-bytes (tab (λ i. inst-at (now (work .entry)) nodes (first + i)) count)) (now (out .exit)) ⌝ }
 {
-    let top = 12288 + 10 * nodes;
+    let top = TOP + 10 * nodes;
     let mut i: usize = 0;
     while i < count {
         let k = 2 * (first + i);
@@ -136,9 +141,9 @@ fn put_prototype(
     requires { ⌜ (top nodes ≤ length (now work)) × (2 * (first + count) ≤ top nodes) × (nodes ≤ 32768) × (j ≤ 7) × (count < 32767) × (at + (22 + 5 * held (now work) j + 9 * count) ≤ length (now out)) ⌝ }
     ensures { λ _. ⌜ Spliced (now (out .entry)) at (proto-bytes (proto-of (now (work .entry)) nodes j first count params ∷ [])) (now (out .exit)) ⌝ }
 {
-    let name = work[3072 + 8 * j];
-    let registers = work[3073 + 8 * j] % 256;
-    let held = work[3074 + 8 * j] % 256;
+    let name = work[NAMES + 8 * j];
+    let registers = work[REGISTERS + 8 * j] % 256;
+    let held = work[HELD + 8 * j] % 256;
     put_header(out, at, name, params, registers, held, (count + 1) as u32);
     let captures = held as usize;
     put_captures(work, out, at + 13, j, captures);
@@ -161,7 +166,7 @@ pub fn place_prototype(
     requires { ⌜ (top nodes ≤ length (now work)) × (2 * (first + count) ≤ top nodes) × (nodes ≤ 32768) × (j ≤ 7) × (count < 32767) × (at < 4294967296) ⌝ }
     ensures { λ r. ⌜ Placed (now (out .entry)) at (proto-bytes (proto-of (now (work .entry)) nodes j first count params ∷ [])) (now (out .exit)) r ⌝ }
 {
-    let held = (work[3074 + 8 * j] % 256) as usize;
+    let held = (work[HELD + 8 * j] % 256) as usize;
     let end = at + (22 + 5 * held + 9 * count);
     if end <= out.len() {
         put_prototype(work, out, at, nodes, j, first, count, params);

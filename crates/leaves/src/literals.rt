@@ -7,6 +7,7 @@ ghost use Rattle.meaning.specs.Syntax.{small-operand};
 ghost use Rattle.leaves.specs.Node.{Lawful, OnNode, GivesExpr, small-of};
 use instruction::OpCode;
 use meaning::NO_MARK;
+use store::OFFSETS;
 use store::Scope;
 use store::Step;
 use values::Immediate;
@@ -18,7 +19,7 @@ pub fn small_operand(tree: &[u8], work: &[u32], scope: Scope, node: usize) -> u3
     requires { ⌜ Lawful (now tree) (now work) (scope .nodes) × (node < scope .nodes) × (scope .nodes ≤ 32768) ⌝ }
     ensures { λ r. ⌜ small-operand (expr-at (fields (now (tree .entry))) node) ≡ small-of r ⌝ }
 {
-    let base = 12288 + 15 * scope.nodes;
+    let base = OFFSETS + 15 * scope.nodes;
     if nodes::tag_of(tree, work, base, node) != 0x01 {
         return 256;
     }
@@ -36,7 +37,7 @@ pub fn literal(tree: &[u8], work: &mut [u32], step: Step, scope: Scope, node: us
     requires { ⌜ OnNode (now tree) (now work) scope step 1 node × (0x01 ≤ tag-of (fields (now tree)) node) × (tag-of (fields (now tree)) node ≤ 0x03) ⌝ }
     ensures { λ r. ⌜ GivesExpr (now (tree .entry)) (now (work .entry)) scope step (now (work .exit)) r node ⌝ }
 {
-    let base = 12288 + 15 * scope.nodes;
+    let base = OFFSETS + 15 * scope.nodes;
     let tag = nodes::tag_of(tree, work, base, node);
     let payload = nodes::payload_of(tree, work, base, node);
     let value = values::literal_of(tag, payload);

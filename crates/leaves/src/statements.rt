@@ -11,6 +11,7 @@ ghost use Rattle.leaves.specs.Node.{OnNode, Gives, GivesStmt};
 use crate::LOAD_NIL;
 use instruction::OpCode;
 use meaning::Cause;
+use store::OFFSETS;
 use store::Scope;
 use store::Step;
 
@@ -30,7 +31,7 @@ pub fn let_only(tree: &[u8], work: &mut [u32], step: Step, scope: Scope, node: u
     requires { ⌜ OnNode (now tree) (now work) scope step 1 node × (tag-of (fields (now tree)) node ≡ 0x11) × (count-of (fields (now tree)) node ≡ 2) ⌝ }
     ensures { λ r. ⌜ GivesStmt (now (tree .entry)) (now (work .entry)) scope step (now (work .exit)) r node ⌝ }
 {
-    let payload = nodes::payload_of(tree, work, 12288 + 15 * scope.nodes, node);
+    let payload = nodes::payload_of(tree, work, OFFSETS + 15 * scope.nodes, node);
     let name = nodes::child(payload, 0);
     let mark = nodes::word(payload, 1);
     if store::is_global_context(scope) {
@@ -69,7 +70,7 @@ pub fn jump(tree: &[u8], work: &mut [u32], step: Step, scope: Scope, node: usize
     requires { ⌜ OnNode (now tree) (now work) scope step 1 node × (0x16 ≤ tag-of (fields (now tree)) node) × (tag-of (fields (now tree)) node ≤ 0x17) ⌝ }
     ensures { λ r. ⌜ GivesStmt (now (tree .entry)) (now (work .entry)) scope step (now (work .exit)) r node ⌝ }
 {
-    let base = 12288 + 15 * scope.nodes;
+    let base = OFFSETS + 15 * scope.nodes;
     let mark = nodes::word_of(tree, work, base, node, 0);
     if nodes::tag_of(tree, work, base, node) == 0x16 {
         return visit_jump(work, step, scope, node, JMP_BREAK, mark);
@@ -82,6 +83,6 @@ pub fn return_none(tree: &[u8], work: &mut [u32], step: Step, scope: Scope, node
     requires { ⌜ OnNode (now tree) (now work) scope step 1 node × (tag-of (fields (now tree)) node ≡ 0x18) × (count-of (fields (now tree)) node ≡ 1) ⌝ }
     ensures { λ r. ⌜ GivesStmt (now (tree .entry)) (now (work .entry)) scope step (now (work .exit)) r node ⌝ }
 {
-    let mark = nodes::word_of(tree, work, 12288 + 15 * scope.nodes, node, 0);
+    let mark = nodes::word_of(tree, work, OFFSETS + 15 * scope.nodes, node, 0);
     code::put(work, step, scope, RETURN, 0, 0, 0, mark, 0)
 }

@@ -14,6 +14,7 @@ use crate::LOAD_NIL;
 use instruction::OpCode;
 use meaning::Cause;
 use store::Found;
+use store::OFFSETS;
 use store::Scope;
 use store::Step;
 
@@ -111,7 +112,7 @@ pub fn variable(tree: &[u8], work: &mut [u32], step: Step, scope: Scope, node: u
     requires { ⌜ OnNode (now tree) (now work) scope step 1 node × (tag-of (fields (now tree)) node ≡ 0x04) ⌝ }
     ensures { λ r. ⌜ GivesExpr (now (tree .entry)) (now (work .entry)) scope step (now (work .exit)) r node ⌝ }
 {
-    let payload = nodes::payload_of(tree, work, 12288 + 15 * scope.nodes, node);
+    let payload = nodes::payload_of(tree, work, OFFSETS + 15 * scope.nodes, node);
     let name = nodes::child(payload, 0);
     let mark = nodes::word(payload, 1);
     visit_variable_expr(work, step, scope, node, name, mark)
@@ -122,7 +123,7 @@ pub fn superclass(tree: &[u8], work: &mut [u32], step: Step, scope: Scope, node:
     requires { ⌜ OnNode (now tree) (now work) scope step (size-super (super-of (now tree) node)) node × (tag-of (fields (now tree)) node ≡ 0x1D) ⌝ }
     ensures { λ r. ⌜ GivesSuper (now (tree .entry)) (now (work .entry)) scope step (now (work .exit)) r node ⌝ }
 {
-    let payload = nodes::payload_of(tree, work, 12288 + 15 * scope.nodes, node);
+    let payload = nodes::payload_of(tree, work, OFFSETS + 15 * scope.nodes, node);
     let mark = nodes::word(payload, 1);
     let parent = nodes::child(payload, 2);
     if parent != 65535 {

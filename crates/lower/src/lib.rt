@@ -1,6 +1,7 @@
 // The public call: a tree is checked, lowered and written as an image; afterwards the work area is zero, and so is the output behind the image.
 use meaning::Answer;
 use meaning::Outcome;
+use store::OFFSETS;
 use store::Scope;
 use store::Step;
 ghost use mathlib.Core.Path.{_≡_};
@@ -43,7 +44,7 @@ fn set_up(tree: &[u8], work: &mut [u32], n: usize) -> Step
     requires { ⌜ checked (now tree) (length (now work)) ≡ Accepted n ⌝ }
     ensures { λ r. ⌜ (r ≡ first-step) × Opened (now (tree .entry)) n (now (work .exit)) ⌝ }
 {
-    nodes::fill_offsets(tree, work, 12288 + 15 * n, n);
+    nodes::fill_offsets(tree, work, OFFSETS + 15 * n, n);
     store::begin(work, n)
 }
 
@@ -60,7 +61,7 @@ fn lower_checked(tree: &[u8], work: &mut [u32], out: &mut [u8], n: usize) -> Out
         loops: 0,
     };
     let last = n - 1;
-    let count = nodes::count_of(tree, work, 12288 + 15 * n, last);
+    let count = nodes::count_of(tree, work, OFFSETS + 15 * n, last);
     let rowed = cycle::row(tree, work, out, first, main, last, 0, count);
     let ended = code::end_program(work, out, rowed, main, last);
     image::finish(work, out, ended, last)

@@ -9,6 +9,9 @@ ghost use Rattle.store.specs.Promise.{nothing, Leaf, Popped};
 use crate::Scope;
 use crate::Step;
 use crate::half::set_half;
+use crate::layout::EDGES;
+use crate::layout::HEADS;
+use crate::layout::LOCALS;
 use crate::local::bucket;
 
 // fn enter_block: the scope inside.
@@ -16,7 +19,7 @@ pub fn enter_block(work: &mut [u32], scope: Scope) -> Scope
     requires { ⌜ Sound (now work) scope × (scope .block < scope .nodes + 10) ⌝ }
     ensures { λ r. ⌜ (r ≡ deeper scope) × Kept (now (work .entry)) (deeper scope) (now (work .exit)) × ((s : Step) → Fine (now (work .entry)) scope s → Leaf (now (work .entry)) scope s (now (work .exit)) (deeper scope) s nothing (fwd-unit enter-block)) ⌝ }
 {
-    let at = 5708 + scope.nodes + scope.block;
+    let at = EDGES + scope.nodes + scope.block;
     work[at + 1] = work[at];
     Scope {
         nodes: scope.nodes,
@@ -32,13 +35,13 @@ pub fn leave_block(work: &mut [u32], scope: Scope)
     ensures { λ _. ⌜ Popped (now (work .entry)) scope (now (work .exit)) ⌝ }
 {
     let nodes = scope.nodes;
-    let at = 5708 + nodes + scope.block;
+    let at = EDGES + nodes + scope.block;
     let from = work[at] as usize;
     let mut i = work[at + 1] as usize;
     while from < i {
         i -= 1;
-        let x = work[5724 + 2 * nodes + i];
+        let x = work[LOCALS + 2 * nodes + i];
         let b = bucket((x % 65536) as usize, nodes);
-        set_half(work, 24576 + 20 * nodes + b, x / 65536);
+        set_half(work, HEADS + 20 * nodes + b, x / 65536);
     }
 }

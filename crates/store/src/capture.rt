@@ -12,6 +12,10 @@ use crate::Step;
 use crate::global::is_global_context;
 use crate::half::half_at;
 use crate::half::set_half;
+use crate::layout::CAPTURES;
+use crate::layout::EDGES;
+use crate::layout::FIRSTS;
+use crate::layout::HELD;
 use crate::local::look;
 use crate::refuse;
 
@@ -20,8 +24,8 @@ fn add_upvalue(work: &mut [u32], depth: usize, capture: u32) -> Found
     requires { ⌜ (4168 ≤ length (now work)) × (depth ≤ 7) × (capture < 512) ⌝ }
     ensures { λ r. ⌜ Added (now (work .entry)) depth capture (now (work .exit)) r ⌝ }
 {
-    let count = 3074 + 8 * depth;
-    let base = 6288 + 256 * depth;
+    let count = HELD + 8 * depth;
+    let base = CAPTURES + 256 * depth;
     let n = work[count] % 256;
     let end = n as usize;
     let mut i: usize = 0;
@@ -48,7 +52,7 @@ fn search(work: &mut [u32], nodes: usize, depth: usize, name: usize) -> Found
         return Found::Nothing;
     }
     let outer = depth - 1;
-    let end = work[3075 + 8 * depth] as usize;
+    let end = work[FIRSTS + 8 * depth] as usize;
     let around = Scope {
         nodes: nodes,
         depth: outer,
@@ -58,9 +62,9 @@ fn search(work: &mut [u32], nodes: usize, depth: usize, name: usize) -> Found
     if is_global_context(around) {
         return Found::Nothing;
     }
-    let start = work[3075 + 8 * outer] as usize;
-    let from = work[5708 + nodes + start] as usize;
-    let to = work[5708 + nodes + end] as usize;
+    let start = work[FIRSTS + 8 * outer] as usize;
+    let from = work[EDGES + nodes + start] as usize;
+    let to = work[EDGES + nodes + end] as usize;
     let here = look(work, nodes, from, to, name);
     let Found::At(register) = here else {
         let beyond = search(work, nodes, outer, name);

@@ -6,6 +6,7 @@ ghost use Rattle.store.specs.Opening.{Enters};
 use crate::Entered;
 use crate::Scope;
 use crate::Step;
+use crate::layout::EDGES;
 use crate::refuse;
 use crate::start::open_frame;
 
@@ -29,7 +30,7 @@ pub fn enter_function(
         block as u32,
         scope.loops as u32,
     );
-    let at = 5708 + scope.nodes + block;
+    let at = EDGES + scope.nodes + block;
     work[at + 1] = work[at];
     let inside = Scope {
         nodes: scope.nodes,

@@ -14,6 +14,7 @@ use crate::Step;
 use crate::again;
 use crate::half::half_at;
 use crate::half::set_half;
+use crate::layout::GLOBALS;
 
 // fn is_global_context
 pub fn is_global_context(scope: Scope) -> bool
@@ -34,7 +35,7 @@ pub fn is_global_var(work: &[u32], step: Step, scope: Scope, name: usize) -> boo
     let mut i = step.globals;
     while 0 < i {
         i -= 1;
-        if name == half_at(work, 8336 + i) as usize {
+        if name == half_at(work, GLOBALS + i) as usize {
             return true;
         }
     }
@@ -50,7 +51,7 @@ pub fn add_global(work: &mut [u32], step: Step, scope: Scope, name: usize) -> St
     let meaning::Outcome::Accepted(_) = o else {
         return step;
     };
-    set_half(work, 8336 + step.globals, name as u32);
+    set_half(work, GLOBALS + step.globals, name as u32);
     Step {
         outcome: again(o),
         code: step.code,

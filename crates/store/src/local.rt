@@ -14,6 +14,11 @@ use crate::Scope;
 use crate::Step;
 use crate::half::half_at;
 use crate::half::set_half;
+use crate::layout::EDGES;
+use crate::layout::FIRSTS;
+use crate::layout::HEADS;
+use crate::layout::LOCAL_REGISTERS;
+use crate::layout::LOCALS;
 use crate::register::next_register;
 
 // The bucket of a name.
@@ -31,8 +36,8 @@ pub(crate) fn look(work: &[u32], nodes: usize, start: usize, end: usize, name: u
     ensures { λ r. ⌜ r ≡ found-of (seek name (local-at (now (work .entry)) nodes) start end none) ⌝ }
 {
     let b = bucket(name, nodes);
-    let base = 5724 + 2 * nodes;
-    let mut i = half_at(work, 24576 + 20 * nodes + b) as usize;
+    let base = LOCALS + 2 * nodes;
+    let mut i = half_at(work, HEADS + 20 * nodes + b) as usize;
     while end < i {
         i = (work[base + (i - 1)] / 65536) as usize;
     }
@@ -40,7 +45,7 @@ pub(crate) fn look(work: &[u32], nodes: usize, start: usize, end: usize, name: u
         let x = work[base + (i - 1)];
         let its = (x % 65536) as usize;
         if its == name {
-            return Found::At(half_at(work, 9376 + (i - 1)) % 255);
+            return Found::At(half_at(work, LOCAL_REGISTERS + (i - 1)) % 255);
         }
         i = (x / 65536) as usize;
     }
@@ -53,8 +58,8 @@ pub fn get_var_register(work: &[u32], scope: Scope, name: usize) -> Found
     ensures { λ r. ⌜ ((s : Step) → Tells (now (work .entry)) scope s (option-of r) (get-var-register name)) × in-byte r ⌝ }
 {
     let nodes = scope.nodes;
-    let edges = 5708 + nodes;
-    let first = work[3075 + 8 * scope.depth] as usize;
+    let edges = EDGES + nodes;
+    let first = work[FIRSTS + 8 * scope.depth] as usize;
     let start = work[edges + first] as usize;
     let end = work[edges + scope.block] as usize;
     look(work, nodes, start, end, name)
@@ -66,8 +71,8 @@ fn unlink(work: &mut [u32], scope: Scope, name: usize)
     ensures { λ _. ⌜ Unlinked (now (work .entry)) scope (now (work .exit)) ⌝ }
 {
     let nodes = scope.nodes;
-    let at = 5708 + nodes + scope.block;
-    let base = 5724 + 2 * nodes;
+    let at = EDGES + nodes + scope.block;
+    let base = LOCALS + 2 * nodes;
     let from = work[at - 1] as usize;
     let mut last = work[at] as usize - 1;
     let mut next = (work[base + last] / 65536) as usize;
@@ -93,15 +98,15 @@ pub fn allocate_register(work: &mut [u32], step: Step, scope: Scope, name: usize
         return;
     };
     let nodes = scope.nodes;
-    let at = 5708 + nodes + scope.block;
+    let at = EDGES + nodes + scope.block;
     let count = work[at];
     let i = count as usize;
     let b = bucket(name, nodes);
-    let head = 24576 + 20 * nodes + b;
+    let head = HEADS + 20 * nodes + b;
     let before = half_at(work, head);
-    set_half(work, 9376 + i, register);
+    set_half(work, LOCAL_REGISTERS + i, register);
     set_half(work, head, count + 1);
-    work[5724 + 2 * nodes + i] = before * 65536 + name as u32;
+    work[LOCALS + 2 * nodes + i] = before * 65536 + name as u32;
     work[at] = count + 1;
     unlink(work, scope, name);
 }

@@ -7,6 +7,7 @@ ghost use Rattle.store.specs.Store.{Fine};
 ghost use Rattle.store.specs.Promise.{a-register, some-registers, Leaf};
 use crate::Scope;
 use crate::Step;
+use crate::layout::REGISTERS;
 use crate::refuse;
 use crate::settle;
 
@@ -19,7 +20,7 @@ pub fn next_register(work: &mut [u32], step: Step, scope: Scope, node: usize) ->
     let meaning::Outcome::Accepted(_) = o else {
         return step;
     };
-    let at = 3073 + 8 * scope.depth;
+    let at = REGISTERS + 8 * scope.depth;
     let register = work[at] % 256;
     if register == 255 {
         return refuse(step, meaning::Cause::Registers, node);
@@ -37,7 +38,7 @@ pub fn next_registers(work: &mut [u32], step: Step, scope: Scope, node: usize, n
     let meaning::Outcome::Accepted(_) = o else {
         return step;
     };
-    let at = 3073 + 8 * scope.depth;
+    let at = REGISTERS + 8 * scope.depth;
     let register = work[at] % 256;
     let more = n as u32;
     if 255 < register + more {

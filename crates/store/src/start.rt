@@ -5,6 +5,13 @@ ghost use lib.ListN.{length};
 ghost use Rattle.store.specs.Store.{first-step};
 ghost use Rattle.store.specs.Opening.{Zeroed, Framed, Begun};
 use crate::Step;
+use crate::layout::EDGES;
+use crate::layout::NAMES;
+use crate::layout::OFFSETS;
+use crate::layout::TOP;
+
+// Where main's first block ends.
+const SECOND_EDGE: usize = EDGES + 1;
 
 // The words from `from` up to `to` are 0.
 fn zero(work: &mut [u32], from: usize, to: usize)
@@ -23,7 +30,7 @@ pub(crate) fn open_frame(work: &mut [u32], depth: usize, name: u32, block: u32, 
     requires { ⌜ (depth ≤ 8) × (3144 ≤ length (now work)) ⌝ }
     ensures { λ _. ⌜ Framed (now (work .entry)) depth name block loops (now (work .exit)) ⌝ }
 {
-    let at = 3072 + 8 * depth;
+    let at = NAMES + 8 * depth;
     work[at] = name;
     work[at + 1] = 0;
     work[at + 2] = 0;
@@ -36,9 +43,9 @@ pub fn begin(work: &mut [u32], nodes: usize) -> Step
     requires { ⌜ (1 ≤ nodes) × (nodes ≤ 32768) × (12288 + 16 * nodes ≤ length (now work)) ⌝ }
     ensures { λ r. ⌜ (r ≡ first-step) × Begun (now (work .entry)) nodes (now (work .exit)) ⌝ }
 {
-    zero(work, 12288 + 10 * nodes, 12288 + 15 * nodes);
-    work[5708 + nodes] = 0;
-    work[5709 + nodes] = 0;
+    zero(work, TOP + 10 * nodes, OFFSETS + 15 * nodes);
+    work[EDGES + nodes] = 0;
+    work[SECOND_EDGE + nodes] = 0;
     open_frame(work, 0, 65535, 0, 0);
     Step {
         outcome: meaning::Outcome::Accepted(0),
