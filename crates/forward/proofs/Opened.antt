@@ -6,12 +6,11 @@ use mathlib.Core.Bool.{Bool, true, false}
 use mathlib.Core.List.{List, [], _∷_, _++_}
 use mathlib.Core.Option.{Option, none, some}
 use native.Mathlib.Omega.{arith}
-use lib.ListN.{length}
 use lib.Dec.{eqb}
 use Rattle.meaning.specs.Constant.{Constant}
-use Rattle.meaning.specs.State.{State, Open, M, refused, done, and-then, _>>=_, _>>_, pure, refuse, if-then, get, set-current, with-registers, with-blocks, with-local, next-register, allocate-register, add-constant, add-global, not-found, full, found, search-outward, searched, get-upvalue}
+use Rattle.meaning.specs.State.{State, Open, M, refused, done, and-then, _>>=_, _>>_, pure, refuse, if-then, get, set-current, with-registers, with-blocks, with-local, next-register, allocate-register, add-global, not-found, full, found, search-outward, searched, get-upvalue}
 use Rattle.meaning.specs.declared.Cause.{Cause}
-use Rattle.meaning.specs.declared.Cause.the-variants.{Registers, Captures, Constants}
+use Rattle.meaning.specs.declared.Cause.the-variants.{Registers, Captures}
 use Rattle.forward.specs.Forward.{Config, config, Run, stopped, going, bind, pick, on, at, fwd-by, fwd-number, fwd-unit, Answers}
 
 -- ---- registers, locals, blocks, loops
@@ -44,11 +43,6 @@ with-constant s v = record { constants = s .constants ++ v ∷ []; prototypes = 
 
 abbrev pub with-global : State → ℕ → State
 with-global s name = record { constants = s .constants; prototypes = s .prototypes; globals = name ∷ s .globals; current = s .current; outer = s .outer }
-
-pub constant-opened : (node : ℕ) (v : Constant) (c : Config)
-    → fwd-number (add-constant node v) c ≡ pick (eqb (length (c .state .constants)) 1024) (stopped Constants node) (going (config (c .code) (length (c .state .constants)) (with-constant (c .state) v)))
-unfolding fwd-by add-constant on
-constant-opened node v c = either-run (eqb (length (c .state .constants)) 1024) Constants node _ (c .state) _
 
 pub global-opened : (name : ℕ) (c : Config) → fwd-unit (add-global name) c ≡ going (at (with-global (c .state) name) c)
 unfolding fwd-by add-global on
