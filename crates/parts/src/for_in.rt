@@ -1,7 +1,9 @@
 // visit_enhanced_for_stmt: the head of the loop.
-ghost use Prim.Native.Nat.{_+_, _*_, _<_, _≤_};
+ghost use Prim.Native.Nat.{ℕ, _+_, _*_, _<_, _≤_};
+ghost use mathlib.Core.List.{[], _∷_};
 ghost use lib.ListN.{length};
 ghost use Rattle.meaning.specs.Fields.{words};
+ghost use Rattle.meaning.specs.Read.{token};
 ghost use Rattle.meaning.specs.Statements.{iterate-each, iterate};
 ghost use Rattle.forward.specs.Forward.{fwd-code, open-for-in, head-for-in};
 ghost use Rattle.store.specs.Store.{while-going, Fine};
@@ -43,6 +45,33 @@ pub fn open_for_in(work: &mut [u32], step: Step, scope: Scope, node: usize, mark
         zero.result,
         mark,
         counter.result,
+    )
+}
+
+// The element has the only name: its local, and a GetIterk.
+fn iterate_one(
+    work: &mut [u32],
+    step: Step,
+    scope: Scope,
+    name: usize,
+    collection: u32,
+    counter: u32,
+    mark: u32,
+) -> Step
+    requires { ⌜ Fine (now work) scope step × Room (now work) scope step 0 3 1 × (name < 65536) × (counter + 3 < 255) × (collection < 256) ⌝ }
+    ensures { λ r. ⌜ ((node place : ℕ) → Leaf (now (work .entry)) scope step (now (work .exit)) scope r (uses 3 1 0) (fwd-code (iterate node mark (counter + 3) collection counter (token name place ∷ [])))) ⌝ }
+{
+    store::allocate_register(work, step, scope, name, counter + 3);
+    code::put(
+        work,
+        step,
+        scope,
+        GET_ITERK,
+        counter + 3,
+        collection,
+        counter,
+        mark,
+        0,
     )
 }
 
@@ -99,41 +128,29 @@ fn iterate(
 {
     if n == 1 {
         let name = nodes::child(payload, from);
-        store::allocate_register(work, step, scope, name, counter + 3);
-        code::put(
-            work,
-            step,
-            scope,
-            GET_ITERK,
-            counter + 3,
-            collection,
-            counter,
-            mark,
-            0,
-        )
-    } else {
-        let gotten = code::emit(
-            work,
-            step,
-            scope,
-            GET_ITER,
-            counter + 3,
-            collection,
-            counter,
-            mark,
-        );
-        iterate_each(
-            payload,
-            work,
-            gotten,
-            scope,
-            node,
-            from,
-            n,
-            counter + 3,
-            mark,
-        )
+        return iterate_one(work, step, scope, name, collection, counter, mark);
     }
+    let gotten = code::emit(
+        work,
+        step,
+        scope,
+        GET_ITER,
+        counter + 3,
+        collection,
+        counter,
+        mark,
+    );
+    iterate_each(
+        payload,
+        work,
+        gotten,
+        scope,
+        node,
+        from,
+        n,
+        counter + 3,
+        mark,
+    )
 }
 
 // visit_enhanced_for_stmt after the collection: the condition, then the names' registers.

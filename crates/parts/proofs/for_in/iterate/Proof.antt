@@ -1,4 +1,4 @@
--- One name: its local and GetIterk, forward's line `iterate-one-calls`. Several: GetIter, then `iterate_each`, forward's line `iterate-many-calls`.
+-- One name: `iterate_one`. Several: GetIter, then `iterate_each`, forward's line `iterate-many-calls`.
 use Prim.Native.Nat.{ℕ, _+_, _≤_}
 use mathlib.Core.List.{List, [], _∷_}
 use native.Mathlib.Omega.{arith}
@@ -9,42 +9,22 @@ use Rattle.meaning.specs.Statements.{iterate}
 use Rattle.forward.specs.Forward.{Run, fwd-code}
 use Rattle.forward.proofs.Calls.{Chain}
 use Rattle.forward.proofs.Lines.{iterate-many-calls}
-use Rattle.forward.proofs.Chains.{iterate-one-chain, iterate-many-chain}
+use Rattle.forward.proofs.Chains.{iterate-many-chain}
 use Rattle.parts.proofs.Line.{from, _▹_, room, here, ends}
 use Rattle.parts.proofs.Tokens.{one-token, two-tokens}
 use Rattle.parts.proofs.for_in.iterate.Statement.{statement}
 use Rattle.parts.proofs.for_in.iterate.Tie as tie
 
--- ---- one name
-
-allocate-register-requires : tie.Need-allocate-register-requires
-allocate-register-requires c κs =
-    let start = c .before .before .before .before .before in
-    let line = from (start .pre .0) (start .pre .1) in
-    (start .pre .0, room 1 1 line (search needs), c .before .child .ensures .1, here line (λ g. omega (arith, start .pre .5)))
-
-put-requires : tie.Need-put-requires
-put-requires c κs =
-    let start = c .before .before .before .before .before .before .before .before .before in
-    let line = from (start .pre .0) (start .pre .1) ▹ c .before .before .before .allocate-register .ensures in (
-      line .moves .fine,
-      room 2 0 line (search needs),
-      here line (λ g. record { op-small = omega arith; a-small = omega (arith, start .pre .5); b-small = start .pre .6; c-small = omega (arith, start .pre .5) }),
-      here line (λ g. omega arith),
-    )
+iterate-one-requires : tie.Need-iterate-one-requires
+iterate-one-requires c κs = let start = c .before .before .before .before .before in (start .pre .0, start .pre .1, c .before .child .ensures .1, start .pre .5, start .pre .6)
 
 returns : tie.Need-returns
 returns c =
-    let start = c .before .before .before .before .before .before .before .before .before .before .before .before in
+    let start = c .before .before .before .before .before .before .before .before in
     let s = start .args in
-    let child = c .before .before .before .before .before .before .before .before .child .ensures in
-    let local = rw (child .0) at (c .before .before .before .before .before .before .allocate-register .ensures) in
-    let last = c .before .before .put .ensures in
-    ends _ (from (start .pre .0) (start .pre .1) ▹ local ▹ last) (search needs)
-    (λ ps. rw (one-token (s .payload .now) (s .from) (s .n) (start .pre .3) (c .before .before .before .before .before .before .before .before .before .if1 .taken))
-    (iterate-one-chain (s .node) (s .mark) (s .counter + 3) (s .collection) (s .counter) _ _ _ (local .runs ps) _ (last .runs ps)))
-
--- ---- several
+    let child = c .before .before .before .before .child .ensures in
+    let one = rw (child .0) at (c .before .before .iterate-one .ensures) in
+    rw (one-token (s .payload .now) (s .from) (s .n) (start .pre .3) (c .before .before .before .before .before .if1 .taken)) (one (s .node) _)
 
 several : (node mark element collection counter : ℕ) (xs : List Token) → 2 ≤ length xs → (r : Run) → Chain (iterate-many-calls node mark element collection counter xs) r (fwd-code (iterate node mark element collection counter xs))
 several node mark element collection counter [] h = absurd (omega arith)
@@ -78,15 +58,12 @@ iterate-spec =
     tie.close
     (tie.spec
     (λ c κs. omega arith)
-    (λ c. omega arith)
-    allocate-register-requires
-    (λ c. omega arith)
-    put-requires
+    iterate-one-requires
+    (λ c. search needs)
+    returns
     (λ c. omega arith)
     emit-requires
     (λ c. omega arith)
     iterate-each-requires
-    (λ c. search needs)
-    returns
     (λ c. search needs)
     returns-2)
