@@ -367,6 +367,7 @@ fn elifs(
     ensures { λ r. ⌜ LowersElifs (now (tree .entry)) node from to (now (work .entry)) (now (out .entry)) scope step (now (work .exit)) (now (out .exit)) r ⌝ }
 {
     let payload = payload_of(tree, work, scope, node);
+    let inside = in_branch(scope, BRANCH_BLOCKS);
     let mut last = step;
     let mut k = from;
     while k < to {
@@ -375,7 +376,7 @@ fn elifs(
         let n = count_of(tree, work, scope, child);
         let condition = expression(tree, work, out, last, scope, x.child0);
         let tested = code::test_and_jump(work, condition, scope, 0, NO_MARK);
-        let then = row(tree, work, out, tested, scope, child, 1, n);
+        let then = row(tree, work, out, tested, inside, child, 1, n);
         last = code::end_branch(work, then, scope, condition.code, NO_MARK);
         k += 1;
     }

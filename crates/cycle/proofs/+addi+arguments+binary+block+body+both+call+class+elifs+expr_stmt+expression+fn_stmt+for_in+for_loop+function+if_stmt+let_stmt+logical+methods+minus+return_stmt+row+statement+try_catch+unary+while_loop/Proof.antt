@@ -256,6 +256,7 @@ pub +addi+arguments+binary+block+body+both+call+class+elifs+expr-stmt+expression
     elifs-proof.Inv-loop
     elifs-proof.μ-loop
     (elifs-proof.payload-of-requires t)
+    (elifs-proof.in-branch-requires t)
     (elifs-proof.loop-holds t)
     (elifs-proof.child-requires t)
     (elifs-proof.words-of-requires t)

@@ -14,8 +14,8 @@ use Rattle.cycle.proofs.reading.words_of.Reads as words-of-reads
 use Rattle.cycle.proofs.+addi+arguments+binary+block+body+both+call+class+elifs+expr_stmt+expression+fn_stmt+for_in+for_loop+function+if_stmt+let_stmt+logical+methods+minus+return_stmt+row+statement+try_catch+unary+while_loop.Proof.Order.{elifs-below, expression-below, if-stmt-at, row-below}
 use Rattle.cycle.proofs.Nodes.{an-if}
 use Rattle.cycle.proofs.Sizes.{if-size}
-use Rattle.cycle.proofs.Way.{_▹_, adds, arrive, ends, from, give-expr, give-row, meanwhile, next, next-leaf, readable, sets, stand, twice}
-use Rattle.cycle.specs.Cycle.{AskElifs, AskExpr, AskRow, GivenStmt, LowersElifs, LowersExpr, LowersRow, LowersStmt, branched}
+use Rattle.cycle.proofs.Way.{_▹_, adds, arrive, ends, from, give-expr, give-row, meanwhile, next, next-leaf, no-block, readable, sets, stand, twice}
+use Rattle.cycle.specs.Cycle.{AskElifs, AskExpr, AskRow, GivenStmt, LowersElifs, LowersExpr, LowersRow, LowersStmt}
 use Rattle.forward.proofs.Chains.{if-chain}
 use Rattle.forward.specs.Forward.{end-branch, end-if, sure, test-and-jump}
 use Rattle.meaning.proofs.Reading.{If}
@@ -31,7 +31,7 @@ use Rattle.store.specs.declared.Step.{Step}
 use denote.Ref.{now}
 use lib.Dec.{lit<, lit≤}
 use mathlib.Core.List.{List}
-use mathlib.Core.Path.{_∙_, _≡_, ap, refl}
+use mathlib.Core.Path.{_∙_, _≡_, refl}
 use native.Mathlib.Omega.{arith}
 
 module _ {t w : List ℕ} {p : Scope} {s : Step} {i n m : ℕ} (g : GivenStmt t w p s i) (x : If (fields t) i n m) where
@@ -100,10 +100,6 @@ module _ {t w : List ℕ} {p : Scope} {s : Step} {i n m : ℕ} (g : GivenStmt t 
                     let a6 = next a5 (d6 .does) in
                     let a7 = next-leaf a6 d7 in
                     ends a7 (rw (x .is) (if-chain _ _ _ _ _ _ _ _ (known _ _ _ ps) _ (a1 .runs) _ (known _ _ _ (a1 .protos)) _ (a2 .runs) _ (a3 .runs) _ (a4 .runs) _ (a5 .runs) _ (a6 .runs) _ (a7 .runs)))
-
--- a branch that opens no block is in the scope around it
-no-block : {p r : Scope} → r ≡ branched 0 p → r ≡ p
-no-block {p} e = let z : 0 + p .block ≡ p .block = omega arith in e ∙ ap (λ b. record { nodes = p .nodes; depth = p .depth; block = b; loops = p .loops }) z
 
 -- the word after the statements says how many elifs follow
 after-thens : (n : ℕ) → 3 + n + 1 ≡ 4 + n
