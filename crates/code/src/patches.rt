@@ -1,5 +1,4 @@
 // Scans over pending code that set its jumps, as the source has them.
-ghost use mathlib.Core.Path.{_≡_};
 ghost use Prim.Native.Nat.{_*_, _≤_};
 ghost use lib.ListN.{length};
 ghost use Rattle.meaning.specs.Chunk.{patch-jump, patch-loop, patch-end, patch-ends, patch-first};

@@ -1,4 +1,4 @@
--- A local more in the innermost block: its word, the edge, its link and the head of its bucket.
+-- A local more in the innermost block: its register, the head of its bucket, its word with link and name, the edge.
 use mathlib.Core.Path.{_≡_, refl, sym, ap, ap₂, _∙_}
 use mathlib.Core.List.{List, _∷_}
 use Prim.Native.Nat.{ℕ, suc, _+_, _*_, _-_, _/_, _%_, _<_, _≤_}
@@ -15,7 +15,7 @@ use Rattle.store.specs.Layout.{registers, first, edge, local-at, block, 
 use Rattle.store.specs.Store.{open-at, around, state-of, Leads, Linked, Sound, Fine, Kept}
 use Rattle.store.specs.Promise.{a-local, Roomy, Used, Moves, Leaf, Latest, Unlinked}
 use Rattle.store.proofs.Tables.{span-more, span-ext}
-use Rattle.store.proofs.Halves.{half-same, half-other, half-apart, half-small, word-other, length-half}
+use Rattle.store.proofs.Halves.{half-same, half-other, half-apart, word-other, length-half}
 use Rattle.store.proofs.Regions.{Same, Locals, blocks-same, latest-same, leads-same, edges-below, constants-same, globals-same, code-same, around-by, open-by}
 use Rattle.store.proofs.Steady.{kept-by, taken-same}
 use Rattle.store.proofs.Runs.{promised, ran}

@@ -1,4 +1,4 @@
--- Refused at entry; else the four stores of `pushed-by` (Locals.antt): link, head, word, edge; then `unlink`. Registers and nodes have paid for the word.
+-- Refused at entry; else the four stores of `pushed-by` (Locals.antt): register, head, word, edge; then `unlink`. Registers and nodes have paid for the word.
 use borrow.Author.Needs.{needs}
 use Rattle.store.proofs.local.allocate_register.Statement.{statement}
 use Rattle.store.proofs.local.allocate_register.Tie as tie

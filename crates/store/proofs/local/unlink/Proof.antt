@@ -4,7 +4,7 @@ use borrow.Author.Needs.{needs}
 use Rattle.store.proofs.local.unlink.Statement.{statement}
 use Rattle.store.proofs.local.unlink.Tie as tie
 use Prim.Native.Nat.{ℕ, _+_, _-_, _*_, _<_, _≤_}
-use mathlib.Core.Path.{_≡_, refl, ap, _∙_}
+use mathlib.Core.Path.{_≡_, refl, ap}
 use mathlib.Core.List.{List}
 use native.Mathlib.Omega.{arith}
 use lib.ListN.{length, getD, length-set}
