@@ -32,3 +32,17 @@ pub fn check() -> Option<Check> {
     #[cfg(not(has_check))]
     None
 }
+
+/// Bytes of stack that the last emulated call of this thread touched.
+#[cfg(not(target_arch = "x86_64"))]
+pub fn emulated_stack() -> usize {
+    #[cfg(has_lower)]
+    {
+        extern "C" {
+            fn yengrazul_emulated_stack() -> u64;
+        }
+        return unsafe { yengrazul_emulated_stack() } as usize;
+    }
+    #[cfg(not(has_lower))]
+    0
+}

@@ -1,4 +1,5 @@
-//! The stack of a call is measured: as much as it touches, and anew at each call.
+//! The stack of a call is measured: as much as it touches, and anew at each call. An emulated call looks at its stack itself.
+#![cfg(target_arch = "x86_64")]
 use differential::stack::Stack;
 use std::hint::black_box;
 
@@ -17,5 +18,5 @@ fn what_a_call_touches() {
         assert!((1_000..2_000).contains(&small), "{small}");
     }
     let busy = || (0..1_000_000u64).for_each(|k| assert!(black_box(k) < 1_000_000));
-    assert!(stack.run(busy).seconds > 0.0);
+    assert!(stack.run(busy).seconds > Some(0.0));
 }
