@@ -6,6 +6,7 @@ use Rattle.values.proofs.answer.answer_of.Reads as answer-of
 use Rattle.values.proofs.literal.bits_at.Reads as bits-at
 use Rattle.values.proofs.literal.number_of.Reads as number-of
 use Rattle.values.proofs.literal.literal_of.Reads as literal-of
+use Rattle.values.proofs.literal.small_bits.Reads as small-bits
 use Rattle.values.proofs.literal.small.Reads as small
 
 pub cause-number-determined : (κs : _) (args : _) (r r' : _) (s s' : _) → cause-number.Post κs args r s → cause-number.Post κs args r' s' → r ≡ r'
@@ -22,6 +23,9 @@ number-of-determined κs args r r' s s' p q = p .0 ∙ sym (q .0)
 
 pub literal-of-determined : (κs : _) (args : _) (r r' : _) (s s' : _) → literal-of.Post κs args r s → literal-of.Post κs args r' s' → r ≡ r'
 literal-of-determined κs args r r' s s' p q = p .0 ∙ sym (q .0)
+
+pub small-bits-determined : (κs : _) (args : _) (r r' : _) (s s' : _) → small-bits.Post κs args r s → small-bits.Post κs args r' s' → r ≡ r'
+small-bits-determined κs args r r' s s' p q = p ∙ sym q
 
 pub small-determined : (κs : _) (args : _) (r r' : _) (s s' : _) → small.Post κs args r s → small.Post κs args r' s' → r ≡ r'
 small-determined κs args r r' s s' p q = p ∙ sym q

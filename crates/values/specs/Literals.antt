@@ -6,7 +6,7 @@ use mathlib.Core.Option.{Option, none, some}
 use lib.Dec.{eqb}
 use lib.Ieee.{binary64, nanBits, ofBits}
 use Rattle.meaning.specs.Read.{at, bits}
-use Rattle.meaning.specs.Constant.{Constant, number, text, other, small-value}
+use Rattle.meaning.specs.Constant.{Constant, number, text, other, constant-of, small}
 use Rattle.meaning.specs.declared.Literal.{Literal}
 use Rattle.meaning.specs.declared.Literal.the-variants.{Number, NotANumber, Text, Other}
 use Rattle.values.specs.declared.literal.Immediate.{Immediate}
@@ -29,9 +29,12 @@ abbrev pub small-as : Option ℕ → Immediate
 small-as none = Not
 small-as (some k) = Is k
 
--- the number from 0 to 255 that a literal equals by IEEE 754's comparison, if any
+-- the number from 0 to 255 that a constant equals by IEEE 754's comparison, if any
+abbrev pub small-constant : Constant → Immediate
+small-constant (number bits) = small-as (small bits)
+small-constant (text name) = Not
+small-constant (other word) = Not
+
+-- the same of a literal, by what it stands for
 abbrev pub small-of : Literal → Immediate
-small-of (Number x) = small-as (small-value x)
-small-of (NotANumber bits) = Not
-small-of (Text name) = Not
-small-of (Other word) = Not
+small-of l = small-constant (constant-of l)

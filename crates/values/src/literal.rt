@@ -4,7 +4,7 @@ ghost use mathlib.Core.Path.{_≡_};
 ghost use Prim.Native.Nat.{_<_};
 ghost use Rattle.meaning.specs.Fields.{words};
 ghost use Rattle.meaning.specs.Read.{at, bits};
-ghost use Rattle.meaning.specs.Constant.{number, constant-of, Proper, small-value};
+ghost use Rattle.meaning.specs.Constant.{number, constant-of, Proper, small};
 ghost use Rattle.values.specs.Literals.{number-of, literal-of, constant-at, small-as, small-of};
 
 // What the test for Addi finds.
@@ -68,30 +68,36 @@ pub fn literal_of(tag: u8, p: &[u8]) -> Literal
     Literal::Other(w as u16)
 }
 
-// The whole part is a byte only from above -1 to below 256; the comparison then says whether there is no other part.
-fn small_number(x: f64) -> Immediate
-    ensures { λ r. ⌜ r ≡ small-as (small-value x) ⌝ }
+// The test for Addi, from the bits: a zero of either sign; else no sign, an exponent of 0 to 7, and no digit below the point.
+pub fn small_bits(bits: u64) -> Immediate
+    ensures { λ r. ⌜ r ≡ small-as (small bits) ⌝ }
 {
-    if x > -1.0 {
-        if x < 256.0 {
-            let k = std::num::truncating_f64_to_u64(x) as u8;
-            if x == (k as f64) {
-                return Immediate::Is(k);
-            }
-            return Immediate::Not;
-        }
+    if bits % 0x8000_0000_0000_0000 == 0 {
+        return Immediate::Is(0);
+    }
+    let field = bits / 0x0010_0000_0000_0000;
+    if field < 1023 {
         return Immediate::Not;
+    }
+    if 1030 < field {
+        return Immediate::Not;
+    }
+    let digits = 0x0010_0000_0000_0000 + bits % 0x0010_0000_0000_0000;
+    let unit = 1u64 << (1075 - field);
+    if digits % unit == 0 {
+        return Immediate::Is((digits / unit) as u8);
     }
     Immediate::Not
 }
 
 // The test for Addi: the literal equals one of 0 to 255 by IEEE 754's comparison, and negative zero counts as 0.
 pub fn small(l: Literal) -> Immediate
+    requires { ⌜ Proper l ⌝ }
     ensures { λ r. ⌜ r ≡ small-of l ⌝ }
 {
     match l {
-        Literal::Number(x) => small_number(x),
-        Literal::NotANumber(_) => Immediate::Not,
+        Literal::Number(x) => small_bits(f64::to_bits(x)),
+        Literal::NotANumber(bits) => small_bits(bits),
         Literal::Text(_) => Immediate::Not,
         Literal::Other(_) => Immediate::Not,
     }

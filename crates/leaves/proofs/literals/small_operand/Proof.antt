@@ -8,8 +8,8 @@ use Rattle.meaning.specs.Fields.{fields, words}
 use Rattle.meaning.specs.Syntax.{small-operand}
 use Rattle.meaning.specs.Read.{bits}
 use Rattle.meaning.proofs.Reading.{number-node}
-use Rattle.values.specs.Literals.{number-of as literal-by, small-of as small-by}
-use Rattle.values.proofs.Numbers.{small-bits}
+use Rattle.meaning.specs.Constant.{small as small-test}
+use Rattle.values.specs.Literals.{small-as, small-constant}
 use Rattle.leaves.proofs.Held.{inside, readable, plain-operand, is-small, not-small}
 use Rattle.leaves.proofs.literals.small_operand.Statement.{statement}
 use Rattle.leaves.proofs.literals.small_operand.Tie as tie
@@ -26,6 +26,9 @@ payload-of-requires c κs =
     let start = c .before .before .before .before .before in
     readable (start .pre .0) (start .pre .1)
 
+small-requires : tie.Need-small-requires
+small-requires c κs = (c .number-of) .ensures .1 .1
+
 returns-2 : tie.Need-returns-2
 unfolding small-operand
 returns-2 c =
@@ -39,7 +42,7 @@ returns-2 c =
     let enum-told = c .enum-told in
     let held = number-node (fields (now (start .args .tree))) (start .pre .0 .shapes) (start .args .node) (inside (start .pre .0) (start .pre .1)) (sym (tag-of .ensures) ∙ if1 .left) in
     let n = bits-at .ensures ∙ ap (λ p. bits (words p)) (payload-of .ensures) in
-    let found = small .ensures ∙ ap small-by (number-of .ensures .0 ∙ ap literal-by n) ∙ small-bits _ in
+    let found = small .ensures ∙ ap small-constant (number-of .ensures .1 .0) ∙ ap (λ b. small-as (small-test b)) n in
     rw (held .is) (not-small _ (sym (enum-told .given .1) ∙ found))
 
 returns-3 : tie.Need-returns-3
@@ -55,7 +58,7 @@ returns-3 c =
     let found = c .before .found in
     let held = number-node (fields (now (start .args .tree))) (start .pre .0 .shapes) (start .args .node) (inside (start .pre .0) (start .pre .1)) (sym (tag-of .ensures) ∙ if1 .left) in
     let n = bits-at .ensures ∙ ap (λ p. bits (words p)) (payload-of .ensures) in
-    let is = small .ensures ∙ ap small-by (number-of .ensures .0 ∙ ap literal-by n) ∙ small-bits _ in
+    let is = small .ensures ∙ ap small-constant (number-of .ensures .1 .0) ∙ ap (λ b. small-as (small-test b)) n in
     rw (held .is, lt-ltb (found .given .0 .0) 256 (omega arith)) (is-small _ _ (sym (found .given .1) ∙ is))
 
 pub small-operand-spec : {M : Type 1} → statement M
@@ -69,7 +72,7 @@ small-operand-spec =
     payload-of-requires
     (λ c κs. search needs)
     (λ c κs. search needs)
-    (λ c κs. search needs)
+    small-requires
     (λ c. search needs)
     (λ c. search needs)
     returns-2
