@@ -1,4 +1,4 @@
-/* Lowers a tree file to an image file (document 01). Link target/staticlib/liblower.a, which `rt staticlib lower` writes (x86-64, Linux). */
+/* Lowers a tree file to an image file (documents 01 and 02). Link target/staticlib/liblower.a, which `rt staticlib lower` writes (x86-64, Linux). */
 #ifndef YENGRAZUL_H
 #define YENGRAZUL_H
 
@@ -13,8 +13,13 @@ extern "C" {
  * The whole call. It reads tree[0..tree_len), writes all of work, out and answer, and touches nothing else.
  *
  *   answer[0]  number: 0 accepted, else a refusal of enum yengrazul_refusal
- *   answer[1]  place: the node at fault, counted from 0 in the order of the fields (of 1, the whole fields before it); 0 where accepted
+ *   answer[1]  place: the node at fault, counted from 0 in the order of the fields (of 1, the whole fields before it); 0 where accepted and of 21
  *   answer[2]  length: how many bytes of out are the image; 0 where refused
+ *
+ * Mode. YENGRAZUL_MODE_0 lowers as document 01 says and as the Rust does: continue in a for loop starts the loop over, a classic for's
+ * initializer included. In YENGRAZUL_MODE_1 it goes on with the loop: to the first instruction of a classic for's increment (to the jump back
+ * where the increment gives none), to the step of a for-in's counter. Continue in a while is the same in both. Any other number, all 64 bits of it
+ * compared, is refused by 21 before anything else is looked at, whatever the tree and the buffers are. The image does not say its mode.
  *
  * Buffers. They may hold anything before the call. Afterwards work is all zero, out is the image and then zeros, or all zero where
  * refused, and tree is as it was. work has YENGRAZUL_WORDS(nodes) words or more (else 6), out has room for the image (else 18).
@@ -30,14 +35,19 @@ extern "C" {
  *     size_t words = YENGRAZUL_WORDS(yengrazul_nodes(tree, tree_len));
  *     uint32_t *work = malloc(words * sizeof *work);
  *     uint64_t answer[3];
- *     yengrazul_lower(tree, tree_len, work, words, out, out_len, answer);
+ *     yengrazul_lower(tree, tree_len, work, words, out, out_len, YENGRAZUL_MODE_0, answer);
  *     if (answer[0] != YENGRAZUL_ACCEPTED)
  *         printf("%s at node %" PRIu64 ": %s\n", yengrazul_name(answer[0]), answer[1], yengrazul_cause(answer[0]));
  */
 void yengrazul_lower(const uint8_t *tree, size_t tree_len, uint32_t *work, size_t work_len, uint8_t *out, size_t out_len,
-                     uint64_t answer[3]);
+                     uint64_t mode, uint64_t answer[3]);
 
-/* Refusals 1 to 6 alone, for a work area of work_len words; where there is none the length is the number of nodes. This one is in libtree.a. */
+/* The modes. */
+#define YENGRAZUL_MODE_0 ((uint64_t)0)
+#define YENGRAZUL_MODE_1 ((uint64_t)1)
+
+/* Refusals 1 to 6 alone, which no mode changes, for a work area of work_len words; where there is none the length is the number of nodes.
+   This one is in libtree.a. */
 void yengrazul_check(const uint8_t *tree, size_t tree_len, size_t work_len, uint64_t answer[3]);
 
 /* STACK_BYTES: tests/parts/45-worst measures what the worst trees take, and that it is less. */
@@ -52,7 +62,8 @@ void yengrazul_check(const uint8_t *tree, size_t tree_len, size_t work_len, uint
 /* No image is longer: 256 prototypes of 255 captures and 32,767 instructions, 1,024 constants. Most are some 8 bytes for each node. */
 #define YENGRAZUL_IMAGE_MOST ((size_t)256 * (13 + 255 * 5 + 32767 * 9) + (size_t)1024 * 11)
 
-/* answer[0], and when it is given. 1 to 6 are about the whole input, in that order; 7 to 17 are the first met as the tree is lowered; 18 comes last. */
+/* answer[0], and when it is given. 21 comes before all; 1 to 6 are about the whole input, in that order; 7 to 17 are the first met as the tree
+   is lowered; 18 comes last. */
 enum yengrazul_refusal {
     YENGRAZUL_ACCEPTED = 0,
     YENGRAZUL_FRAME = 1,
@@ -72,15 +83,17 @@ enum yengrazul_refusal {
     YENGRAZUL_PROTOTYPES = 15,
     YENGRAZUL_NESTING = 16,
     YENGRAZUL_LONG = 17,
-    YENGRAZUL_ROOM = 18
+    YENGRAZUL_ROOM = 18,
+    YENGRAZUL_MODE = 21
 };
 
-/* The name of a number, as document 01's table has it: "Registers" for 7. */
+/* The name of a number, as documents 01 and 02 have it: "Registers" for 7. */
 static inline const char *yengrazul_name(uint64_t number)
 {
     static const char *const names[] = {
         "Accepted",  "Frame", "Many",  "Shape",  "Tree",      "Depth",      "Work",    "Registers", "Captures", "Undefined",
-        "Redefined", "Stray", "Empty", "Return", "Constants", "Prototypes", "Nesting", "Long",      "Room",
+        "Redefined", "Stray", "Empty", "Return", "Constants", "Prototypes", "Nesting", "Long",      "Room",     "Unknown",
+        "Unknown",   "Mode",
     };
     return number < sizeof names / sizeof *names ? names[number] : "Unknown";
 }
@@ -108,6 +121,9 @@ static inline const char *yengrazul_cause(uint64_t number)
         "eight functions may be open at once, the main one counted",
         "a function may have 32,767 instructions, its last Return counted",
         "the image must fit into the output",
+        "no refusal has this number",
+        "no refusal has this number",
+        "the mode must be 0 or 1",
     };
     return number < sizeof causes / sizeof *causes ? causes[number] : "no refusal has this number";
 }

@@ -1,4 +1,4 @@
-//! The clock: each call by itself, summed over the scripts of a size, in rounds that go over all sizes and all three programs.
+//! The clock: each call by itself, summed over the scripts of a size, in rounds that go over all sizes and all programs.
 use crate::scripts::Script;
 use std::hint::black_box;
 use std::time::Instant;
@@ -11,6 +11,7 @@ extern "C" {
         work_len: usize,
         out: *mut u8,
         out_len: usize,
+        mode: u64,
         answer: *mut u64,
     );
     fn yengrazul_check(tree: *const u8, tree_len: usize, work_len: usize, answer: *mut u64);
@@ -29,6 +30,7 @@ pub struct Row {
     pub nodes: usize,
     pub scripts: usize,
     pub whole: Times,
+    pub mode_1: Times,
     pub check: Times,
     pub rust: Times,
 }
@@ -51,10 +53,10 @@ pub fn measure(bundles: &[Vec<Script>], rounds: usize) -> Vec<Row> {
     let most = |of: fn(&Script) -> usize| bundles.iter().flatten().map(of).max().expect("a script");
     let mut lent = Lent { work: vec![0; most(words)], out: vec![0; most(room)] };
     bundles.iter().flatten().for_each(|script| same_image(script, &mut lent));
-    let mut times = vec![[const { Vec::new() }; 3]; bundles.len()];
+    let mut times = vec![[const { Vec::new() }; 4]; bundles.len()];
     for round in 0..=rounds {
         for (bundle, times) in bundles.iter().zip(&mut times) {
-            let taken = [rust(bundle), whole(bundle, &mut lent), check(bundle)];
+            let taken = [rust(bundle), whole(bundle, 0, &mut lent), whole(bundle, 1, &mut lent), check(bundle)];
             if round > 0 {
                 times.iter_mut().zip(taken).for_each(|(times, taken)| times.push(taken));
             }
@@ -63,10 +65,10 @@ pub fn measure(bundles: &[Vec<Script>], rounds: usize) -> Vec<Row> {
     bundles.iter().zip(times).map(|(bundle, times)| row(bundle, times)).collect()
 }
 
-fn row(bundle: &[Script], times: [Vec<f64>; 3]) -> Row {
+fn row(bundle: &[Script], times: [Vec<f64>; 4]) -> Row {
     let all: usize = bundle.iter().map(|script| script.nodes).sum();
-    let [rust, whole, check] = times.map(|times| summary(times, all as f64));
-    Row { nodes: all / bundle.len(), scripts: bundle.len(), whole, check, rust }
+    let [rust, whole, mode_1, check] = times.map(|times| summary(times, all as f64));
+    Row { nodes: all / bundle.len(), scripts: bundle.len(), whole, mode_1, check, rust }
 }
 
 fn summary(mut times: Vec<f64>, nodes: f64) -> Times {
@@ -101,11 +103,11 @@ fn rust(bundle: &[Script]) -> f64 {
     ready.into_iter().map(one).sum()
 }
 
-/// The whole call, from bytes: checks, lowering, image, clearing.
-fn whole(bundle: &[Script], lent: &mut Lent) -> f64 {
+/// The whole call in a mode, from bytes: checks, lowering, image, clearing. The image is as long in mode 1 as in mode 0.
+fn whole(bundle: &[Script], mode: u64, lent: &mut Lent) -> f64 {
     let mut one = |script: &Script| {
         let mut answer = [9u64; 3];
-        let taken = nanoseconds(|| answer = lower(black_box(script), lent));
+        let taken = nanoseconds(|| answer = lower(black_box(script), mode, lent));
         assert_eq!(answer, [0, 0, script.image.len() as u64], "the script is accepted");
         taken
     };
@@ -125,7 +127,7 @@ fn check(bundle: &[Script]) -> f64 {
     bundle.iter().map(one).sum()
 }
 
-fn lower(script: &Script, lent: &mut Lent) -> [u64; 3] {
+fn lower(script: &Script, mode: u64, lent: &mut Lent) -> [u64; 3] {
     let (work, out, mut answer) = (&mut lent.work[..words(script)], &mut lent.out[..room(script)], [9u64; 3]);
     unsafe {
         yengrazul_lower(
@@ -135,15 +137,16 @@ fn lower(script: &Script, lent: &mut Lent) -> [u64; 3] {
             work.len(),
             out.as_mut_ptr(),
             out.len(),
+            mode,
             answer.as_mut_ptr(),
         );
     }
     answer
 }
 
-/// Both give the same image, or there is nothing to compare.
+/// Mode 0 gives the Rust's image, or there is nothing to compare.
 fn same_image(script: &Script, lent: &mut Lent) {
     let length = script.image.len();
-    assert_eq!(lower(script, lent), [0, 0, length as u64], "number, place and length");
+    assert_eq!(lower(script, 0, lent), [0, 0, length as u64], "number, place and length");
     assert!(lent.out[..length] == script.image, "the image is the Rust's");
 }

@@ -5,20 +5,20 @@ use crate::measure::{Row, Times};
 /// A row for each size, and how much a node of the largest costs more than one of the smallest.
 pub fn table(rows: &[Row]) -> String {
     let mut text = String::from(
-        "| nodes a script | scripts | whole call | check alone | Rust compile | Rust / whole call |\n|---|---|---|---|---|---|\n",
+        "| nodes a script | scripts | whole call | in mode 1 | check alone | Rust compile | Rust / whole call |\n|---|---|---|---|---|---|---|\n",
     );
     for row in rows {
-        let [whole, check, rust] = [row.whole, row.check, row.rust].map(both);
+        let [whole, mode_1, check, rust] = [row.whole, row.mode_1, row.check, row.rust].map(both);
         text += &format!(
-            "| {} | {} | {whole} | {check} | {rust} | {:.1} |\n",
+            "| {} | {} | {whole} | {mode_1} | {check} | {rust} | {:.1} |\n",
             with_commas(row.nodes),
             row.scripts,
             row.ratio()
         );
     }
-    let columns: [fn(&Row) -> Times; 3] = [|row| row.whole, |row| row.check, |row| row.rust];
-    let [whole, check, rust] = columns.map(|of| growth(rows, of));
-    text + &format!("| growth | | {whole} | {check} | {rust} | |\n")
+    let columns: [fn(&Row) -> Times; 4] = [|row| row.whole, |row| row.mode_1, |row| row.check, |row| row.rust];
+    let [whole, mode_1, check, rust] = columns.map(|of| growth(rows, of));
+    text + &format!("| growth | | {whole} | {mode_1} | {check} | {rust} | |\n")
 }
 
 fn both(times: Times) -> String {
@@ -51,14 +51,15 @@ Nanoseconds a node: the median of {rounds} rounds, and the least in brackets. Ra
 {table}
 ![nanoseconds a node against nodes](benchmark.svg)
 
-- Whole call: `yengrazul_lower` from bytes to bytes. It checks the tree, lowers it, writes the image, and clears the work area and the output.
+- Whole call: `yengrazul_lower` from bytes to bytes, in mode 0. It checks the tree, lowers it, writes the image, and clears the work area and the output.
+- In mode 1: the same call in that mode, in which continue in a for loop goes on with it. The Rust has no such mode.
 - Check alone: `yengrazul_check`, refusals 1 to 6.
 - Rust compile: `compile` and `leave_function` of the unchanged source from a ready syntax tree. It reads no bytes, checks nothing, and writes no
   image; what it gives is dropped while the clock stands.
 
-How it is measured. One process lowers generated scripts: functions with ordinary bodies, always accepted; before the clock starts each image is compared with
+How it is measured. One process lowers generated scripts: functions with ordinary bodies, always accepted; before the clock starts each image of mode 0 is compared with
 the Rust's, byte for byte. For each size there are as many different scripts as make about 30,000 nodes in all, and a round goes over all of them: a small
-script that is repeated is learnt by the branch predictor and looks faster than it is. Each round goes over all sizes, and in each over the three
+script that is repeated is learnt by the branch predictor and looks faster than it is. Each round goes over all sizes, and in each over all
 programs, so that a disturbance meets all. The work area has 12,288 words and 16 for each node, the output 64 bytes more than the image. Growth is from the
 smallest size to the largest.
 "

@@ -1,4 +1,4 @@
-// Part of two build scripts: where the source stands, and the text of one of its files.
+// Part of three build scripts: where the source stands, and the text of one of its files.
 
 const FILES: [&str; 7] = ["compiler", "errors", "expr", "instruction", "stmt", "token", "value"];
 
@@ -23,4 +23,18 @@ fn write_modules(folder: &std::path::Path) {
         text += &format!("#[allow(warnings)]\n#[path = {file:?}]\npub mod {name};\n");
     }
     std::fs::write(std::path::Path::new(&std::env::var("OUT_DIR").unwrap()).join("modules.rs"), text).unwrap();
+}
+
+/// Writes the files of the source as `edited(name, text)` has them, and modules.rs for the copy.
+#[allow(dead_code)]
+fn write_copy(edited: impl Fn(&str, String) -> String) {
+    println!("cargo:rerun-if-changed=../bridge");
+    let folder = source();
+    let copy = std::path::PathBuf::from(std::env::var("OUT_DIR").unwrap()).join("source");
+    std::fs::create_dir_all(&copy).unwrap();
+    for name in FILES {
+        let text = std::fs::read_to_string(folder.join(name).with_extension("rs")).unwrap();
+        std::fs::write(copy.join(name).with_extension("rs"), edited(name, text)).unwrap();
+    }
+    write_modules(&copy);
 }

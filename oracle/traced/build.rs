@@ -1,5 +1,6 @@
 //! Copies the source with a short list of edits, each of which must match exactly as often as it says.
 include!("../bridge/locate.rs");
+include!("../bridge/continues.rs");
 
 /// In the file, `old` stands `times` times and becomes `new`.
 struct Edit(&'static str, usize, &'static str, &'static str);
@@ -47,7 +48,7 @@ fn edited(name: &str, text: String) -> String {
     let mut text = match name {
         "expr" => numbered(&text, 16),
         "stmt" => numbered(&text, 14),
-        "compiler" => guarded(&text, 29),
+        "compiler" => with_continues(&guarded(&text, 29), in_mode_1),
         _ => text,
     };
     for Edit(file, times, old, new) in EDITS {
@@ -57,6 +58,11 @@ fn edited(name: &str, text: String) -> String {
         }
     }
     text
+}
+
+/// One copy serves both modes.
+fn in_mode_1(old: &str, new: &str) -> String {
+    format!("if crate::trace::is_mode_1() {{ {new} }} else {{ {old} }}")
 }
 
 /// Each struct of the syntax tree gets the number of its node.
@@ -90,13 +96,5 @@ fn behind(text: &str, times: usize, more: impl Fn(&str) -> Option<String>) -> St
 
 fn main() {
     println!("cargo:rerun-if-changed=build.rs");
-    println!("cargo:rerun-if-changed=../bridge/locate.rs");
-    let folder = source();
-    let copy = std::path::PathBuf::from(std::env::var("OUT_DIR").unwrap()).join("source");
-    std::fs::create_dir_all(&copy).unwrap();
-    for name in FILES {
-        let text = std::fs::read_to_string(folder.join(name).with_extension("rs")).unwrap();
-        std::fs::write(copy.join(name).with_extension("rs"), edited(name, text)).unwrap();
-    }
-    write_modules(&copy);
+    write_copy(edited);
 }

@@ -1,6 +1,6 @@
 //! Lowers Grotsky syntax trees to register bytecode: a tree file goes in, an image file comes out, or a refusal with its
-//! cause and the node at fault. The work is done by `yengrazul_lower`, a function of Rattle that is proved to give document
-//! 01's answer for every byte string; this crate lends it buffers and puts its answer into types.
+//! cause and the node at fault. The work is done by `yengrazul_lower`, a function of Rattle that is proved to give the
+//! answer of documents 01 and 02 for every byte string; this crate lends it buffers and puts its answer into types.
 //!
 //! ```
 //! // the empty program: one field, tag 1E, without payload
@@ -22,12 +22,14 @@
 #![deny(missing_docs, unsafe_op_in_unsafe_fn)]
 
 mod lowerer;
+mod mode;
 mod refusal;
 
 pub use lowerer::{Lowerer, LARGEST_IMAGE, MOST_NODES, STACK_BYTES};
+pub use mode::Mode;
 pub use refusal::{Cause, Refusal};
 
-/// The image of a tree file, or the refusal. Any bytes may be asked about.
+/// The image of a tree file in [`Mode::Zero`], or the refusal. Any bytes may be asked about.
 ///
 /// The call runs on a thread of its own, whose stack is large enough for every tree, so it may be made from any thread.
 /// [`Lowerer`] does the same and keeps its buffers for the next call.
@@ -37,6 +39,15 @@ pub use refusal::{Cause, Refusal};
 /// Where the system gives no thread.
 pub fn lower(tree: &[u8]) -> Result<Image, Refusal> {
     Lowerer::new().lower(tree)
+}
+
+/// The same in a [`Mode`], or in any number: what is no mode is refused by [`Cause::Mode`].
+///
+/// # Panics
+///
+/// Where the system gives no thread.
+pub fn lower_in(tree: &[u8], mode: impl Into<u64>) -> Result<Image, Refusal> {
+    Lowerer::new().mode(mode).lower(tree)
 }
 
 /// An image file: prototypes, the main one last, then constants, as document 01 lays them out.

@@ -25,6 +25,7 @@ extern "C" {
         work_len: usize,
         out: *mut u8,
         out_len: usize,
+        mode: u64,
         answer: *mut [u64; 3],
     );
 }
@@ -38,14 +39,20 @@ extern "C" {
 /// ```
 #[derive(Default)]
 pub struct Lowerer {
+    mode: u64,
     work: Vec<u32>,
     out: Vec<u8>,
 }
 
 impl Lowerer {
-    /// With empty buffers; they grow with the trees.
+    /// In mode 0, with empty buffers; they grow with the trees.
     pub fn new() -> Lowerer {
         Lowerer::default()
+    }
+
+    /// The same in another [`Mode`](crate::Mode), or in any number: what is no mode is refused by [`Cause::Mode`].
+    pub fn mode(self, mode: impl Into<u64>) -> Lowerer {
+        Lowerer { mode: mode.into(), ..self }
     }
 
     /// The image of a tree file, or the refusal. Any bytes may be asked about. Runs on a thread of its own with enough stack.
@@ -74,7 +81,7 @@ impl Lowerer {
         let mut room = 4096 + 16 * nodes;
         loop {
             self.grow(words, room);
-            let told = unsafe { call(tree, &mut self.work[..words], &mut self.out[..room]) };
+            let told = unsafe { call(tree, &mut self.work[..words], &mut self.out[..room], self.mode) };
             match told {
                 Err(refusal) if refusal.cause == Cause::Room && room < LARGEST_IMAGE => {
                     room = LARGEST_IMAGE.min(4 * room);
@@ -95,7 +102,7 @@ impl Lowerer {
 }
 
 /// The length of the image, or the refusal. The caller's thread has the stack that a call takes.
-unsafe fn call(tree: &[u8], work: &mut [u32], out: &mut [u8]) -> Result<usize, Refusal> {
+unsafe fn call(tree: &[u8], work: &mut [u32], out: &mut [u8], mode: u64) -> Result<usize, Refusal> {
     let mut answer = [0u64; 3];
     unsafe {
         yengrazul_lower(
@@ -105,6 +112,7 @@ unsafe fn call(tree: &[u8], work: &mut [u32], out: &mut [u8]) -> Result<usize, R
             work.len(),
             out.as_mut_ptr(),
             out.len(),
+            mode,
             &mut answer,
         );
     }
@@ -138,7 +146,9 @@ mod tests {
     fn noise_in_the_buffers_changes_nothing_and_is_cleared() {
         let due = Lowerer::new().lower(&EMPTY).unwrap();
         let mut lowerer = Lowerer::new();
-        for tree in [&EMPTY[..], &[], &EMPTY[..2], &EMPTY] {
+        for (tree, mode) in [(&EMPTY[..], 0u64), (&[], 0), (&EMPTY[..2], 1), (&EMPTY, 1), (&EMPTY, 2), (&[], u64::MAX)]
+        {
+            lowerer = lowerer.mode(mode);
             lowerer.grow(12_288 + 16, 4096 + 16);
             lowerer.work.fill(0xA5A5_A5A5);
             lowerer.out.fill(0x5A);
@@ -147,7 +157,7 @@ mod tests {
             assert!(lowerer.work[..12_288 + 16 * nodes].iter().all(|word| *word == 0));
             let image = told.as_ref().map_or(0, |image| image.as_bytes().len());
             assert!(lowerer.out[image..4096 + 16 * nodes].iter().all(|byte| *byte == 0));
-            assert_eq!(told.ok(), (tree.len() == 3).then(|| due.clone()));
+            assert_eq!(told.ok(), (tree.len() == 3 && mode < 2).then(|| due.clone()));
         }
     }
 

@@ -1,10 +1,10 @@
-//! Refusals: document 01's numbers with their names, and the cause in words.
+//! Refusals: the numbers of documents 01 and 02 with their names, and the cause in words.
 use std::error::Error;
 use std::fmt::{Display, Formatter};
 
 macro_rules! causes {
     ($($number:literal $variant:ident $name:literal $text:literal,)*) => {
-        /// Why a tree was refused; the numbers and names are those of document 01.
+        /// Why a tree was refused; the numbers and names are those of documents 01 and 02.
         #[derive(Clone, Copy, Debug, PartialEq, Eq, PartialOrd, Ord, Hash)]
         #[repr(u8)]
         pub enum Cause {
@@ -13,9 +13,9 @@ macro_rules! causes {
 
         impl Cause {
             /// All of them, by their numbers.
-            pub const ALL: [Cause; 18] = [$(Cause::$variant),*];
+            pub const ALL: [Cause; 19] = [$(Cause::$variant),*];
 
-            /// The name in document 01.
+            /// The name in its document.
             pub fn name(self) -> &'static str {
                 match self {
                     $(Cause::$variant => $name,)*
@@ -52,18 +52,18 @@ causes! {
     16 Nesting "Nesting" "eight functions may be open at once, the main one counted",
     17 Long "Long" "a function may have 32,767 instructions, its last Return counted",
     18 Room "Room" "the image must fit into the output",
+    21 Mode "Mode" "the mode must be 0 or 1",
 }
 
 impl Cause {
-    /// The number in document 01, 1 to 18.
+    /// The number in its document: 1 to 18, and 21.
     pub fn number(self) -> u64 {
         self as u64
     }
 
     /// The cause that has this number.
     pub fn from_number(number: u64) -> Option<Cause> {
-        let index = usize::try_from(number.checked_sub(1)?).ok()?;
-        Cause::ALL.get(index).copied()
+        Cause::ALL.into_iter().find(|cause| cause.number() == number)
     }
 }
 
@@ -85,7 +85,7 @@ impl Display for Cause {
 pub struct Refusal {
     /// Why.
     pub cause: Cause,
-    /// Where: nodes are counted from 0, in the order of their fields. Of [`Cause::Frame`], the whole fields before it.
+    /// Where: nodes are counted from 0, in the order of their fields. Of [`Cause::Frame`], the whole fields before it; of [`Cause::Mode`], 0.
     pub node: u64,
 }
 
@@ -94,6 +94,7 @@ impl Display for Refusal {
         let (cause, node) = (self.cause, self.node);
         match cause {
             Cause::Frame => write!(f, "refused {cause} after {node} whole fields: {}", cause.text()),
+            Cause::Mode => write!(f, "refused {cause}: {}", cause.text()),
             _ => write!(f, "refused {cause} at node {node}: {}", cause.text()),
         }
     }

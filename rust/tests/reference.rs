@@ -1,8 +1,9 @@
-//! The reference programs of document 01 in examples/, each held to its listing there: bin/tree makes the tree, bin/listing lists the image.
+//! The examples, the reference programs of document 01 among them, each held to its listings there: NAME.listing, and in mode 1 NAME.mode1.listing
+//! where that stands beside it. bin/tree makes the tree, bin/listing lists the image.
 use std::io::Write;
 use std::path::{Path, PathBuf};
 use std::process::{Command, Stdio};
-use yengrazul::lower;
+use yengrazul::{lower, lower_in, Mode};
 
 fn root() -> PathBuf {
     Path::new(env!("CARGO_MANIFEST_DIR")).join("..")
@@ -21,8 +22,8 @@ fn through(program: &str, bytes: &[u8]) -> Vec<u8> {
 }
 
 /// The listing of the image, or the refusal as a line.
-fn told(tree: &[u8]) -> String {
-    match lower(tree) {
+fn told(tree: &[u8], mode: Mode) -> String {
+    match lower_in(tree, mode) {
         Ok(image) => String::from_utf8(through("listing", image.as_bytes())).expect("a text"),
         Err(refusal) => format!("{refusal}\n"),
     }
@@ -30,17 +31,21 @@ fn told(tree: &[u8]) -> String {
 
 #[test]
 fn each_is_what_its_listing_says() {
-    let mut tried = 0;
+    let (mut tried, mut apart) = (0, 0);
     for entry in std::fs::read_dir(root().join("examples")).expect("examples/") {
         let path = entry.expect("a file").path();
-        let Ok(due) = std::fs::read_to_string(path.with_extension("listing")) else { continue };
         if path.extension().is_some_and(|kind| kind == "tree") {
-            let text = std::fs::read(&path).expect("a text");
-            assert_eq!(told(&through("tree", &text)), due, "{}", path.display());
+            let tree = through("tree", &std::fs::read(&path).expect("a text"));
+            let listing = std::fs::read_to_string(path.with_extension("listing")).expect("a listing");
+            let in_mode_1 = std::fs::read_to_string(path.with_extension("mode1.listing")).ok();
+            apart += usize::from(in_mode_1.is_some());
+            assert_eq!(told(&tree, Mode::Zero), listing, "{}", path.display());
+            let differs = lower_in(&tree, Mode::One) != lower(&tree);
+            assert_eq!(differs.then(|| told(&tree, Mode::One)), in_mode_1, "{} in mode 1", path.display());
             tried += 1;
         }
     }
-    assert!(tried >= 20, "the reference programs have listings");
+    assert!(tried >= 24 && apart >= 4, "the examples have listings");
 }
 
 #[test]

@@ -1,5 +1,5 @@
 //! One wording for one cause: the crate, the C header and the command line say the same; and the crate and the header the same sizes.
-use yengrazul::{Cause, Refusal, LARGEST_IMAGE, MOST_NODES, STACK_BYTES};
+use yengrazul::{Cause, Mode, Refusal, LARGEST_IMAGE, MOST_NODES, STACK_BYTES};
 
 fn text_of(path: &str) -> String {
     let path = format!("{}/../{path}", env!("CARGO_MANIFEST_DIR"));
@@ -14,9 +14,13 @@ fn quoted(text: &str) -> Vec<&str> {
 #[test]
 fn of_the_header() {
     let header = text_of("include/yengrazul.h");
-    let stands = |words: [&str; 18]| quoted(&header).windows(18).any(|window| window == words);
-    assert!(stands(Cause::ALL.map(Cause::name)), "the names in their order");
-    assert!(stands(Cause::ALL.map(Cause::text)), "the causes in their order");
+    // by their numbers, 19 and 20 being none of this call's
+    let stands = |of: fn(Cause) -> &'static str, none: &'static str| {
+        let words: Vec<&str> = (1..=21).map(|number| Cause::from_number(number).map_or(none, of)).collect();
+        quoted(&header).windows(words.len()).any(|window| window == words)
+    };
+    assert!(stands(Cause::name, "Unknown"), "the names in their order");
+    assert!(stands(Cause::text, "no refusal has this number"), "the causes in their order");
 }
 
 #[test]
@@ -25,8 +29,10 @@ fn of_the_command_line() {
     let words = quoted(&words);
     let frame = format!(" whole fields: {}", Cause::Frame.text());
     assert!(words.contains(&"refused 1 Frame after ") && words.contains(&frame.as_str()), "{frame}");
+    let mode = Refusal { cause: Cause::Mode, node: 0 }.to_string();
+    assert!(words.contains(&mode.as_str()), "{mode}");
     // name and text of the others, by their numbers
-    let others: Vec<&str> = Cause::ALL[1..].iter().flat_map(|cause| [cause.name(), cause.text()]).collect();
+    let others: Vec<&str> = Cause::ALL[1..18].iter().flat_map(|cause| [cause.name(), cause.text()]).collect();
     let from = words.iter().position(|word| *word == "Many").expect("the table");
     assert!(words[from..].len() >= others.len(), "the whole table");
     for (found, due) in words[from..].iter().zip(others) {
@@ -46,15 +52,19 @@ fn sizes_of_the_header() {
     assert_eq!(defined("YENGRAZUL_NODES_MOST"), MOST_NODES.to_string());
     // tests/c/lower.c holds the header's sum to the same number
     assert_eq!(LARGEST_IMAGE, 75_836_160);
+    for mode in [Mode::Zero, Mode::One] {
+        let number = u64::from(mode);
+        assert_eq!(defined(&format!("YENGRAZUL_MODE_{number}")), format!("((uint64_t){number})"));
+    }
 }
 
 #[test]
-fn numbers_are_those_of_document_01() {
-    for (index, cause) in Cause::ALL.into_iter().enumerate() {
-        assert_eq!(cause.number(), index as u64 + 1);
-        assert_eq!(Cause::from_number(cause.number()), Some(cause));
+fn numbers_are_those_of_the_documents() {
+    for (number, cause) in (1..=18).chain([21]).zip(Cause::ALL) {
+        assert_eq!(cause.number(), number);
+        assert_eq!(Cause::from_number(number), Some(cause));
     }
-    assert_eq!([0, 19, u64::MAX].map(Cause::from_number), [None; 3]);
+    assert_eq!([0, 19, 20, 22, 21 + 256, u64::MAX].map(Cause::from_number), [None; 6]);
 }
 
 #[test]

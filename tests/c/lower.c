@@ -1,4 +1,5 @@
-/* The header and the static library from C: reference programs 9 and 10, no bytes at all, short buffers, and buffers full of noise before each call. */
+/* The header and the static library from C: reference programs 9 and 10, no bytes at all, a continue in both modes, modes that are none, short
+   buffers, and buffers full of noise before each call. */
 #include "yengrazul.h"
 
 #include <inttypes.h>
@@ -35,6 +36,29 @@ static const uint8_t x_alone[] = {
     0x1E, 0, 2, 0, 2,                                   /* 3: program */
 };
 
+/* A for whose body is continue: condition 1, increment io (a builtin), no initializer. */
+static const uint8_t continues[] = {
+    0x01, 0, 8, 0x3F, 0xF0, 0, 0, 0, 0, 0, 0,            /* 0: number 1 */
+    0x04, 0, 4, 0, 0, 0, 7,                             /* 1: variable io */
+    0x17, 0, 2, 0, 8,                                   /* 2: continue */
+    0x14, 0, 10, 0, 9, 255, 255, 0, 0, 0, 1, 0, 2,      /* 3: for */
+    0x1E, 0, 2, 0, 3,                                   /* 4: program */
+};
+
+/* Its image in mode 1. In mode 0 the continue's Jmp is 3 0 255 253: back to the LoadK. */
+static const uint8_t continues_image[] = {
+    0x41, 0, 10, 255, 255, 0, 0, 0, 2, 0, 0, 0, 7,   /* main */
+    0x43, 0, 6, 1, 0, 0, 0, 255, 255,                /* LoadK 0 0 0 */
+    0x43, 0, 6, 4, 0, 0, 0, 0, 9,                    /* Test 0 0 0 */
+    0x43, 0, 6, 3, 0, 0, 4, 0, 9,                    /* Jmp 0 0 4 */
+    0x43, 0, 6, 3, 0, 0, 1, 0, 8,                    /* Jmp 0 0 1: to the increment */
+    0x43, 0, 6, 47, 1, 0, 1, 0, 7,                   /* GetBuiltin 1 0 1 */
+    0x43, 0, 6, 3, 0, 255, 251, 0, 9,                /* Jmp 0 255 251 */
+    0x43, 0, 6, 20, 0, 0, 0, 255, 255,               /* Return 0 0 0 */
+    0x44, 0, 8, 0x3F, 0xF0, 0, 0, 0, 0, 0, 0,         /* constant 0: number 1 */
+    0x45, 0, 2, 0, 0,                                /* constant 1: text io */
+};
+
 static uint32_t work[YENGRAZUL_WORDS(5)];
 static uint8_t out[200];
 static int failures;
@@ -46,14 +70,14 @@ static void expect(int holds, const char *program, const char *what)
     failures++;
 }
 
-/* One call on buffers full of noise, held to a number and a place, and to an image where it is accepted. */
-static void call(const char *program, const uint8_t *tree, size_t tree_len, size_t words, size_t room, uint64_t number, uint64_t place,
-                 const uint8_t *image, size_t length)
+/* One call in a mode on buffers full of noise, held to a number and a place, and to an image where it is accepted. */
+static void call_in(uint64_t mode, const char *program, const uint8_t *tree, size_t tree_len, size_t words, size_t room, uint64_t number,
+                    uint64_t place, const uint8_t *image, size_t length)
 {
     uint64_t answer[3] = {7, 7, 7};
     memset(work, 0xA5, sizeof work);
     memset(out, 0x5A, sizeof out);
-    yengrazul_lower(tree, tree_len, work, words, out, room, answer);
+    yengrazul_lower(tree, tree_len, work, words, out, room, mode, answer);
     expect(answer[0] == number && answer[1] == place && answer[2] == length, program, "number, place or length is wrong");
     expect(length == 0 || memcmp(out, image, length) == 0, program, "the image is wrong");
     for (size_t i = 0; i < sizeof work / sizeof *work; i++)
@@ -67,6 +91,32 @@ static void call(const char *program, const uint8_t *tree, size_t tree_len, size
                yengrazul_cause(answer[0]));
 }
 
+static void call(const char *program, const uint8_t *tree, size_t tree_len, size_t words, size_t room, uint64_t number, uint64_t place,
+                 const uint8_t *image, size_t length)
+{
+    call_in(YENGRAZUL_MODE_0, program, tree, tree_len, words, room, number, place, image, length);
+}
+
+/* A continue in both modes; then numbers that are no mode, on trees and buffers of every kind. */
+static void modes(size_t words)
+{
+    const uint64_t none[] = {2, (uint64_t)1 << 32, ((uint64_t)1 << 32) + 1, UINT64_MAX};
+    const size_t length = sizeof continues_image;
+    uint8_t zero[sizeof continues_image];
+    memcpy(zero, continues_image, length);
+    zero[13 + 3 * 9 + 5] = 255;
+    zero[13 + 3 * 9 + 6] = 253;
+    call_in(YENGRAZUL_MODE_0, "continue in mode 0", continues, sizeof continues, words, sizeof out, YENGRAZUL_ACCEPTED, 0, zero, length);
+    call_in(YENGRAZUL_MODE_1, "continue in mode 1", continues, sizeof continues, words, sizeof out, YENGRAZUL_ACCEPTED, 0, continues_image, length);
+    call_in(YENGRAZUL_MODE_1, "no bytes in mode 1", continues, 0, words, sizeof out, YENGRAZUL_FRAME, 0, NULL, 0);
+    for (size_t i = 0; i < sizeof none / sizeof *none; i++) {
+        call_in(none[i], "no mode", continues, sizeof continues, words, sizeof out, YENGRAZUL_MODE, 0, NULL, 0);
+        call_in(none[i], "no mode, no buffers", continues, sizeof continues, 0, 0, YENGRAZUL_MODE, 0, NULL, 0);
+        call_in(none[i], "no mode, a tree that is cut", continues, 20, words, sizeof out, YENGRAZUL_MODE, 0, NULL, 0);
+        call_in(none[i], "no mode, no bytes", continues, 0, words, sizeof out, YENGRAZUL_MODE, 0, NULL, 0);
+    }
+}
+
 int main(void)
 {
     const size_t words = YENGRAZUL_WORDS(5), length = sizeof minus_x_image;
@@ -74,7 +124,8 @@ int main(void)
     expect(yengrazul_nodes(minus_x, sizeof minus_x - 1) == 4, "nodes", "a field that is cut is none");
     expect(yengrazul_nodes(minus_x, 0) == 0, "nodes", "no bytes have none");
     expect(YENGRAZUL_IMAGE_MOST == 75836160, "sizes", "the longest image");
-    expect(strcmp(yengrazul_name(19), "Unknown") == 0, "names", "19 is none");
+    expect(strcmp(yengrazul_name(19), "Unknown") == 0 && strcmp(yengrazul_name(22), "Unknown") == 0, "names", "19 and 22 are none");
+    expect(strcmp(yengrazul_name(21), "Mode") == 0 && strcmp(yengrazul_cause(22), yengrazul_cause(20)) == 0, "names", "21 is Mode, 20 and 22 are none");
 
     call("program 9", minus_x, sizeof minus_x, words, sizeof out, YENGRAZUL_ACCEPTED, 0, minus_x_image, length);
     call("program 9 in just its room", minus_x, sizeof minus_x, words, length, YENGRAZUL_ACCEPTED, 0, minus_x_image, length);
@@ -85,6 +136,7 @@ int main(void)
     call("program 10", x_alone, sizeof x_alone, words, sizeof out, YENGRAZUL_EMPTY, 2, NULL, 0);
     call("no bytes", minus_x, 0, words, sizeof out, YENGRAZUL_FRAME, 0, NULL, 0);
     call("no bytes, no buffers", minus_x, 0, 0, 0, YENGRAZUL_FRAME, 0, NULL, 0);
+    modes(words);
     call("program 9 again", minus_x, sizeof minus_x, words, sizeof out, YENGRAZUL_ACCEPTED, 0, minus_x_image, length);
     printf("%d failures\n", failures);
     return failures != 0;

@@ -108,12 +108,13 @@ uint64_t yengrazul_emulated_stack(void)
     return bytes;
 }
 
-void yengrazul_lower(const uint8_t *tree, size_t tree_len, uint32_t *work, size_t work_len, uint8_t *out, size_t out_len, uint64_t answer[3])
+void yengrazul_lower(const uint8_t *tree, size_t tree_len, uint32_t *work, size_t work_len, uint8_t *out, size_t out_len, uint64_t mode,
+                     uint64_t answer[3])
 {
     if (!child.shared) start();
     uint64_t end = 0;
     struct lent t = lay(&end, tree, tree_len), w = lay(&end, work, 4 * (uint64_t)work_len), o = lay(&end, out, out_len), a = lay(&end, answer, 24);
-    uint64_t request[] = {t.at, tree_len, w.at, work_len, o.at, out_len, a.at, getenv("YENGRAZUL_STACK") != NULL};
+    uint64_t request[] = {t.at, tree_len, w.at, work_len, o.at, out_len, mode, a.at, getenv("YENGRAZUL_STACK") != NULL};
     call(request, sizeof request);
     if (tree_len && memcmp(tree, child.shared + t.at, tree_len)) fail("the tree was written to");
     fetch(t, NULL), fetch(w, work), fetch(o, out), fetch(a, answer);

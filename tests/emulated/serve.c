@@ -13,13 +13,13 @@ void _exit(int);
 static u8 *shared;
 
 #ifdef CALL_lower
-#define NUMBERS 8
+#define NUMBERS 9
 #define DEEP (4ul << 20)
-void yengrazul_lower(const u8 *, u64, u32 *, u64, u8 *, u64, u64 *);
+void yengrazul_lower(const u8 *, u64, u32 *, u64, u8 *, u64, u64, u64 *);
 
 static void __attribute__((noinline)) lower(const u64 *r)
 {
-    yengrazul_lower(shared + r[0], r[1], (u32 *)(shared + r[2]), r[3], shared + r[4], r[5], (u64 *)(shared + r[6]));
+    yengrazul_lower(shared + r[0], r[1], (u32 *)(shared + r[2]), r[3], shared + r[4], r[5], r[6], (u64 *)(shared + r[7]));
 }
 
 /* The stack below is painted, then looked at: how much of it a call has touched. */
@@ -39,9 +39,9 @@ static u64 __attribute__((noinline)) touched(u8 seed)
 
 static void ask(const u64 *r)
 {
-    if (r[7]) paint(0x5A);
+    if (r[8]) paint(0x5A);
     lower(r);
-    if (r[7]) *(u64 *)(shared + SHARED - sizeof(u64)) = touched(0x5A);
+    if (r[8]) *(u64 *)(shared + SHARED - sizeof(u64)) = touched(0x5A);
 }
 #endif
 

@@ -64,7 +64,7 @@ twelve n = bytes (literals n 0 (one ∷ node 0x18 (9 ∷ (2 * n) ∷ []) ∷ nod
 
 -- number, place and length, the file having passed the checks with n nodes
 abbrev after-checks : (n : ℕ) → List ℕ → Answer
-after-checks n tree = answer (outcome (finished-after (Accepted n) tree 6000))
+after-checks n tree = answer (outcome (finished-after 0 (Accepted n) tree 6000))
 
 abbrev told : (number place length : ℕ) → Answer
 told number place length = record { number = number; place = place; length = length }
@@ -191,7 +191,7 @@ rows =
     row (node 0x1E [] ∷ []) 12304 21 18 0 0 ∷
     []
 
-pub refusals : map (λ r. answer (outcome (finished (bytes (r .tree)) (r .work) (r .room)))) rows ≡ map (λ r. r .answer) rows
+pub refusals : map (λ r. answer (outcome (finished 0 (bytes (r .tree)) (r .work) (r .room)))) rows ≡ map (λ r. r .answer) rows
 unfolding computing
 refusals = refl
 

@@ -18,7 +18,7 @@ told (done index s) = 0 ∷ map (λ p. length (p .code)) (s .prototypes)
 
 -- the program is node 9,999
 abbrev lowered : Stmts → List ℕ
-lowered ss = told (lower-program 9999 ss)
+lowered ss = told (lower-program 0 9999 ss)
 
 abbrev named : ℕ → Token
 named n = record { name = n; mark = 5 }

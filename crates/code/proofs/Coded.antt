@@ -137,9 +137,9 @@ jumped f k test mark v r i t =
 
 -- ---- the end of a loop, of a body
 
-pub closed-is : (f : ℕ → Instruction) (k first condition test mark : ℕ)
-    → mended patch-loop first (set (tab f k ++ wide Jmp 0 (back (k - condition)) mark ∷ []) (test + 1) (wide Jmp 0 (k - test) mark)) ≡ closed-loop first condition test mark (tab f k)
-closed-is f k first condition test mark =
+pub closed-is : (f : ℕ → Instruction) (k goal first condition test mark : ℕ)
+    → mended (patch-loop goal) first (set (tab f k ++ wide Jmp 0 (back (k - condition)) mark ∷ []) (test + 1) (wide Jmp 0 (k - test) mark)) ≡ closed-loop goal first condition test mark (tab f k)
+closed-is f k goal first condition test mark =
     let n : length (tab f k ++ wide Jmp 0 (back (k - condition)) mark ∷ []) - (test + 1) ≡ k - test = simp length-append (omega (arith, tab-length f k)) in
     rw (tab-length f k, n)
 

@@ -6,8 +6,8 @@ use native.Mathlib.Omega.{arith}
 use lib.Dec.{eqb}
 use borrow.Author.Tests.{eqb-true, eq-eqb}
 use Rattle.store.specs.Layout.{unpacked}
-use Rattle.meaning.specs.Opcode.{wide, back, Jmp, is-continue, is-break, is-end-jump}
-use Rattle.meaning.specs.Chunk.{patch-jump, patch-end, jump-by}
+use Rattle.meaning.specs.Opcode.{wide, Jmp, is-continue, is-break, is-end-jump}
+use Rattle.meaning.specs.Chunk.{continue-offset, patch-jump, patch-end, jump-by}
 use Rattle.meaning.proofs.Lists.{and-left, and-right}
 use Rattle.code.specs.Words.{Packs, Turns}
 
@@ -28,15 +28,15 @@ module _ (x k : ℕ) (small : k < 256) where
       cases true false p q = refl
       cases false c p q = refl
 
-module _ {x y : ℕ} (size i : ℕ) where
-  pub turns-continue : is-continue (unpacked x 0) ≡ true → Packs y (wide Jmp 0 (back i)) → Turns x (patch-jump size i) y
-  turns-continue h packs = record { is = λ m. packs .is m ∙ sym (rw h (ap (λ o. wide o 0 (back i) m) (jump-opcode x 1 h))) }
+module _ {x y : ℕ} (goal size i : ℕ) where
+  pub turns-continue : is-continue (unpacked x 0) ≡ true → Packs y (wide Jmp 0 (continue-offset goal i)) → Turns x (patch-jump goal size i) y
+  turns-continue h packs = record { is = λ m. packs .is m ∙ sym (rw h (ap (λ o. wide o 0 (continue-offset goal i) m) (jump-opcode x 1 h))) }
 
-  pub turns-break : is-continue (unpacked x 0) ≡ false → is-break (unpacked x 0) ≡ true → Packs y (wide Jmp 0 (size - i)) → Turns x (patch-jump size i) y
+  pub turns-break : is-continue (unpacked x 0) ≡ false → is-break (unpacked x 0) ≡ true → Packs y (wide Jmp 0 (size - i)) → Turns x (patch-jump goal size i) y
   turns-break n h packs = record { is = λ m. packs .is m ∙ sym (rw (n, h) (ap (λ o. wide o 0 (size - i) m) (jump-opcode x 2 h))) }
 
-pub turns-neither : {x : ℕ} (size i : ℕ) → is-continue (unpacked x 0) ≡ false → is-break (unpacked x 0) ≡ false → Turns x (patch-jump size i) x
-turns-neither size i n h = record { is = λ m. rw (n, h) }
+pub turns-neither : {x : ℕ} (goal size i : ℕ) → is-continue (unpacked x 0) ≡ false → is-break (unpacked x 0) ≡ false → Turns x (patch-jump goal size i) x
+turns-neither goal size i n h = record { is = λ m. rw (n, h) }
 
 -- ---- the word of a jump to the end is 3
 

@@ -44,16 +44,16 @@ abbrev pub mended : (List Instruction → List Instruction) → ℕ → List Ins
 mended f first l = take first l ++ f (drop first l)
 
 -- what a scan makes of instruction i of its size: a loop's continues and breaks, or an if's jumps to its end
-abbrev pub patch-by : Bool → (size i : ℕ) → Instruction → Instruction
-patch-by true = patch-jump
-patch-by false = patch-end
+abbrev pub patch-by : Bool → (goal size i : ℕ) → Instruction → Instruction
+patch-by true goal = patch-jump goal
+patch-by false goal = patch-end
 
 -- every instruction in turn
-abbrev pub patched : Bool → List Instruction → List Instruction
-patched looped code = each-at (patch-by looped (length code)) 0 code
+abbrev pub patched : Bool → (goal : ℕ) → List Instruction → List Instruction
+patched looped goal code = each-at (patch-by looped goal (length code)) 0 code
 
 -- the code of a loop, at its end: the jump back, the jump out, breaks and continues
-abbrev pub closed-loop : (first condition test mark : ℕ) → List Instruction → List Instruction
-closed-loop first condition test mark l =
+abbrev pub closed-loop : (goal first condition test mark : ℕ) → List Instruction → List Instruction
+closed-loop goal first condition test mark l =
     let m : List Instruction = l ++ wide Jmp 0 (back (length l - condition)) mark ∷ [] in
-    mended patch-loop first (set m (test + 1) (wide Jmp 0 (length m - (test + 1)) mark))
+    mended (patch-loop goal) first (set m (test + 1) (wide Jmp 0 (length m - (test + 1)) mark))

@@ -1,6 +1,8 @@
 // The ends of visit_while_stmt, visit_classic_for_stmt and visit_enhanced_for_stmt.
-ghost use Prim.Native.Nat.{_+_, _*_, _<_, _≤_};
+ghost use mathlib.Core.Path.{_≡_};
+ghost use Prim.Native.Nat.{_+_, _-_, _*_, _<_, _≤_};
 ghost use lib.ListN.{length};
+ghost use Rattle.meaning.specs.Chunk.{continue-goal};
 ghost use Rattle.forward.specs.Forward.{sure, end-loop, end-for-in};
 ghost use Rattle.store.specs.Layout.{top};
 ghost use Rattle.store.specs.Store.{Fine, while-going};
@@ -19,22 +21,31 @@ use store::Step;
 
 const ADDI: u32 = OpCode::Addi as u32;
 
+// Where continue goes, counted from the loop's first instruction: in mode 1 to the increment.
+fn continue_goal(mode: usize, first: usize, increment: usize) -> usize
+    requires { ⌜ first ≤ increment ⌝ }
+    ensures { λ r. ⌜ r ≡ continue-goal mode (increment - first) ⌝ }
+{
+    if mode == 1 { increment - first } else { 0 }
+}
+
 // The end of a loop, behind `code` instructions: the jump back, the jump out, breaks and continues.
 fn close_loop(
     work: &mut [u32],
     nodes: usize,
     code: usize,
+    goal: usize,
     first: usize,
     condition: usize,
     test: usize,
     mark: u32,
 )
     requires { ⌜ (top nodes ≤ length (now work)) × (2 * code + 2 ≤ top nodes) × (nodes ≤ 32768) × (first ≤ code) × (condition ≤ code) × (test + 2 ≤ code) ⌝ }
-    ensures { λ _. ⌜ Recoded (now (work .entry)) nodes code (code + 1) (closed-loop first condition test mark) (now (work .exit)) ⌝ }
+    ensures { λ _. ⌜ Recoded (now (work .entry)) nodes code (code + 1) (closed-loop goal first condition test mark) (now (work .exit)) ⌝ }
 {
     write(work, nodes, code, jump_back(code - condition), mark);
     write(work, nodes, test + 1, pack_wide(JMP, 0, code - test), mark);
-    patch_loop(work, nodes, first, code + 1);
+    patch_loop(work, nodes, first, code + 1, goal);
 }
 
 // The end of visit_while_stmt and visit_classic_for_stmt.
@@ -43,20 +54,22 @@ pub fn end_loop(
     step: Step,
     scope: Scope,
     first: usize,
+    increment: usize,
     condition: usize,
     test: usize,
     result: u32,
     mark: u32,
 ) -> Step
-    requires { ⌜ Fine (now work) scope step × Room (now work) scope step 0 2 0 × while-going (step .outcome) ((first ≤ step .code) × (condition ≤ step .code) × (test + 2 ≤ step .code) × (result < 256)) ⌝ }
-    ensures { λ r. ⌜ Leaf (now (work .entry)) scope step (now (work .exit)) scope r (uses 2 0 0) (sure (end-loop first condition test result mark)) ⌝ }
+    requires { ⌜ Fine (now work) scope step × Room (now work) scope step 0 2 0 × while-going (step .outcome) ((first ≤ step .code) × (condition ≤ step .code) × (test + 2 ≤ step .code) × (result < 256) × (first ≤ increment)) ⌝ }
+    ensures { λ r. ⌜ Leaf (now (work .entry)) scope step (now (work .exit)) scope r (uses 2 0 0) (sure (end-loop (scope .mode) first increment condition test result mark)) ⌝ }
 {
     let o = step.outcome;
     let Outcome::Accepted(_) = o else {
         return step;
     };
     let code = step.code;
-    close_loop(work, scope.nodes, code, first, condition, test, mark);
+    let goal = continue_goal(scope.mode, first, increment);
+    close_loop(work, scope.nodes, code, goal, first, condition, test, mark);
     store::advance(step, code + 1, result)
 }
 
@@ -71,7 +84,7 @@ pub fn end_for_in(
     mark: u32,
 ) -> Step
     requires { ⌜ Fine (now work) scope step × Room (now work) scope step 0 4 0 × while-going (step .outcome) ((first ≤ step .code) × (condition + 4 ≤ step .code) × (counter < 256)) ⌝ }
-    ensures { λ r. ⌜ Leaf (now (work .entry)) scope step (now (work .exit)) scope r (uses 4 0 0) (sure (end-for-in first condition counter mark)) ⌝ }
+    ensures { λ r. ⌜ Leaf (now (work .entry)) scope step (now (work .exit)) scope r (uses 4 0 0) (sure (end-for-in (scope .mode) first condition counter mark)) ⌝ }
 {
     let o = step.outcome;
     let Outcome::Accepted(_) = o else {
@@ -85,10 +98,12 @@ pub fn end_for_in(
         pack(ADDI, counter, counter, 1),
         mark,
     );
+    let goal = continue_goal(scope.mode, first, code);
     close_loop(
         work,
         scope.nodes,
         code + 1,
+        goal,
         first,
         condition,
         condition + 2,

@@ -1,9 +1,10 @@
 // Scans over pending code that set its jumps, as the source has them.
 ghost use Prim.Native.Nat.{_*_, _≤_};
 ghost use lib.ListN.{length};
-ghost use Rattle.meaning.specs.Chunk.{patch-jump, patch-loop, patch-end, patch-ends, patch-first};
+ghost use Rattle.meaning.specs.Chunk.{continue-offset, patch-jump, patch-loop, patch-end, patch-ends, patch-first};
+ghost use Rattle.meaning.specs.Opcode.{wide, Jmp};
 ghost use Rattle.store.specs.Layout.{top};
-ghost use Rattle.code.specs.Words.{Turns, Recoded, mended, patch-by, patched};
+ghost use Rattle.code.specs.Words.{Packs, Turns, Recoded, mended, patch-by, patched};
 use crate::JMP;
 use crate::word::jump_back;
 use crate::word::pack_wide;
@@ -14,14 +15,24 @@ const CONTINUE: u32 = JMP + 256 * (instruction::JMP_CONTINUE as u32);
 
 const BREAK: u32 = JMP + 256 * (instruction::JMP_BREAK as u32);
 
-// "Patch continue and break": instruction i of a loop's `size`.
-fn patch_jump(x: u32, size: usize, i: usize) -> u32
+// A jump from instruction i of a loop to its instruction `goal`.
+fn jump_to(goal: usize, i: usize) -> u32
+    ensures { λ r. ⌜ Packs r (wide Jmp 0 (continue-offset goal i)) ⌝ }
+{
+    if i <= goal {
+        return pack_wide(JMP, 0, goal - i);
+    }
+    jump_back(i - goal)
+}
+
+// "Patch continue and break": instruction i of a loop's `size`, whose continues go to `goal`.
+fn patch_jump(x: u32, goal: usize, size: usize, i: usize) -> u32
     requires { ⌜ i ≤ size ⌝ }
-    ensures { λ r. ⌜ Turns x (patch-jump size i) r ⌝ }
+    ensures { λ r. ⌜ Turns x (patch-jump goal size i) r ⌝ }
 {
     let kind = x % 65536;
     if kind == CONTINUE {
-        return jump_back(i);
+        return jump_to(goal, i);
     }
     if kind == BREAK {
         return pack_wide(JMP, 0, size - i);
@@ -41,37 +52,37 @@ fn patch_end(x: u32, size: usize, i: usize) -> u32
 }
 
 // Instruction i of the `size` of a loop or of an if.
-fn patch(x: u32, looped: bool, size: usize, i: usize) -> u32
+fn patch(x: u32, looped: bool, goal: usize, size: usize, i: usize) -> u32
     requires { ⌜ i ≤ size ⌝ }
-    ensures { λ r. ⌜ Turns x (patch-by looped size i) r ⌝ }
+    ensures { λ r. ⌜ Turns x (patch-by looped goal size i) r ⌝ }
 {
     if looped {
-        return patch_jump(x, size, i);
+        return patch_jump(x, goal, size, i);
     }
     patch_end(x, size, i)
 }
 
 // The jumps of a loop, or of an if, whose code stands from `first` up to `end`.
-fn patch_each(work: &mut [u32], nodes: usize, first: usize, end: usize, looped: bool)
+fn patch_each(work: &mut [u32], nodes: usize, first: usize, end: usize, looped: bool, goal: usize)
     requires { ⌜ (top nodes ≤ length (now work)) × (2 * end ≤ top nodes) × (first ≤ end) × (nodes ≤ 32768) ⌝ }
-    ensures { λ _. ⌜ Recoded (now (work .entry)) nodes end end (mended (patched looped) first) (now (work .exit)) ⌝ }
+    ensures { λ _. ⌜ Recoded (now (work .entry)) nodes end end (mended (patched looped goal) first) (now (work .exit)) ⌝ }
 {
     let top = TOP + 10 * nodes;
     let size = end - first;
     let mut i = first;
     while i < end {
         let at = top - (2 * i + 2);
-        work[at] = patch(work[at], looped, size, i - first);
+        work[at] = patch(work[at], looped, goal, size, i - first);
         i += 1;
     }
 }
 
-// The continues and breaks of a loop.
-pub(crate) fn patch_loop(work: &mut [u32], nodes: usize, first: usize, end: usize)
+// The continues and breaks of a loop; continues go to its instruction `goal`.
+pub(crate) fn patch_loop(work: &mut [u32], nodes: usize, first: usize, end: usize, goal: usize)
     requires { ⌜ (top nodes ≤ length (now work)) × (2 * end ≤ top nodes) × (first ≤ end) × (nodes ≤ 32768) ⌝ }
-    ensures { λ _. ⌜ Recoded (now (work .entry)) nodes end end (mended patch-loop first) (now (work .exit)) ⌝ }
+    ensures { λ _. ⌜ Recoded (now (work .entry)) nodes end end (mended (patch-loop goal) first) (now (work .exit)) ⌝ }
 {
-    patch_each(work, nodes, first, end, true);
+    patch_each(work, nodes, first, end, true, goal);
 }
 
 // The jumps to the end of an if.
@@ -79,7 +90,7 @@ pub(crate) fn patch_ends(work: &mut [u32], nodes: usize, first: usize, end: usiz
     requires { ⌜ (top nodes ≤ length (now work)) × (2 * end ≤ top nodes) × (first ≤ end) × (nodes ≤ 32768) ⌝ }
     ensures { λ _. ⌜ Recoded (now (work .entry)) nodes end end (mended patch-ends first) (now (work .exit)) ⌝ }
 {
-    patch_each(work, nodes, first, end, false);
+    patch_each(work, nodes, first, end, false, 0);
 }
 
 // The first jump to the end of a try.

@@ -73,6 +73,7 @@ pub fn leave_function(
         depth: scope.depth + 1,
         block: scope.block + 1,
         loops: 0,
+        mode: scope.mode,
     };
     let next = add_prototype(work, out, step, inside, first, node, params);
     store::leave_block(work, scope);

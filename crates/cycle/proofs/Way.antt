@@ -210,7 +210,7 @@ module _ {t w w' : List ℕ} {p : Scope} {s r : Step} {k a b i : ℕ} {u : Cost}
 
 -- a branch that opens no block is in the scope around it
 pub no-block : {p r : Scope} → r ≡ branched 0 p → r ≡ p
-no-block {p} e = let z : 0 + p .block ≡ p .block = omega arith in e ∙ ap (λ b. record { nodes = p .nodes; depth = p .depth; block = b; loops = p .loops }) z
+no-block {p} e = let z : 0 + p .block ≡ p .block = omega arith in e ∙ ap (λ b. record { nodes = p .nodes; depth = p .depth; block = b; loops = p .loops; mode = p .mode }) z
 
 -- ---- the end of the way
 

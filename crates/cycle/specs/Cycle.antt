@@ -97,62 +97,62 @@ pub record Lowers (w o : List ℕ) (p : Scope) (s : Step) (w' o' : List ℕ) (r 
 
 -- an expression leaves no local behind
 abbrev pub LowersExpr : (t : List ℕ) (i : ℕ) (w o : List ℕ) → Scope → Step → (w' o' : List ℕ) → Step → Type 0
-LowersExpr t i w o p s w' o' r = Lowers w o p s w' o' r (uses (8 * size-expr (expr-at (fields t) i)) 0 0) (fwd (lower-expr (expr-at (fields t) i)))
+LowersExpr t i w o p s w' o' r = Lowers w o p s w' o' r (uses (8 * size-expr (expr-at (fields t) i)) 0 0) (fwd (lower-expr (p .mode) (expr-at (fields t) i)))
 
 -- a statement, whose locals stay to the end of its block
 abbrev pub LowersStmt : (t : List ℕ) (i : ℕ) (w o : List ℕ) → Scope → Step → (w' o' : List ℕ) → Step → Type 0
 LowersStmt t i w o p s w' o' r =
-    Lowers w o p s w' o' r (uses (8 * size-stmt (stmt-at (fields t) i)) (size-stmt (stmt-at (fields t) i)) 0) (fwd (lower-stmt (stmt-at (fields t) i)))
+    Lowers w o p s w' o' r (uses (8 * size-stmt (stmt-at (fields t) i)) (size-stmt (stmt-at (fields t) i)) 0) (fwd (lower-stmt (p .mode) (stmt-at (fields t) i)))
 
 -- a function statement leaves a Closure and its name, whatever its body is
 abbrev pub LowersFun : (t : List ℕ) (i : ℕ) (w o : List ℕ) → Scope → Step → (w' o' : List ℕ) → Step → Type 0
-LowersFun t i w o p s w' o' r = Lowers w o p s w' o' r (uses 4 1 0) (fwd (lower-fun (fun-at (fields t) i)))
+LowersFun t i w o p s w' o' r = Lowers w o p s w' o' r (uses 4 1 0) (fwd (lower-fun (p .mode) (fun-at (fields t) i)))
 
 -- statements one after the other: the result is the last one's
 pub record LowersRow (t : List ℕ) (i from to : ℕ) (w o : List ℕ) (p : Scope) (s : Step) (w' o' : List ℕ) (r : Step) : Type 0 where
-  pub does : Does w o p s w' o' p r (uses (8 * size-stmts (stmts-at (fields t) i from to)) (size-stmts (stmts-at (fields t) i from to)) 0) (fwd-row (lower-stmts (stmts-at (fields t) i from to)))
+  pub does : Does w o p s w' o' p r (uses (8 * size-stmts (stmts-at (fields t) i from to)) (size-stmts (stmts-at (fields t) i from to)) 0) (fwd-row (lower-stmts (p .mode) (stmts-at (fields t) i from to)))
   pub small : Small s → Small r
 
 -- the elifs of an if, which give code alone
 abbrev pub LowersElifs : (t : List ℕ) (i from to : ℕ) (w o : List ℕ) → Scope → Step → (w' o' : List ℕ) → Step → Type 0
 LowersElifs t i from to w o p s w' o' r =
-    Lowers w o p s w' o' r (uses (8 * size-elifs (elifs-at (fields t) i from to)) (size-elifs (elifs-at (fields t) i from to)) 0) (fwd-code (lower-elifs (elifs-at (fields t) i from to)))
+    Lowers w o p s w' o' r (uses (8 * size-elifs (elifs-at (fields t) i from to)) (size-elifs (elifs-at (fields t) i from to)) 0) (fwd-code (lower-elifs (p .mode) (elifs-at (fields t) i from to)))
 
 -- the methods of a class, whose names pass through the register after `class`
 abbrev pub LowersMethods : (t : List ℕ) (i from to mark op class : ℕ) (w o : List ℕ) → Scope → Step → (w' o' : List ℕ) → Step → Type 0
 LowersMethods t i from to mark op class w o p s w' o' r =
-    Lowers w o p s w' o' r (uses (8 * size-funs (funs-at (fields t) i from to)) (size-funs (funs-at (fields t) i from to)) 0) (fwd-code (lower-methods (funs-at (fields t) i from to) i mark op class (class + 1)))
+    Lowers w o p s w' o' r (uses (8 * size-funs (funs-at (fields t) i from to)) (size-funs (funs-at (fields t) i from to)) 0) (fwd-code (lower-methods (p .mode) (funs-at (fields t) i from to) i mark op class (class + 1)))
 
 -- the arguments of a call, with two words more for each one's Move
 abbrev pub LowersArguments : (t : List ℕ) (i register : ℕ) (w o : List ℕ) → Scope → Step → (w' o' : List ℕ) → Step → Type 0
 LowersArguments t i register w o p s w' o' r =
-    Lowers w o p s w' o' r (uses (8 * size-exprs (exprs-at (fields t) i 2 (count-of (fields t) i)) + 2 * (count-of (fields t) i - 2)) 0 0) (fwd-code (lower-arguments (exprs-at (fields t) i 2 (count-of (fields t) i)) register))
+    Lowers w o p s w' o' r (uses (8 * size-exprs (exprs-at (fields t) i 2 (count-of (fields t) i)) + 2 * (count-of (fields t) i - 2)) 0 0) (fwd-code (lower-arguments (p .mode) (exprs-at (fields t) i 2 (count-of (fields t) i)) register))
 
 -- a function's body, with two words more for its Return; its block gives the locals back
 abbrev pub LowersBody : (t : List ℕ) (i from : ℕ) (w o : List ℕ) → Scope → Step → (w' o' : List ℕ) → Step → Type 0
 LowersBody t i from w o p s w' o' r =
-    Does w o p s w' o' p r (uses (8 * size-stmts (stmts-at (fields t) i from (count-of (fields t) i)) + 2) 0 0) (fwd-code (visit-body i (lower-stmts (stmts-at (fields t) i from (count-of (fields t) i)))))
+    Does w o p s w' o' p r (uses (8 * size-stmts (stmts-at (fields t) i from (count-of (fields t) i)) + 2) 0 0) (fwd-code (visit-body i (lower-stmts (p .mode) (stmts-at (fields t) i from (count-of (fields t) i)))))
 
 -- the binary at node i, lowered by m: one of the three forms below
 abbrev pub LowersBinary : (t : List ℕ) (i : ℕ) (w o : List ℕ) → Scope → Step → (w' o' : List ℕ) → Step → M Chunk → Type 0
 LowersBinary t i w o p s w' o' r m = Lowers w o p s w' o' r (uses (8 * size-expr (expr-at (fields t) i)) 0 0) (fwd m)
 
 -- the lowering of the operand that word k of node i names
-abbrev pub operand : (t : List ℕ) (i k : ℕ) → M Chunk
-operand t i k = lower-expr (expr-at (fields t) (word-of (fields t) i k))
+abbrev pub operand : Scope → (t : List ℕ) (i k : ℕ) → M Chunk
+operand p t i k = lower-expr (p .mode) (expr-at (fields t) (word-of (fields t) i k))
 
 -- a small number k on the right of Plus
 abbrev pub LowersAddi : (t : List ℕ) (i k : ℕ) (w o : List ℕ) → Scope → Step → (w' o' : List ℕ) → Step → Type 0
-LowersAddi t i k w o p s w' o' r = LowersBinary t i w o p s w' o' r (visit-addi i (word-of (fields t) i 1) k (operand t i 2))
+LowersAddi t i k w o p s w' o' r = LowersBinary t i w o p s w' o' r (visit-addi i (word-of (fields t) i 1) k (operand p t i 2))
 
 -- a small number on the left of Minus; which one it is does not matter, so 0 stands for it
 abbrev pub LowersMinus : (t : List ℕ) (i : ℕ) (w o : List ℕ) → Scope → Step → (w' o' : List ℕ) → Step → Type 0
 LowersMinus t i w o p s w' o' r =
-    LowersBinary t i w o p s w' o' r (visit-binary i (word-of (fields t) i 0) (word-of (fields t) i 1) none (some 0) (operand t i 2) (operand t i 3))
+    LowersBinary t i w o p s w' o' r (visit-binary i (word-of (fields t) i 0) (word-of (fields t) i 1) none (some 0) (operand p t i 2) (operand p t i 3))
 
 -- neither
 abbrev pub LowersBoth : (t : List ℕ) (i : ℕ) (w o : List ℕ) → Scope → Step → (w' o' : List ℕ) → Step → Type 0
-LowersBoth t i w o p s w' o' r = LowersBinary t i w o p s w' o' r (visit-both i (word-of (fields t) i 0) (word-of (fields t) i 1) (operand t i 2) (operand t i 3))
+LowersBoth t i w o p s w' o' r = LowersBinary t i w o p s w' o' r (visit-both i (word-of (fields t) i 0) (word-of (fields t) i 1) (operand p t i 2) (operand p t i 3))
 
 -- ---- the words of a node
 
@@ -176,4 +176,4 @@ branches-of fs i = record { thens = 3 + word-of fs i 2; elifs = 4 + word-of fs i
 
 -- "If branches .. open no block": the scope of a branch that opens so many
 abbrev pub branched : ℕ → Scope → Scope
-branched blocks p = record { nodes = p .nodes; depth = p .depth; block = blocks + p .block; loops = p .loops }
+branched blocks p = record { nodes = p .nodes; depth = p .depth; block = blocks + p .block; loops = p .loops; mode = p .mode }

@@ -15,6 +15,7 @@ pub(crate) fn in_loop(scope: Scope) -> Scope
         depth: scope.depth,
         block: scope.block,
         loops: scope.loops + 1,
+        mode: scope.mode,
     }
 }
 
@@ -28,5 +29,6 @@ pub(crate) fn in_branch(scope: Scope, blocks: usize) -> Scope
         depth: scope.depth,
         block: blocks + scope.block,
         loops: scope.loops,
+        mode: scope.mode,
     }
 }

@@ -96,14 +96,14 @@ return-none-chain mark = chain (finally (sure (put 0 (inst Return 0 0 0 mark))))
 pub jump-chain : (node kind mark : ℕ) (r : Run) → Chain (jump-calls node kind mark) r (fwd (visit-jump node kind mark))
 jump-chain node kind mark = chain (jump-calls node kind mark) _ (jump-forward node kind mark)
 
-pub while-chain : (node mark : ℕ) (x y : M Chunk) (r : Run) → Chain (while-calls mark x y) r (fwd (visit-while node mark x y))
-while-chain node mark x y = chain (while-calls mark x y) _ (while-forward node mark x y)
+pub while-chain : (mode node mark : ℕ) (x y : M Chunk) (r : Run) → Chain (while-calls mode mark x y) r (fwd (visit-while node mark x y))
+while-chain mode node mark x y = chain (while-calls mode mark x y) _ (while-forward mode node mark x y)
 
-pub for-chain : (node mark : ℕ) (xs : M (List Chunk)) (x z y : M Chunk) (r : Run) → Chain (for-calls mark xs x z y) r (fwd (visit-classic-for node mark xs x z y))
-for-chain node mark xs x z y = chain (for-calls mark xs x z y) _ (for-forward node mark xs x z y)
+pub for-chain : (mode node mark : ℕ) (xs : M (List Chunk)) (x z y : M Chunk) (r : Run) → Chain (for-calls mode mark xs x z y) r (fwd (visit-classic-for mode node mark xs x z y))
+for-chain mode node mark xs x z y = chain (for-calls mode mark xs x z y) _ (for-forward mode node mark xs x z y)
 
-pub for-in-chain : (node mark : ℕ) (names : List Token) (x y : M Chunk) (r : Run) → Chain (for-in-calls node mark names x y) r (fwd (visit-for-in node mark names x y))
-for-in-chain node mark names x y = chain (for-in-calls node mark names x y) _ (for-in-forward node mark names x y)
+pub for-in-chain : (mode node mark : ℕ) (names : List Token) (x y : M Chunk) (r : Run) → Chain (for-in-calls mode node mark names x y) r (fwd (visit-for-in mode node mark names x y))
+for-in-chain mode node mark names x y = chain (for-in-calls mode node mark names x y) _ (for-in-forward mode node mark names x y)
 
 pub if-chain : (node mark : ℕ) (x : M Chunk) (xs : M (List Chunk)) (elifs : M (List Instruction)) (ys : M (List Chunk)) (r : Run) → Chain (if-calls mark x xs elifs ys) r (fwd (visit-if node mark x xs elifs ys))
 if-chain node mark x xs elifs ys = chain (if-calls mark x xs elifs ys) _ (if-forward node mark x xs elifs ys)
@@ -174,7 +174,7 @@ iterate-each-end node mark element i = chain (finally (sure (give 0))) _ (iterat
 
 -- ---- a whole program: its statements from the start, then leave_function of the main function
 
-pub program-chain : (node : ℕ) (ss : Stmts) (r1 r2 : Run)
-    → r1 ≡ bind (going (config [] 0 start)) (fwd-row (lower-stmts ss)) → r2 ≡ bind r1 (end-program node) → r2 ≡ on (lower-program node ss) (λ i t. going (config [] i t))
+pub program-chain : (mode node : ℕ) (ss : Stmts) (r1 r2 : Run)
+    → r1 ≡ bind (going (config [] 0 start)) (fwd-row (lower-stmts mode ss)) → r2 ≡ bind r1 (end-program node) → r2 ≡ on (lower-program mode node ss) (λ i t. going (config [] i t))
 unfolding bind lower-program end-program
-program-chain node ss r1 r2 e1 e2 = e2 ∙ ap (λ r. bind r (end-program node)) e1 ∙ step _ _ _ _ _ _ λ cs t. tail _ _ _
+program-chain mode node ss r1 r2 e1 e2 = e2 ∙ ap (λ r. bind r (end-program node)) e1 ∙ step _ _ _ _ _ _ λ cs t. tail _ _ _

@@ -93,10 +93,10 @@ rows-row n x xs h s = one (x s)
     one (refused k p) = tt
     one (done a t) = two a (xs t) (h t)
 
-pub rows : (ss : Stmts) → Rows (stmt-count ss) (lower-stmts ss)
+pub rows : (mode : ℕ) (ss : Stmts) → Rows (stmt-count ss) (lower-stmts mode ss)
 unfolding lower-stmts stmt-count pure
-rows no-stmt s = refl
-rows (and-stmt x xs) s = rows-row (stmt-count xs) (lower-stmt x) (lower-stmts xs) (rows xs) s
+rows mode no-stmt s = refl
+rows mode (and-stmt x xs) s = rows-row (stmt-count xs) (lower-stmt mode x) (lower-stmts mode xs) (rows mode xs) s
 
 -- ---- names
 

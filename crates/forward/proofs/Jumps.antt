@@ -7,7 +7,7 @@ use native.Mathlib.Omega.{arith}
 use lib.ListN.{length, set, take, drop, length-append}
 use lib.Seq.{take-at, drop-at, set-at}
 use Rattle.meaning.specs.Opcode.{inst, wide, back, no-mark, Jmp, Test, RegisterTryCatch, DeregisterTryCatch}
-use Rattle.meaning.specs.Chunk.{patch-loop, open-loop, loop-code, patch-first, open-try, try-code}
+use Rattle.meaning.specs.Chunk.{continue-goal, patch-loop, open-loop, loop-code, patch-first, open-try, try-code}
 use Rattle.meaning.specs.declared.Instruction.{Instruction}
 use Rattle.forward.specs.Forward.{Config, config, jump-here, end-loop, end-try}
 
@@ -39,12 +39,13 @@ leap c a b t j z mark l e =
 
 -- ---- loops: `before` stands before the condition
 
-pub end-loop-is : (c before test : List Instruction) (r : ℕ) (body : List Instruction) (mark : ℕ) (j : Instruction) (first condition t result : ℕ) (e : Config)
+pub end-loop-is : (c before test : List Instruction) (r : ℕ) (body : List Instruction) (mark : ℕ) (j : Instruction) (mode goal first increment condition t result : ℕ) (e : Config)
     → e .code ≡ ((c ++ before) ++ test) ++ inst Test r r 0 mark ∷ j ∷ body
     → first ≡ length c → condition ≡ length (c ++ before) → t ≡ length ((c ++ before) ++ test)
-    → end-loop first condition t result mark e ≡ config (c ++ loop-code mark before test r body) result (e .state)
+    → continue-goal mode (increment - first) ≡ goal
+    → end-loop mode first increment condition t result mark e ≡ config (c ++ loop-code goal mark before test r body) result (e .state)
 unfolding end-loop jump-here
-end-loop-is c before test r body mark j first condition t result e h hf hc ht =
+end-loop-is c before test r body mark j mode goal first increment condition t result e h hf hc ht hg =
     let p : List Instruction = (c ++ before) ++ test in
     let m : length (e .code) - condition ≡ length body + length test + 2 =
     omega (arith, ap length h, length-append p (inst Test r r 0 mark ∷ j ∷ body), hc, length-append (c ++ before) test) in
@@ -52,8 +53,8 @@ end-loop-is c before test r body mark j first condition t result e h hf hc ht =
     let l : e .code ++ w ≡ p ++ inst Test r r 0 mark ∷ j ∷ (body ++ w) = ap (λ x. x ++ w) h ∙ append-assoc p (inst Test r r 0 mark ∷ j ∷ body) w in
     let o : length body + 2 ≡ length (body ++ w) + 1 = simp length-append (omega arith) in
     let s : p ++ inst Test r r 0 mark ∷ wide Jmp 0 (length body + 2) mark ∷ (body ++ w) ≡ c ++ open-loop mark before test r body = simp append-assoc in
-    rw (m, hf) (ap (λ x. config x result (e .state))
-    (mend-at patch-loop c (open-loop mark before test r body) _ (jump-set p (body ++ w) (inst Test r r 0 mark) j mark t (length body + 2) (e .code ++ w) l ht o ∙ s)))
+    rw (m, hg, hf) (ap (λ x. config x result (e .state))
+    (mend-at (patch-loop goal) c (open-loop mark before test r body) _ (jump-set p (body ++ w) (inst Test r r 0 mark) j mark t (length body + 2) (e .code ++ w) l ht o ∙ s)))
 
 -- ---- try
 

@@ -197,37 +197,37 @@ jump-calls node kind mark = answer (get (λ s. s .current .loops)) λ n. choose 
 
 -- ---- loops
 
-abbrev pub while-calls : (mark : ℕ) → (x y : M Chunk) → Calls
-while-calls mark x y = entry λ s. do
+abbrev pub while-calls : (mode mark : ℕ) → (x y : M Chunk) → Calls
+while-calls mode mark x y = entry λ s. do
   s1 ← fwd x
   sure (test-and-jump 0 mark)
   fwd-unit enter-loop
   fwd y
   fwd-unit leave-loop
-  finally (sure (end-loop (s .code) (s .code) (s1 .code) (s1 .result) mark))
+  finally (sure (end-loop mode (s .code) (s .code) (s .code) (s1 .code) (s1 .result) mark))
 
 -- initializer, condition, increment, body
-abbrev pub for-calls : (mark : ℕ) → M (List Chunk) → (x z y : M Chunk) → Calls
-for-calls mark xs x z y = entry λ s. do
+abbrev pub for-calls : (mode mark : ℕ) → M (List Chunk) → (x z y : M Chunk) → Calls
+for-calls mode mark xs x z y = entry λ s. do
   s1 ← fwd-row xs
   s2 ← fwd x
   sure (test-and-jump 0 mark)
   fwd-unit enter-loop
   fwd y
-  fwd-unit leave-loop
+  s3 ← fwd-unit leave-loop
   fwd z
-  finally (sure (end-loop (s .code) (s1 .code) (s2 .code) 0 mark))
+  finally (sure (end-loop mode (s .code) (s3 .code) (s1 .code) (s2 .code) 0 mark))
 
 -- names, collection, body
-abbrev pub for-in-calls : (node mark : ℕ) → List Token → (x y : M Chunk) → Calls
-for-in-calls node mark names x y = entry λ s. do
+abbrev pub for-in-calls : (mode node mark : ℕ) → List Token → (x y : M Chunk) → Calls
+for-in-calls mode node mark names x y = entry λ s. do
   s1 ← open-for-in node mark
   s2 ← fwd x
   head-for-in node names (s1 .result) mark
   fwd-unit enter-loop
   fwd y
   fwd-unit leave-loop
-  finally (sure (end-for-in (s .code) (s2 .code) (s1 .result) mark))
+  finally (sure (end-for-in mode (s .code) (s2 .code) (s1 .result) mark))
 
 -- one turn of the loop over the names of a for-in, from the i-th on
 abbrev pub iterate-each-calls : (node mark element i : ℕ) → Token → List Token → Calls

@@ -1,7 +1,8 @@
 -- impl StmtVisitor, written forward: the line of calls of each visitor (Lines) does what the visitor does. A law follows the visitor's `do` block line by
 -- line (Steps, Around); what is left is an equation of lists (Jumps).
-use Prim.Native.Nat.{ℕ, _+_}
+use Prim.Native.Nat.{ℕ, _+_, _-_}
 use mathlib.Core.Path.{_≡_, refl, sym, ap, _∙_}
+use mathlib.Core.Bool.{Bool, true, false, cond}
 use mathlib.Core.List.{List, [], _∷_, _++_, append-assoc, append-nil}
 use native.Mathlib.Omega.{arith}
 use lib.ListN.{length, length-append}
@@ -9,7 +10,7 @@ use lib.Dec.{eqb}
 use Rattle.meaning.specs.Opcode.{inst, wide, no-mark, LoadK, LoadNil, Jmp, Test, Lt, Return, Class, ClassMeth, ClassStMeth, Addi, Length, RegisterTryCatch}
 use Rattle.meaning.specs.Syntax.{Token, Super, no-super, super}
 use Rattle.meaning.specs.State.{Chunk, M, pure, enter-loop, leave-loop, in-block, in-loop}
-use Rattle.meaning.specs.Chunk.{chunk, joined, branch-code, patch-ends}
+use Rattle.meaning.specs.Chunk.{continue-goal, body-place, chunk, joined, branch-code, patch-ends}
 use Rattle.meaning.specs.Expressions.{visit-variable}
 use Rattle.meaning.specs.Statements.{new-global, visit-let-as, visit-let-only, visit-block, visit-while, visit-classic-for, iterate-each, iterate, visit-for-in, visit-jump, visit-return, visit-return-none, visit-if, visit-elif, visit-catch, visit-try, visit-super, visit-method, visit-methods, visit-class}
 use Rattle.meaning.specs.Lower.{row}
@@ -71,20 +72,31 @@ jump-forward node kind mark c = start _ _ _ _ (asked _ _ _ _ _ λ n t. either (e
 while-list : (c a b : List Instruction) (t j : Instruction) → (((c ++ a) ++ t ∷ []) ++ j ∷ []) ++ b ≡ ((c ++ []) ++ a) ++ t ∷ j ∷ b
 while-list c a b t j = simp (append-assoc, append-nil)
 
-pub while-forward : (node mark : ℕ) (x y : M Chunk) (c : Config) → does (while-calls mark x y) c ≡ fwd (visit-while node mark x y) c
+-- in a while continue goes to the first instruction in either mode
+goal-none : (mode n : ℕ) → continue-goal mode (n - n) ≡ 0
+goal-none mode n = goal-by (eqb mode 1) n
+  where
+    goal-by : (b : Bool) (n : ℕ) → cond b (n - n) 0 ≡ 0
+    goal-by true n = omega arith
+    goal-by false n = refl
+
+pub while-forward : (mode node mark : ℕ) (x y : M Chunk) (c : Config) → does (while-calls mode mark x y) c ≡ fwd (visit-while node mark x y) c
 unfolding visit-while in-loop test-and-jump
-while-forward node mark x y c =
+while-forward mode node mark x y c =
     start _ _ _ _ (step _ _ _ _ _ _ λ a t. now _ _ _ (bracket enter-loop leave-loop (λ k. k .code) (λ k r. k .result) y _ _ _ _ λ b u. last _ _ _ _ (ap going
-    (end-loop-is (c .code) [] (a .code) (a .result) (b .code) mark (inst Jmp 0 0 0 mark) _ _ _ _ _ (while-list (c .code) (a .code) (b .code) _ _) refl (ap length (sym (append-nil (c .code)))) (ap (λ l. length (l ++ a .code)) (sym (append-nil (c .code))))))))
+    (end-loop-is (c .code) [] (a .code) (a .result) (b .code) mark (inst Jmp 0 0 0 mark) mode 0 _ _ _ _ _ _ (while-list (c .code) (a .code) (b .code) _ _) refl (ap length (sym (append-nil (c .code)))) (ap (λ l. length (l ++ a .code)) (sym (append-nil (c .code)))) (goal-none mode _)))))
+
+for-goal : (c i a b : List Instruction) (t j : Instruction) → length (((((c ++ i) ++ a) ++ t ∷ []) ++ j ∷ []) ++ b) - length c ≡ body-place i a + length b
+for-goal c i a b t j = simp length-append (omega arith)
 
 for-list : (c i a b n : List Instruction) (t j : Instruction) → (((((c ++ i) ++ a) ++ t ∷ []) ++ j ∷ []) ++ b) ++ n ≡ ((c ++ i) ++ a) ++ t ∷ j ∷ (b ++ n)
 for-list c i a b n t j = simp append-assoc
 
-pub for-forward : (node mark : ℕ) (xs : M (List Chunk)) (x z y : M Chunk) (c : Config) → does (for-calls mark xs x z y) c ≡ fwd (visit-classic-for node mark xs x z y) c
+pub for-forward : (mode node mark : ℕ) (xs : M (List Chunk)) (x z y : M Chunk) (c : Config) → does (for-calls mode mark xs x z y) c ≡ fwd (visit-classic-for mode node mark xs x z y) c
 unfolding visit-classic-for in-loop test-and-jump
-for-forward node mark xs x z y c =
+for-forward mode node mark xs x z y c =
     start _ _ _ _ (step _ _ _ _ _ _ λ i t. step _ _ _ _ _ _ λ a u. now _ _ _ (bracket enter-loop leave-loop (λ k. k .code) (λ k r. k .result) y _ _ _ _ λ b v. step _ _ _ _ _ _ λ n w. last _ _ _ _ (ap going
-    (end-loop-is (c .code) (joined i) (a .code) (a .result) (b .code ++ n .code) mark (inst Jmp 0 0 0 mark) _ _ _ _ _ (for-list (c .code) (joined i) (a .code) (b .code) (n .code) _ _) refl refl refl))))
+    (end-loop-is (c .code) (joined i) (a .code) (a .result) (b .code ++ n .code) mark (inst Jmp 0 0 0 mark) mode _ _ _ _ _ _ _ (for-list (c .code) (joined i) (a .code) (b .code) (n .code) _ _) refl refl refl (ap (continue-goal mode) (for-goal (c .code) (joined i) (a .code) (b .code) _ _))))))
 
 -- the registers of a for-in follow one another
 for-in-list : (c a h b : List Instruction) (l z : Instruction) (r1 r2 r3 k mark : ℕ) (j : Instruction) → r2 ≡ r1 + 1 → r3 ≡ r1 + 2
@@ -92,17 +104,17 @@ for-in-list : (c a h b : List Instruction) (l z : Instruction) (r1 r2 r3 k mark 
     ≡ ((c ++ l ∷ a) ++ inst Length r2 k 0 mark ∷ inst Lt r3 r1 r2 mark ∷ []) ++ inst Test r3 r3 0 mark ∷ j ∷ (h ++ (b ++ z ∷ []))
 for-in-list c a h b l z r1 r2 r3 k mark j e f = rw (e, f) (simp append-assoc)
 
-pub for-in-forward : (node mark : ℕ) (names : List Token) (x y : M Chunk) (c : Config) → does (for-in-calls node mark names x y) c ≡ fwd (visit-for-in node mark names x y) c
+pub for-in-forward : (mode node mark : ℕ) (names : List Token) (x y : M Chunk) (c : Config) → does (for-in-calls mode node mark names x y) c ≡ fwd (visit-for-in mode node mark names x y) c
 unfolding visit-for-in in-loop test-and-jump open-for-in head-for-in end-for-in
-for-in-forward node mark names x y c =
+for-in-forward mode node mark names x y c =
     start _ _ _ _ (inner _ _ _ _ (step-known _ _ _ _ _ _ λ r1 t1 e1. inner _ _ _ _ (step-known _ _ _ _ _ _ λ r2 t2 e2. inner _ _ _ _ (step-known _ _ _ _ _ _ λ r3 t3 e3. inner _ _ _ _ (step-known _ _ _ _ _ _ λ r4 t4 e4.
     let f2 : r2 ≡ r1 + 1 = registers-follow node node _ t1 t2 r1 r2 e1 e2 in
     let f3 : r3 ≡ r1 + 2 = omega (arith, f2, registers-follow node node _ t2 t3 r2 r3 e2 e3) in
     let f4 : r1 + 3 ≡ r4 = omega (arith, f3, registers-follow node node _ t3 t4 r3 r4 e3 e4) in
     inner _ _ _ _ (step _ _ _ _ _ _ λ k t5. now _ _ _ (step _ _ _ _ _ _ λ a t6. step-as _ _ _ _ _ _ _ (ap (λ i. iterate node mark i (a .result) r1 names) f4) λ h t7.
     bracket enter-loop leave-loop (λ k. k .code) (λ k r. k .result) y _ _ _ _ λ b t8. last _ _ _ _ (ap going
-    (end-loop-is (c .code) (wide LoadK r1 k mark ∷ a .code) (inst Length r2 (a .result) 0 mark ∷ inst Lt r3 r1 r2 mark ∷ []) r3 (h ++ (b .code ++ inst Addi r1 r1 1 mark ∷ [])) mark (inst Jmp 0 0 0 mark) _ _ _ _ _
-    (for-in-list (c .code) (a .code) h (b .code) _ _ r1 r2 r3 (a .result) mark _ f2 f3) refl (ap length (append-assoc (c .code) (_ ∷ []) (a .code))) (simp length-append (omega arith)))))))))))
+    (end-loop-is (c .code) (wide LoadK r1 k mark ∷ a .code) (inst Length r2 (a .result) 0 mark ∷ inst Lt r3 r1 r2 mark ∷ []) r3 (h ++ (b .code ++ inst Addi r1 r1 1 mark ∷ [])) mark (inst Jmp 0 0 0 mark) mode _ _ _ _ _ _ _
+    (for-in-list (c .code) (a .code) h (b .code) _ _ r1 r2 r3 (a .result) mark _ f2 f3) refl (ap length (append-assoc (c .code) (_ ∷ []) (a .code))) (simp length-append (omega arith)) (ap (continue-goal mode) (simp length-append (omega arith))))))))))))
 
 pub iterate-each-none : (node mark element i : ℕ) (c : Config) → going (give 0 c) ≡ fwd-code (iterate-each node mark element i []) c
 unfolding iterate-each

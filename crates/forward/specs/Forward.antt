@@ -12,7 +12,7 @@ use Rattle.meaning.specs.Opcode.{inst, wide, back, no-mark, Move, LoadK, Jmp, T
 use Rattle.meaning.specs.Constant.{number, text}
 use Rattle.meaning.specs.Syntax.{Token}
 use Rattle.meaning.specs.State.{State, Chunk, M, Res, refused, done, next-register, allocate-register, add-constant, is-global-context, add-prototype, close-function}
-use Rattle.meaning.specs.Chunk.{joined, patch-loop, patch-ends, patch-first}
+use Rattle.meaning.specs.Chunk.{joined, continue-goal, patch-loop, patch-ends, patch-first}
 use Rattle.meaning.specs.Expressions.{next-registers}
 use Rattle.meaning.specs.Functions.{parameters, declare-name}
 use Rattle.meaning.specs.Statements.{iterate}
@@ -260,12 +260,12 @@ end-fun first node x params register c = do
   d ← leave-function first node params c
   name-result node x (closure register (x .mark) d)
 
--- ---- loops: places are `first` of the loop, `condition` where the jump back goes, `test` of its Test
+-- ---- loops: places are `first` of the loop, `increment` where continue goes in mode 1, `condition` where the jump back goes, `test` of its Test
 
 -- the jump back, the jump out, breaks and continues
-unfoldable pub end-loop : (first condition test result mark : ℕ) → Config → Config
-end-loop first condition test result mark c =
-    give result (mend patch-loop first (jump-here test mark (emit (wide Jmp 0 (back (length (c .code) - condition)) mark) c)))
+unfoldable pub end-loop : (mode first increment condition test result mark : ℕ) → Config → Config
+end-loop mode first increment condition test result mark c =
+    give result (mend (patch-loop (continue-goal mode (increment - first))) first (jump-here test mark (emit (wide Jmp 0 (back (length (c .code) - condition)) mark) c)))
 
 -- visit_enhanced_for_stmt before the collection: the counter's register is the result; those of size, condition and element follow it
 unfoldable pub open-for-in : (node mark : ℕ) → Config → Run
@@ -285,8 +285,8 @@ head-for-in node names counter mark c =
     (emit (inst Lt (counter + 2) counter (counter + 1) mark) (emit (inst Length (counter + 1) (c .result) 0 mark) c))))
 
 -- visit_enhanced_for_stmt after the body; Length and Lt stand before the Test
-unfoldable pub end-for-in : (first condition counter mark : ℕ) → Config → Config
-end-for-in first condition counter mark c = end-loop first condition (condition + 2) 0 mark (emit (inst Addi counter counter 1 mark) c)
+unfoldable pub end-for-in : (mode first condition counter mark : ℕ) → Config → Config
+end-for-in mode first condition counter mark c = end-loop mode first (length (c .code)) condition (condition + 2) 0 mark (emit (inst Addi counter counter 1 mark) c)
 
 -- ---- other statements
 

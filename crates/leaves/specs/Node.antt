@@ -46,11 +46,11 @@ pub record Gives (w : List ℕ) (p : Scope) (s : Step) (w' : List ℕ) (r : Step
 
 -- an expression: eight words pay for it
 abbrev pub GivesExpr : (t w : List ℕ) → Scope → Step → (w' : List ℕ) → Step → (node : ℕ) → Type 0
-GivesExpr t w p s w' r node = Gives w p s w' r (uses 8 0 0) (fwd (lower-expr (expr-at (fields t) node)))
+GivesExpr t w p s w' r node = Gives w p s w' r (uses 8 0 0) (fwd (lower-expr (p .mode) (expr-at (fields t) node)))
 
 -- a statement: eight words and a local pay for it
 abbrev pub GivesStmt : (t w : List ℕ) → Scope → Step → (w' : List ℕ) → Step → (node : ℕ) → Type 0
-GivesStmt t w p s w' r node = Gives w p s w' r (uses 8 1 0) (fwd (lower-stmt (stmt-at (fields t) node)))
+GivesStmt t w p s w' r node = Gives w p s w' r (uses 8 1 0) (fwd (lower-stmt (p .mode) (stmt-at (fields t) node)))
 
 -- the superclass of the class at a node
 abbrev pub super-of : (t : List ℕ) → (node : ℕ) → Super

@@ -44,14 +44,14 @@ module _ (t : List ℕ) (work n : ℕ) (e : checked t work ≡ Accepted n) where
     pub last-readable : Readable t w (12288 + 15 * n) (n - 1)
     last-readable = let a = accepted t work n e in record { offsets = o .offsets; known = omega (arith, a .nodes, a .some) }
 
-    pub row-asked : AskRow t w (main-scope n) first-step (n - 1) 0 (count-of (fields t) (n - 1))
-    row-asked =
+    pub row-asked : (mode : ℕ) → AskRow t w (main-scope mode n) first-step (n - 1) 0 (count-of (fields t) (n - 1))
+    row-asked mode =
         let a = accepted t work n e in
         record {
           ready = record {
             lawful = record { nodes = a .nodes; shapes = a .shapes; offsets = o .offsets };
-            fine = o .fine;
-            room = room-by (size-stmts (stmts-at (fields t) (n - 1) 0 (count-of (fields t) (n - 1)))) 0 0 (omega (arith, row-size)) (omega (arith, row-size)) (o .room);
+            fine = o .fine mode;
+            room = room-by (size-stmts (stmts-at (fields t) (n - 1) 0 (count-of (fields t) (n - 1)))) 0 0 (omega (arith, row-size)) (omega (arith, row-size)) (o .room mode);
             blocks = omega (arith, row-size);
             loops = omega (arith, row-size);
           };

@@ -11,7 +11,7 @@ use Rattle.store.specs.Promise.{Room}
 -- the table of offsets is filled, and the words stand for what the definition starts from, with room for every node
 pub record Opened (t : List ℕ) (n : ℕ) (w : List ℕ) : Type 0 where
   pub offsets : Offsets t w (12288 + 15 * n)
-  pub fine : Fine w (main-scope n) first-step
-  pub room : Room w (main-scope n) first-step n 0 0
-  pub runs : run w (main-scope n) first-step [] ≡ going (config [] 0 start)
+  pub fine : (mode : ℕ) → Fine w (main-scope mode n) first-step
+  pub room : (mode : ℕ) → Room w (main-scope mode n) first-step n 0 0
+  pub runs : (mode : ℕ) → run w (main-scope mode n) first-step [] ≡ going (config [] 0 start)
   pub image : (o : List ℕ) → Image o first-step []

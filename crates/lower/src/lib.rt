@@ -1,5 +1,6 @@
 // The public call: a tree is checked, lowered and written as an image; afterwards the work area is zero, and so is the output behind the image.
 use meaning::Answer;
+use meaning::Cause;
 use meaning::Outcome;
 use store::OFFSETS;
 use store::Scope;
@@ -49,9 +50,9 @@ fn set_up(tree: &[u8], work: &mut [u32], n: usize) -> Step
 }
 
 // The main function's statements, its prototype, the constants.
-fn lower_checked(tree: &[u8], work: &mut [u32], out: &mut [u8], n: usize) -> Outcome
-    requires { ⌜ checked (now tree) (length (now work)) ≡ Accepted n ⌝ }
-    ensures { λ r. ⌜ Ending (finished (now (tree .entry)) (length (now (work .entry))) (length (now (out .entry)))) (now (out .exit)) r ⌝ }
+fn lower_checked(tree: &[u8], work: &mut [u32], out: &mut [u8], n: usize, mode: u64) -> Outcome
+    requires { ⌜ (checked (now tree) (length (now work)) ≡ Accepted n) × (mode ≤ 1) ⌝ }
+    ensures { λ r. ⌜ Ending (finished mode (now (tree .entry)) (length (now (work .entry))) (length (now (out .entry)))) (now (out .exit)) r ⌝ }
 {
     let first = set_up(tree, work, n);
     let main = Scope {
@@ -59,6 +60,7 @@ fn lower_checked(tree: &[u8], work: &mut [u32], out: &mut [u8], n: usize) -> Out
         depth: 0,
         block: 1,
         loops: 0,
+        mode: mode as usize,
     };
     let last = n - 1;
     let count = nodes::count_of(tree, work, OFFSETS + 15 * n, last);
@@ -68,24 +70,27 @@ fn lower_checked(tree: &[u8], work: &mut [u32], out: &mut [u8], n: usize) -> Out
 }
 
 // The outcome, with the image at the front of the output. The words and the bytes behind the image are left as they were used.
-fn lowered(tree: &[u8], work: &mut [u32], out: &mut [u8]) -> Outcome
-    ensures { λ r. ⌜ Ending (finished (now (tree .entry)) (length (now (work .entry))) (length (now (out .entry)))) (now (out .exit)) r ⌝ }
+fn lowered(tree: &[u8], work: &mut [u32], out: &mut [u8], mode: u64) -> Outcome
+    ensures { λ r. ⌜ Ending (finished mode (now (tree .entry)) (length (now (work .entry))) (length (now (out .entry)))) (now (out .exit)) r ⌝ }
 {
+    if 1 < mode {
+        return Outcome::Refused(Cause::Mode, 0);
+    }
     let words = work.len();
     let judged = tree::check_in(tree, work, words);
     let Outcome::Accepted(n) = judged else {
         return judged;
     };
-    lower_checked(tree, work, out, n)
+    lower_checked(tree, work, out, n, mode)
 }
 
-// What document 01 says of a tree, a work area and an output, whatever they hold.
-pub fn lower(tree: &[u8], work: &mut [u32], out: &mut [u8]) -> Answer
-    ensures answered { λ r. ⌜ r ≡ answer-to (outcome (finished (now (tree .entry)) (length (now (work .entry))) (length (now (out .entry))))) ⌝ }
+// What documents 01 and 02 say of a mode, a tree, a work area and an output, whatever they hold.
+pub fn lower(tree: &[u8], work: &mut [u32], out: &mut [u8], mode: u64) -> Answer
+    ensures answered { λ r. ⌜ r ≡ answer-to (outcome (finished mode (now (tree .entry)) (length (now (work .entry))) (length (now (out .entry))))) ⌝ }
     ensures cleared { λ _. ⌜ now (work .exit) ≡ work-area (length (now (work .entry))) ⌝ }
-    ensures written { λ _. ⌜ now (out .exit) ≡ output (length (now (out .entry))) (finished (now (tree .entry)) (length (now (work .entry))) (length (now (out .entry)))) ⌝ }
+    ensures written { λ _. ⌜ now (out .exit) ≡ output (length (now (out .entry))) (finished mode (now (tree .entry)) (length (now (work .entry))) (length (now (out .entry)))) ⌝ }
 {
-    let answer = values::answer_of(lowered(tree, work, out));
+    let answer = values::answer_of(lowered(tree, work, out, mode));
     clear_words(work);
     clear_bytes(out, answer.length as usize);
     answer
@@ -97,12 +102,13 @@ pub extern "C" fn yengrazul_lower(
     tree: &[u8],
     work: &mut [u32],
     out: &mut [u8],
+    mode: u64,
     answer: &mut [u64; 3],
 )
-    ensures answered { λ _. ⌜ now (answer .exit) ≡ told (answer-to (outcome (finished (now (tree .entry)) (length (now (work .entry))) (length (now (out .entry)))))) ⌝ }
+    ensures answered { λ _. ⌜ now (answer .exit) ≡ told (answer-to (outcome (finished mode (now (tree .entry)) (length (now (work .entry))) (length (now (out .entry)))))) ⌝ }
     ensures cleared { λ _. ⌜ now (work .exit) ≡ work-area (length (now (work .entry))) ⌝ }
-    ensures written { λ _. ⌜ now (out .exit) ≡ output (length (now (out .entry))) (finished (now (tree .entry)) (length (now (work .entry))) (length (now (out .entry)))) ⌝ }
+    ensures written { λ _. ⌜ now (out .exit) ≡ output (length (now (out .entry))) (finished mode (now (tree .entry)) (length (now (work .entry))) (length (now (out .entry)))) ⌝ }
 {
-    let a = lower(tree, work, out);
+    let a = lower(tree, work, out, mode);
     *answer = [a.number, a.place, a.length];
 }

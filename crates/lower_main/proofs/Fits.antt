@@ -12,5 +12,5 @@ output-long room (imaged bytes) = omega (arith, length-append bytes (replicate (
 output-long room (stopped c place) = omega arith
 
 -- of what a call answers and leaves in the output
-pub fits : (tree : List ℕ) (work room : ℕ) (r : Answer) (o : List ℕ) → r ≡ answer (outcome (finished tree work room)) → o ≡ output room (finished tree work room) → r .length ≤ length o
-fits tree work room r o e written = rw (e, written) (output-long room (finished tree work room))
+pub fits : (mode : ℕ) (tree : List ℕ) (work room : ℕ) (r : Answer) (o : List ℕ) → r ≡ answer (outcome (finished mode tree work room)) → o ≡ output room (finished mode tree work room) → r .length ≤ length o
+fits mode tree work room r o e written = rw (e, written) (output-long room (finished mode tree work room))

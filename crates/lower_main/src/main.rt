@@ -1,24 +1,48 @@
-// Lowers the tree on standard input: its image on standard output, or one line on standard error that says what is refused, or failed.
+// Lowers the tree on standard input in the mode that the first argument says, 0 without one: its image on standard output, or one line on
+// standard error that says what is refused, or failed.
 // There is no heap, so every room is an array on the stack. Rooms are taken in turn, the smallest first, so that a small tree costs little.
+mod mode;
 mod words;
 
 use meaning::Answer;
+use mode::Told;
 ghost use Prim.Native.Nat.{_≤_};
 ghost use lib.ListN.{length};
 
-// Every tree that is accepted fits: 32,768 nodes of at most 11 bytes and a child's word, and 255 names in each of 256 functions.
 fn main() {
-    let mut room = [0u8; 1048576];
-    small(&mut room);
-}
-
-fn small(room: &mut [u8]) {
-    let n = filled(b"", room);
-    if n < room.len() {
-        lowered(&room[0..n]);
+    let said = mode::said();
+    let Told::Mode(mode) = said else {
+        words::say(b"the mode is no decimal number of 64 bits, in 20 digits at most");
+        return;
+    };
+    let nothing = of_nothing(mode);
+    if nothing.number == 21 {
+        words::refused(nothing);
         return;
     }
-    medium(room, 1);
+    started(mode);
+}
+
+// What the call says of no bytes: 21 where the mode is none, which is told before anything is read, and else 1.
+fn of_nothing(mode: u64) -> Answer {
+    let mut work = [0u32; 1];
+    let mut out = [0u8; 1];
+    lower::lower(b"", &mut work, &mut out, mode)
+}
+
+// Every tree that is accepted fits: 32,768 nodes of at most 11 bytes and a child's word, and 255 names in each of 256 functions.
+fn started(mode: u64) {
+    let mut room = [0u8; 1048576];
+    small(&mut room, mode);
+}
+
+fn small(room: &mut [u8], mode: u64) {
+    let n = filled(b"", room);
+    if n < room.len() {
+        lowered(&room[0..n], mode);
+        return;
+    }
+    medium(room, 1, mode);
 }
 
 // Never: no process has the number 0. A function that calls itself behind this test is compiled apart, with a frame of its own on the stack;
@@ -28,36 +52,36 @@ fn never() -> bool {
 }
 
 // A longer tree is refused in any case. The next rooms are for the number and the place.
-fn medium(read: &[u8], turns: usize) {
+fn medium(read: &[u8], turns: usize, mode: u64) {
     if never() && 0 < turns {
-        medium(read, turns - 1);
+        medium(read, turns - 1, mode);
     }
     let mut room = [0u8; 134217728];
-    more(read, &mut room);
+    more(read, &mut room, mode);
 }
 
-fn more(read: &[u8], room: &mut [u8]) {
+fn more(read: &[u8], room: &mut [u8], mode: u64) {
     let n = filled(read, room);
     if n < room.len() {
-        lowered(&room[0..n]);
+        lowered(&room[0..n], mode);
         return;
     }
-    large(room, 1);
+    large(room, 1, mode);
 }
 
 // The compiler takes 2 GiB of locals in a function at most, so this room is 131,072 bytes short of 32,768 fields of the greatest length.
-fn large(read: &[u8], turns: usize) {
+fn large(read: &[u8], turns: usize, mode: u64) {
     if never() && 0 < turns {
-        large(read, turns - 1);
+        large(read, turns - 1, mode);
     }
     let mut room = [0u8; 2147418112];
-    most(read, &mut room);
+    most(read, &mut room, mode);
 }
 
-fn most(read: &[u8], room: &mut [u8]) {
+fn most(read: &[u8], room: &mut [u8], mode: u64) {
     let n = filled(read, room);
     if n < room.len() {
-        lowered(&room[0..n]);
+        lowered(&room[0..n], mode);
         return;
     }
     words::say(b"refused: too long: a tree of 2,147,418,112 bytes or more is not read");
@@ -82,41 +106,41 @@ fn copied(read: &[u8], room: &mut [u8]) -> usize
     n
 }
 
-fn lowered(tree: &[u8]) {
+fn lowered(tree: &[u8], mode: u64) {
     let mut out = [0u8; 1048576];
-    first(tree, &mut out);
+    first(tree, &mut out, mode);
 }
 
 // An image that is longer than this output is asked for once more, with room for the longest: 18 comes last, so nothing else was wrong.
-fn first(tree: &[u8], out: &mut [u8]) {
-    let a = answer(tree, out);
+fn first(tree: &[u8], out: &mut [u8], mode: u64) {
+    let a = answer(tree, out, mode);
     if a.number == 18 {
-        full(tree, 1);
+        full(tree, 1, mode);
         return;
     }
     tell(a, out);
 }
 
 // 256 prototypes of 13 bytes, each with 255 captures of 5 and 32,767 instructions of 9, and 1,024 constants of 11.
-fn full(tree: &[u8], turns: usize) {
+fn full(tree: &[u8], turns: usize, mode: u64) {
     if never() && 0 < turns {
-        full(tree, turns - 1);
+        full(tree, turns - 1, mode);
     }
     let mut out = [0u8; 75836160];
-    second(tree, &mut out);
+    second(tree, &mut out, mode);
 }
 
-fn second(tree: &[u8], out: &mut [u8]) {
-    let a = answer(tree, out);
+fn second(tree: &[u8], out: &mut [u8], mode: u64) {
+    let a = answer(tree, out, mode);
     tell(a, out);
 }
 
 // The work area is as long as 32,768 nodes ask for.
-fn answer(tree: &[u8], out: &mut [u8]) -> Answer
+fn answer(tree: &[u8], out: &mut [u8], mode: u64) -> Answer
     ensures { λ r. ⌜ r .length ≤ length (now (out .exit)) ⌝ }
 {
     let mut work = [0u32; 536576];
-    lower::lower(tree, &mut work, out)
+    lower::lower(tree, &mut work, out, mode)
 }
 
 // The image, or why there is none.

@@ -1,4 +1,4 @@
-// What a refusal says in words: number, cause, node, and the rule that was broken (01, "Outcome").
+// What a refusal says in words: number, cause, node, and the rule that was broken (01, "Outcome"; 02, E2).
 use meaning::Answer;
 
 // One line on standard error.
@@ -76,11 +76,12 @@ pub(crate) fn refused(a: Answer) {
             b"Long",
             b"a function may have 32,767 instructions, its last Return counted",
         ),
-        _ => at_node(
+        18 => at_node(
             a,
             b"Room",
             b"the image must fit into the output, here 75,836,160 bytes",
         ),
+        _ => say(b"refused 21 Mode: the mode must be 0 or 1"),
     }
 }
 

@@ -3,6 +3,7 @@ ghost use Prim.Native.Nat.{_<_, _≤_};
 
 // What a case says, and where its tree's parts, its image and the next case start.
 pub struct Case {
+    pub mode: u64,
     pub parts: usize,
     pub tree: usize,
     pub work: usize,
@@ -18,19 +19,19 @@ pub struct Case {
 
 // So many bytes on, or the end.
 pub(crate) fn forth(at: usize, n: usize) -> usize
-    ensures { λ r. ⌜ r ≤ 800000 ⌝ }
+    ensures { λ r. ⌜ r ≤ 1000000 ⌝ }
 {
-    if 800000 < at {
-        return 800000;
+    if 1000000 < at {
+        return 1000000;
     }
-    if 800000 - at < n {
-        return 800000;
+    if 1000000 - at < n {
+        return 1000000;
     }
     at + n
 }
 
-pub(crate) fn byte(text: &[u8; 800000], at: usize) -> u8 {
-    if at < 800000 { text[at] } else { 0 }
+pub(crate) fn byte(text: &[u8; 1000000], at: usize) -> u8 {
+    if at < 1000000 { text[at] } else { 0 }
 }
 
 pub(crate) fn wide(x: u8) -> usize
@@ -40,32 +41,37 @@ pub(crate) fn wide(x: u8) -> usize
 }
 
 // Two bytes, the high one first.
-pub(crate) fn short(text: &[u8; 800000], at: usize) -> usize
+pub(crate) fn short(text: &[u8; 1000000], at: usize) -> usize
     ensures { λ r. ⌜ r < 65536 ⌝ }
 {
     wide(byte(text, at)) * 256 + wide(byte(text, forth(at, 1)))
 }
 
 // Four bytes.
-pub(crate) fn long(text: &[u8; 800000], at: usize) -> usize
+pub(crate) fn long(text: &[u8; 1000000], at: usize) -> usize
     ensures { λ r. ⌜ r < 4294967296 ⌝ }
 {
     short(text, at) * 65536 + short(text, forth(at, 2))
 }
 
+// Eight bytes.
+fn whole(text: &[u8; 1000000], at: usize) -> u64 {
+    (long(text, at) as u64) * 4294967296 + long(text, forth(at, 4)) as u64
+}
+
 // Where a part's steps start: after its count, its pattern's length and its pattern.
-fn steps_of(text: &[u8; 800000], part: usize) -> usize {
+fn steps_of(text: &[u8; 1000000], part: usize) -> usize {
     forth(forth(part, 6), short(text, forth(part, 4)))
 }
 
 // Where the part ends.
-fn after_part(text: &[u8; 800000], part: usize) -> usize {
+fn after_part(text: &[u8; 1000000], part: usize) -> usize {
     let steps = steps_of(text, part);
     forth(forth(steps, 2), 4 * short(text, steps))
 }
 
 // Where the parts of a tree end.
-fn after_parts(text: &[u8; 800000], at: usize) -> usize {
+fn after_parts(text: &[u8; 1000000], at: usize) -> usize {
     let count = short(text, at);
     let mut part = forth(at, 2);
     let mut k: usize = 0;
@@ -76,12 +82,14 @@ fn after_parts(text: &[u8; 800000], at: usize) -> usize {
     part
 }
 
-pub(crate) fn case_at(text: &[u8; 800000], at: usize) -> Case {
-    let numbers = after_parts(text, at);
+pub(crate) fn case_at(text: &[u8; 1000000], at: usize) -> Case {
+    let parts = forth(at, 8);
+    let numbers = after_parts(text, parts);
     let shown = long(text, forth(numbers, 28));
     let image = forth(numbers, 32);
     Case {
-        parts: at,
+        mode: whole(text, at),
+        parts: parts,
         tree: long(text, numbers),
         work: long(text, forth(numbers, 4)),
         room: long(text, forth(numbers, 8)),
@@ -121,7 +129,7 @@ fn get(tree: &[u8], at: usize) -> u8 {
 }
 
 // A pattern's bytes.
-fn copy(text: &[u8; 800000], from: usize, size: usize, tree: &mut [u8], to: usize) {
+fn copy(text: &[u8; 1000000], from: usize, size: usize, tree: &mut [u8], to: usize) {
     let mut i: usize = 0;
     while i < size {
         put(tree, onward(to, i), byte(text, forth(from, i)));
@@ -137,7 +145,7 @@ fn grown(old: usize, j: usize, by: usize) -> usize
 }
 
 // The growing words of a pattern that was copied, in repetition j.
-fn grow(text: &[u8; 800000], steps: usize, tree: &mut [u8], from: usize, j: usize) {
+fn grow(text: &[u8; 1000000], steps: usize, tree: &mut [u8], from: usize, j: usize) {
     let count = short(text, steps);
     let mut i: usize = 0;
     while i < count {
@@ -153,7 +161,7 @@ fn grow(text: &[u8; 800000], steps: usize, tree: &mut [u8], from: usize, j: usiz
 }
 
 // A part, behind the bytes before it; where it ends. An empty pattern is not repeated.
-fn expand(text: &[u8; 800000], part: usize, tree: &mut [u8], from: usize) -> usize {
+fn expand(text: &[u8; 1000000], part: usize, tree: &mut [u8], from: usize) -> usize {
     let times = long(text, part);
     let size = short(text, forth(part, 4));
     if size == 0 {
@@ -173,7 +181,7 @@ fn expand(text: &[u8; 800000], part: usize, tree: &mut [u8], from: usize) -> usi
 }
 
 // The tree whose parts stand at a place; its length.
-pub(crate) fn build(text: &[u8; 800000], at: usize, tree: &mut [u8]) -> usize {
+pub(crate) fn build(text: &[u8; 1000000], at: usize, tree: &mut [u8]) -> usize {
     let count = short(text, at);
     let mut part = forth(at, 2);
     let mut end: usize = 0;

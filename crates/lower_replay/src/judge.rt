@@ -53,7 +53,7 @@ fn zero_behind(out: &[u8], from: usize) -> bool {
 }
 
 // The bytes that the file shows.
-fn same_image(text: &[u8; 800000], image: usize, shown: usize, out: &[u8]) -> bool {
+fn same_image(text: &[u8; 1000000], image: usize, shown: usize, out: &[u8]) -> bool {
     if out.len() < shown {
         return false;
     }
@@ -81,7 +81,7 @@ fn checksum(out: &[u8], count: usize) -> usize {
 }
 
 // What differs: 0 nothing, else its number among `name`'s words.
-fn judge(text: &[u8; 800000], c: Case, got: Answer, work: &[u32], out: &[u8]) -> u8 {
+fn judge(text: &[u8; 1000000], c: Case, got: Answer, work: &[u32], out: &[u8]) -> u8 {
     if got.number != c.number as u64 {
         return 2;
     }
@@ -107,16 +107,16 @@ fn judge(text: &[u8; 800000], c: Case, got: Answer, work: &[u32], out: &[u8]) ->
 }
 
 // The call on slices of the sizes that the case says.
-fn call(text: &[u8; 800000], c: Case, tree: &[u8], work: &mut [u32], out: &mut [u8]) -> u8 {
+fn call(text: &[u8; 1000000], c: Case, tree: &[u8], work: &mut [u32], out: &mut [u8]) -> u8 {
     noise_words(work, (c.checksum % 4294967296) as u32);
     noise_bytes(out, (c.tree % 4294967296) as u32);
-    let got = lower::lower(tree, work, out);
+    let got = lower::lower(tree, work, out, c.mode);
     judge(text, c, got, work, out)
 }
 
 // The same with buffers that are large enough; 1 where a size is not as the case says.
 pub(crate) fn ask(
-    text: &[u8; 800000],
+    text: &[u8; 1000000],
     c: Case,
     tree: &mut [u8],
     work: &mut [u32],

@@ -4,28 +4,28 @@ mod file;
 mod judge;
 
 fn main() {
-    let mut text = [0u8; 800000];
+    let mut text = [0u8; 1000000];
     let n = io::read_full(0, &mut text);
     replay(&text, n);
 }
 
 // One more case that agreed.
-fn tally(agreed: &mut [u64; 19], number: usize) {
-    if number < 19 {
+fn tally(agreed: &mut [u64; 22], number: usize) {
+    if number < 22 {
         agreed[number] = agreed[number] % 4294967296 + 1;
     }
 }
 
 // Where the next case is read; nowhere where the sizes are wrong.
 fn onto(next: usize, kind: u8) -> usize {
-    if kind == 1 { 800000 } else { next }
+    if kind == 1 { 1000000 } else { next }
 }
 
-fn replay(text: &[u8; 800000], end: usize) {
+fn replay(text: &[u8; 1000000], end: usize) {
     let mut work = [0u32; 536576];
     let mut out = [0u8; 294998];
     let mut tree = [0u8; 229372];
-    let mut agreed = [0u64; 19];
+    let mut agreed = [0u64; 22];
     let count = file::long(text, 0);
     let mut at: usize = 16;
     let mut k: usize = 0;
@@ -69,9 +69,9 @@ fn name(before: usize, k: usize, kind: u8) {
     ;
 }
 
-fn report(agreed: &[u64; 19], count: usize, differences: usize) {
+fn report(agreed: &[u64; 22], count: usize, differences: usize) {
     let mut number: usize = 0;
-    while number < 19 {
+    while number < 22 {
         io::print_decimal(1, number as u64);
         io::write_all(1, b": ");
         io::print_decimal(1, agreed[number]);

@@ -203,11 +203,11 @@ grows =
 done-grows : {A : Type 0} {m : M A} → Keeps Grows m → (s t : State) (a : A) → m s ≡ done a t → Grows s t
 done-grows {A} k s t a h = subst (λ (r : Res A). Along Grows s r) h (k .at s)
 
-pub expr-grows : (e : Expr) (s t : State) (c : Chunk) → lower-expr e s ≡ done c t → Grows s t
-expr-grows e = done-grows (expr-keeps Grows grows e)
+pub expr-grows : (mode : ℕ) (e : Expr) (s t : State) (c : Chunk) → lower-expr mode e s ≡ done c t → Grows s t
+expr-grows mode e = done-grows (expr-keeps Grows grows mode e)
 
-pub stmt-grows : (e : Stmt) (s t : State) (c : Chunk) → lower-stmt e s ≡ done c t → Grows s t
-stmt-grows e = done-grows (stmt-keeps Grows grows e)
+pub stmt-grows : (mode : ℕ) (e : Stmt) (s t : State) (c : Chunk) → lower-stmt mode e s ≡ done c t → Grows s t
+stmt-grows mode e = done-grows (stmt-keeps Grows grows mode e)
 
-pub stmts-grow : (es : Stmts) (s t : State) (cs : List Chunk) → lower-stmts es s ≡ done cs t → Grows s t
-stmts-grow es = done-grows (stmts-keep Grows grows es)
+pub stmts-grow : (mode : ℕ) (es : Stmts) (s t : State) (cs : List Chunk) → lower-stmts mode es s ≡ done cs t → Grows s t
+stmts-grow mode es = done-grows (stmts-keep Grows grows mode es)

@@ -6,7 +6,7 @@ use mathlib.Core.Bool.{Bool, true, false, cond}
 use mathlib.Core.List.{List, []}
 use native.Mathlib.Omega.{arith}
 use lib.ListN.{length}
-use lib.Dec.{ltb}
+use lib.Dec.{leb, ltb}
 use Rattle.meaning.specs.Fields.{fields}
 use Rattle.meaning.specs.Check.{checked}
 use Rattle.meaning.specs.Read.{read-program}
@@ -16,7 +16,7 @@ use Rattle.meaning.specs.Image.{image}
 use Rattle.meaning.specs.Answer.{cause-number, Finished, imaged, stopped, lowered, finished-after, finished, outcome, answer}
 use Rattle.meaning.specs.Safety.{Lowered}
 use Rattle.meaning.specs.declared.Cause.{Cause}
-use Rattle.meaning.specs.declared.Cause.the-variants.{Frame, Many, Shape, Tree, Depth, Work, Registers, Captures, Undefined, Redefined, Stray, Empty, Returned, Constants, Prototypes, Nesting, Long, Room}
+use Rattle.meaning.specs.declared.Cause.the-variants.{Frame, Many, Shape, Tree, Depth, Work, Registers, Captures, Undefined, Redefined, Stray, Empty, Returned, Constants, Prototypes, Nesting, Long, Room, Mode}
 use Rattle.meaning.specs.declared.Outcome.{Outcome}
 use Rattle.meaning.specs.declared.Outcome.the-variants.{Accepted, Refused}
 
@@ -41,6 +41,7 @@ cause-positive Prototypes = omega arith
 cause-positive Nesting = omega arith
 cause-positive Long = omega arith
 cause-positive Room = omega arith
+cause-positive Mode = omega arith
 
 -- accepted is 0, and nothing else is
 pub number-zero : (f : Finished) → answer (outcome f) .number ≡ 0 ↔ ((bytes : List ℕ) × (f ≡ imaged bytes))
@@ -65,16 +66,20 @@ fitted-bytes true last xs bytes e = absurd (stopped-not e)
 fitted-bytes false last xs bytes e = sym (ap bytes-of e)
 
 -- for each way in which the checks and then the lowering may end
-module _ (tree : List ℕ) (work room : ℕ) (bytes : List ℕ) where
-  after-lowering : (n : ℕ) → checked tree work ≡ Accepted n → (r : Res ℕ) → lower-program (n - 1) (read-program (fields tree)) ≡ r → lowered room (n - 1) r ≡ imaged bytes → Lowered tree work bytes
+module _ (mode : ℕ) (tree : List ℕ) (work room : ℕ) (bytes : List ℕ) where
+  after-lowering : (n : ℕ) → checked tree work ≡ Accepted n → (r : Res ℕ) → lower-program mode (n - 1) (read-program (fields tree)) ≡ r → lowered room (n - 1) r ≡ imaged bytes → Lowered mode tree work bytes
   after-lowering n a (refused c place) l e = absurd (stopped-not e)
   after-lowering n a (done i t) l e =
       record { nodes = n; accepted = a; main = i; state = t; lowering = l; image-of = fitted-bytes (ltb room (length (image t))) (n - 1) (image t) bytes e }
 
-  after-checks : (o : Outcome) → checked tree work ≡ o → finished-after o tree room ≡ imaged bytes → Lowered tree work bytes
+  after-checks : (o : Outcome) → checked tree work ≡ o → finished-after mode o tree room ≡ imaged bytes → Lowered mode tree work bytes
   after-checks (Refused c place) a e = absurd (stopped-not e)
-  after-checks (Accepted n) a e = after-lowering n a (lower-program (n - 1) (read-program (fields tree))) refl e
+  after-checks (Accepted n) a e = after-lowering n a (lower-program mode (n - 1) (read-program (fields tree))) refl e
 
-  pub finished-lowered : finished tree work room ≡ imaged bytes → Lowered tree work bytes
+  in-mode : (b : Bool) → cond b (finished-after mode (checked tree work) tree room) (stopped Mode 0) ≡ imaged bytes → Lowered mode tree work bytes
+  in-mode true e = after-checks (checked tree work) refl e
+  in-mode false e = absurd (stopped-not e)
+
+  pub finished-lowered : finished mode tree work room ≡ imaged bytes → Lowered mode tree work bytes
   unfolding finished
-  finished-lowered e = after-checks (checked tree work) refl e
+  finished-lowered e = in-mode (leb mode 1) e

@@ -200,9 +200,9 @@ module _ (R : State → State → Type 0) (K : Kept R) where
   unfolding visit-while
   while-keeps node mark h k = bind h λ c. bind (K .by-loop k) λ b. by-pure _
 
-  for-keeps : (node mark : ℕ) {i : M (List Chunk)} {c n b : M Chunk} → Keeps R i → Keeps R c → Keeps R n → Keeps R b → Keeps R (visit-classic-for node mark i c n b)
+  for-keeps : (mode node mark : ℕ) {i : M (List Chunk)} {c n b : M Chunk} → Keeps R i → Keeps R c → Keeps R n → Keeps R b → Keeps R (visit-classic-for mode node mark i c n b)
   unfolding visit-classic-for
-  for-keeps node mark hi hc hn hb = bind hi λ i. bind hc λ c. bind (K .by-loop hb) λ b. bind hn λ n. by-pure _
+  for-keeps mode node mark hi hc hn hb = bind hi λ i. bind hc λ c. bind (K .by-loop hb) λ b. bind hn λ n. by-pure _
 
   each-keeps : (node mark element i : ℕ) (xs : List Token) → Keeps R (iterate-each node mark element i xs)
   unfolding iterate-each
@@ -215,9 +215,9 @@ module _ (R : State → State → Type 0) (K : Kept R) where
   iterate-keeps node mark element collection counter (x ∷ []) = next (K .by-allocate _ _) (by-pure _)
   iterate-keeps node mark element collection counter (x ∷ y ∷ xs) = bind (each-keeps node mark element 0 (x ∷ y ∷ xs)) λ parts. by-pure _
 
-  for-in-keeps : (node mark : ℕ) (xs : List Token) {c b : M Chunk} → Keeps R c → Keeps R b → Keeps R (visit-for-in node mark xs c b)
+  for-in-keeps : (mode node mark : ℕ) (xs : List Token) {c b : M Chunk} → Keeps R c → Keeps R b → Keeps R (visit-for-in mode node mark xs c b)
   unfolding visit-for-in
-  for-in-keeps node mark xs h k =
+  for-in-keeps mode node mark xs h k =
       bind (K .by-register node) λ counter. bind (K .by-register node) λ size. bind (K .by-register node) λ condition. bind (K .by-register node) λ element.
       bind (K .by-constant node _) λ i. bind h λ c. bind (iterate-keeps node mark element _ counter xs) λ heads. bind (K .by-loop k) λ b. by-pure _
 
@@ -268,50 +268,51 @@ module _ (R : State → State → Type 0) (K : Kept R) where
 
   -- ---- the recursion
 
-  mutual
-    unfolding lower-expr
+  module _ (mode : ℕ) where
+    mutual
+      unfolding lower-expr
 
-    pub expr-keeps : (e : Expr) → Keeps R (lower-expr e)
-    expr-keeps (literal node v) = literal-keeps node v
-    expr-keeps (variable node x) = variable-keeps node x
-    expr-keeps (unary node op mark x) = unary-keeps node op mark (expr-keeps x)
-    expr-keeps (binary node op mark x y) = binary-keeps node op mark _ _ (expr-keeps x) (expr-keeps y)
-    expr-keeps (logical node op mark x y) = logical-keeps node op mark (expr-keeps x) (expr-keeps y)
-    expr-keeps (call node f mark xs) = call-keeps node mark _ (expr-keeps f) (λ r. arguments-keep xs r)
-    expr-keeps (function node ps b) = function-keeps node ps (stmts-keep b)
+      pub expr-keeps : (e : Expr) → Keeps R (lower-expr mode e)
+      expr-keeps (literal node v) = literal-keeps node v
+      expr-keeps (variable node x) = variable-keeps node x
+      expr-keeps (unary node op mark x) = unary-keeps node op mark (expr-keeps x)
+      expr-keeps (binary node op mark x y) = binary-keeps node op mark _ _ (expr-keeps x) (expr-keeps y)
+      expr-keeps (logical node op mark x y) = logical-keeps node op mark (expr-keeps x) (expr-keeps y)
+      expr-keeps (call node f mark xs) = call-keeps node mark _ (expr-keeps f) (λ r. arguments-keep xs r)
+      expr-keeps (function node ps b) = function-keeps node ps (stmts-keep b)
 
-    pub arguments-keep : (es : Exprs) (r : ℕ) → Keeps R (lower-arguments es r)
-    arguments-keep no-expr r = by-pure _
-    arguments-keep (and-expr e es) r = argument-keeps r (expr-keeps e) (arguments-keep es _)
+      pub arguments-keep : (es : Exprs) (r : ℕ) → Keeps R (lower-arguments mode es r)
+      arguments-keep no-expr r = by-pure _
+      arguments-keep (and-expr e es) r = argument-keeps r (expr-keeps e) (arguments-keep es _)
 
-    pub stmt-keeps : (s : Stmt) → Keeps R (lower-stmt s)
-    stmt-keeps (expression node e) = expr-keeps e
-    stmt-keeps (let-only node x) = let-only-keeps node x
-    stmt-keeps (let-as node x e) = let-as-keeps node x (expr-keeps e)
-    stmt-keeps (block node ss) = block-keeps (stmts-keep ss)
-    stmt-keeps (while node mark e s) = while-keeps node mark (expr-keeps e) (stmt-keeps s)
-    stmt-keeps (classic-for node mark i c n s) = for-keeps node mark (stmts-keep i) (expr-keeps c) (expr-keeps n) (stmt-keeps s)
-    stmt-keeps (for-in node mark e s xs) = for-in-keeps node mark xs (expr-keeps e) (stmt-keeps s)
-    stmt-keeps (break node mark) = jump-keeps node _ mark
-    stmt-keeps (continue node mark) = jump-keeps node _ mark
-    stmt-keeps (return-none node mark) = return-none-keeps mark
-    stmt-keeps (return node mark e) = return-value-keeps node mark (expr-keeps e)
-    stmt-keeps (if node mark e ss es ts) = if-keeps node mark (expr-keeps e) (stmts-keep ss) (elifs-keep es) (stmts-keep ts)
-    stmt-keeps (try node s x t) = try-keeps node x (stmt-keeps s) (stmt-keeps t)
-    stmt-keeps (define f) = fun-stmt-keeps f
-    stmt-keeps (class node x p ms ts) = class-keeps node x p (λ op r tmp. methods-keep ms node (x .mark) op r tmp) (λ op r tmp. methods-keep ts node (x .mark) op r tmp)
+      pub stmt-keeps : (s : Stmt) → Keeps R (lower-stmt mode s)
+      stmt-keeps (expression node e) = expr-keeps e
+      stmt-keeps (let-only node x) = let-only-keeps node x
+      stmt-keeps (let-as node x e) = let-as-keeps node x (expr-keeps e)
+      stmt-keeps (block node ss) = block-keeps (stmts-keep ss)
+      stmt-keeps (while node mark e s) = while-keeps node mark (expr-keeps e) (stmt-keeps s)
+      stmt-keeps (classic-for node mark i c n s) = for-keeps mode node mark (stmts-keep i) (expr-keeps c) (expr-keeps n) (stmt-keeps s)
+      stmt-keeps (for-in node mark e s xs) = for-in-keeps mode node mark xs (expr-keeps e) (stmt-keeps s)
+      stmt-keeps (break node mark) = jump-keeps node _ mark
+      stmt-keeps (continue node mark) = jump-keeps node _ mark
+      stmt-keeps (return-none node mark) = return-none-keeps mark
+      stmt-keeps (return node mark e) = return-value-keeps node mark (expr-keeps e)
+      stmt-keeps (if node mark e ss es ts) = if-keeps node mark (expr-keeps e) (stmts-keep ss) (elifs-keep es) (stmts-keep ts)
+      stmt-keeps (try node s x t) = try-keeps node x (stmt-keeps s) (stmt-keeps t)
+      stmt-keeps (define f) = fun-stmt-keeps f
+      stmt-keeps (class node x p ms ts) = class-keeps node x p (λ op r tmp. methods-keep ms node (x .mark) op r tmp) (λ op r tmp. methods-keep ts node (x .mark) op r tmp)
 
-    pub stmts-keep : (ss : Stmts) → Keeps R (lower-stmts ss)
-    stmts-keep no-stmt = by-pure _
-    stmts-keep (and-stmt s ss) = row-keeps (stmt-keeps s) (stmts-keep ss)
+      pub stmts-keep : (ss : Stmts) → Keeps R (lower-stmts mode ss)
+      stmts-keep no-stmt = by-pure _
+      stmts-keep (and-stmt s ss) = row-keeps (stmt-keeps s) (stmts-keep ss)
 
-    pub elifs-keep : (es : Elifs) → Keeps R (lower-elifs es)
-    elifs-keep no-elif = by-pure _
-    elifs-keep (and-elif e ss es) = elif-keeps (expr-keeps e) (stmts-keep ss) (elifs-keep es)
+      pub elifs-keep : (es : Elifs) → Keeps R (lower-elifs mode es)
+      elifs-keep no-elif = by-pure _
+      elifs-keep (and-elif e ss es) = elif-keeps (expr-keeps e) (stmts-keep ss) (elifs-keep es)
 
-    pub fun-stmt-keeps : (f : Fun) → Keeps R (lower-fun f)
-    fun-stmt-keeps (fun node x ps b) = fun-keeps node x ps (stmts-keep b)
+      pub fun-stmt-keeps : (f : Fun) → Keeps R (lower-fun mode f)
+      fun-stmt-keeps (fun node x ps b) = fun-keeps node x ps (stmts-keep b)
 
-    pub methods-keep : (fs : Funs) (node mark op result tmp : ℕ) → Keeps R (lower-methods fs node mark op result tmp)
-    methods-keep no-fun node mark op result tmp = by-pure _
-    methods-keep (and-fun f fs) node mark op result tmp = method-keeps node mark op result tmp _ (fun-stmt-keeps f) (methods-keep fs node mark op result tmp)
+      pub methods-keep : (fs : Funs) (node mark op result tmp : ℕ) → Keeps R (lower-methods mode fs node mark op result tmp)
+      methods-keep no-fun node mark op result tmp = by-pure _
+      methods-keep (and-fun f fs) node mark op result tmp = method-keeps node mark op result tmp _ (fun-stmt-keeps f) (methods-keep fs node mark op result tmp)

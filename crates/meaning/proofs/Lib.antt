@@ -1,4 +1,7 @@
--- Theorems about the definition: first of every tree, then of the reference programs, which are computed.
+-- Theorems about the definition: first of the programs that are computed, then of every tree.
+pub mod Computing
+pub mod Starred
+pub mod Examples
 pub mod Lists
 pub mod FieldLaws
 pub mod Kids
@@ -13,6 +16,4 @@ pub mod Keeps
 pub mod Grows
 pub mod Imaged
 pub mod Safe
-pub mod Computing
 pub mod Quick
-pub mod Starred

@@ -25,20 +25,20 @@ pub mod Program
 pub mod Walk
 
 -- of a lowering that is done
-pub lowering-safe : (node : ℕ) (ss : Stmts) (i : ℕ) (t : State) → lower-program node ss ≡ done i t
+pub lowering-safe : (mode node : ℕ) (ss : Stmts) (i : ℕ) (t : State) → lower-program mode node ss ≡ done i t
     → (before : List Proto) (p : Proto) (after : List Proto) → t .prototypes ≡ before ++ p ∷ after → Safe (t .constants) before p
-lowering-safe node ss i t e before p after q = protos-safe (t .constants) [] before p after (subst (Protos (t .constants) []) q (program-whole node ss i t e .pools .protos))
+lowering-safe mode node ss i t e before p after q = protos-safe (t .constants) [] before p after (subst (Protos (t .constants) []) q (program-whole mode node ss i t e .pools .protos))
 
 -- for all trees, work lengths and output lengths: where there is an image, it is that of a lowering that was done, and demand 3 holds of it
-pub demand-3 : (tree : List ℕ) (work room : ℕ) (bytes : List ℕ) → finished tree work room ≡ imaged bytes → (l : Lowered tree work bytes) × Demand3 (l .state)
-demand-3 tree work room bytes e =
-    let l = finished-lowered tree work room bytes e in
-    let safe = lowering-safe (l .nodes - 1) _ (l .main) (l .state) (l .lowering) in
+pub demand-3 : (mode : ℕ) (tree : List ℕ) (work room : ℕ) (bytes : List ℕ) → finished mode tree work room ≡ imaged bytes → (l : Lowered mode tree work bytes) × Demand3 (l .state)
+demand-3 mode tree work room bytes e =
+    let l = finished-lowered mode tree work room bytes e in
+    let safe = lowering-safe mode (l .nodes - 1) _ (l .main) (l .state) (l .lowering) in
     (l, record { safe = safe; walks = λ before p after q. steps-stand (l .state .constants) before p (safe before p after q) })
 
 -- the same of an answer with number 0
-pub accepted-demand-3 : (tree : List ℕ) (work room : ℕ) → answer (outcome (finished tree work room)) .number ≡ 0
-    → (bytes : List ℕ) × (finished tree work room ≡ imaged bytes) × ((l : Lowered tree work bytes) × Demand3 (l .state))
-accepted-demand-3 tree work room e =
-    let f = number-zero (finished tree work room) .0 e in
-    (f .0, f .1, demand-3 tree work room (f .0) (f .1))
+pub accepted-demand-3 : (mode : ℕ) (tree : List ℕ) (work room : ℕ) → answer (outcome (finished mode tree work room)) .number ≡ 0
+    → (bytes : List ℕ) × (finished mode tree work room ≡ imaged bytes) × ((l : Lowered mode tree work bytes) × Demand3 (l .state))
+accepted-demand-3 mode tree work room e =
+    let f = number-zero (finished mode tree work room) .0 e in
+    (f .0, f .1, demand-3 mode tree work room (f .0) (f .1))

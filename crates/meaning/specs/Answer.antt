@@ -3,7 +3,7 @@ use Prim.Native.Nat.{ℕ, _-_}
 use mathlib.Core.Bool.{cond}
 use mathlib.Core.List.{List, _++_}
 use lib.ListN.{length, replicate}
-use lib.Dec.{ltb}
+use lib.Dec.{leb, ltb}
 use Rattle.meaning.specs.Fields.{fields}
 use Rattle.meaning.specs.Check.{checked}
 use Rattle.meaning.specs.Read.{read-program}
@@ -12,7 +12,7 @@ use Rattle.meaning.specs.Lower.{lower-program}
 use Rattle.meaning.specs.Image.{image}
 use Rattle.meaning.specs.declared.Answer.{Answer}
 use Rattle.meaning.specs.declared.Cause.{Cause}
-use Rattle.meaning.specs.declared.Cause.the-variants.{Frame, Many, Shape, Tree, Depth, Work, Registers, Captures, Undefined, Redefined, Stray, Empty, Returned, Constants, Prototypes, Nesting, Long, Room}
+use Rattle.meaning.specs.declared.Cause.the-variants.{Frame, Many, Shape, Tree, Depth, Work, Registers, Captures, Undefined, Redefined, Stray, Empty, Returned, Constants, Prototypes, Nesting, Long, Room, Mode}
 use Rattle.meaning.specs.declared.Outcome.{Outcome}
 use Rattle.meaning.specs.declared.Outcome.the-variants.{Accepted, Refused}
 
@@ -36,6 +36,7 @@ cause-number Prototypes = 15
 cause-number Nesting = 16
 cause-number Long = 17
 cause-number Room = 18
+cause-number Mode = 21
 
 -- what a lowering ends with: an image, or a cause with its place
 pub data Finished : Type 0 where
@@ -52,13 +53,13 @@ lowered room last (refused c place) = stopped c place
 lowered room last (done index s) = fitted room last (image s)
 
 -- after the checks 1 to 6
-abbrev pub finished-after : Outcome → (tree : List ℕ) (room : ℕ) → Finished
-finished-after (Refused c place) tree room = stopped c place
-finished-after (Accepted n) tree room = lowered room (n - 1) (lower-program (n - 1) (read-program (fields tree)))
+abbrev pub finished-after : (mode : ℕ) → Outcome → (tree : List ℕ) (room : ℕ) → Finished
+finished-after mode (Refused c place) tree room = stopped c place
+finished-after mode (Accepted n) tree room = lowered room (n - 1) (lower-program mode (n - 1) (read-program (fields tree)))
 
--- the tree's bytes, the work area's length in words, the output's length in bytes
-unfoldable pub finished : (tree : List ℕ) (work room : ℕ) → Finished
-finished tree work room = finished-after (checked tree work) tree room
+-- 21 Mode; the tree's bytes, the work area's length in words, the output's length in bytes
+unfoldable pub finished : (mode : ℕ) (tree : List ℕ) (work room : ℕ) → Finished
+finished mode tree work room = cond (leb mode 1) (finished-after mode (checked tree work) tree room) (stopped Mode 0)
 
 -- "the outcome is either an image length or a cause with its node"
 abbrev pub outcome : Finished → Outcome

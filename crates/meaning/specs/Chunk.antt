@@ -3,6 +3,7 @@ use Prim.Native.Nat.{ℕ, zero, suc, _+_, _-_}
 use mathlib.Core.Bool.{cond}
 use mathlib.Core.List.{List, [], _∷_, _++_}
 use lib.ListN.{length}
+use lib.Dec.{eqb, leb}
 use Rattle.meaning.specs.Opcode.{inst, wide, back, no-mark, is-continue, is-break, is-end-jump, Jmp, Test, RegisterTryCatch, DeregisterTryCatch}
 use Rattle.meaning.specs.State.{Chunk}
 use Rattle.meaning.specs.declared.Instruction.{Instruction}
@@ -27,17 +28,21 @@ jump-by x offset = wide (x .opcode) 0 offset (x .mark)
 
 -- ---- loops: visit_while_stmt, visit_classic_for_stmt, visit_enhanced_for_stmt end alike
 
--- where continue goes, from index i: back to the first instruction of its loop's code
-abbrev pub continue-offset : (i : ℕ) → ℕ
-continue-offset i = back i
+-- the offset of a continue at index i, which goes to index `goal` of its loop's code
+abbrev pub continue-offset : (goal i : ℕ) → ℕ
+continue-offset goal i = cond (leb i goal) (goal - i) (back (i - goal))
+
+-- where continue goes: in mode 1 to the increment, else to the first instruction of its loop's code
+abbrev pub continue-goal : (mode increment : ℕ) → ℕ
+continue-goal mode increment = cond (eqb mode 1) increment 0
 
 -- "Patch continue and break": break goes past the loop's last instruction
-abbrev pub patch-jump : (size i : ℕ) → Instruction → Instruction
-patch-jump size i x = cond (is-continue x) (jump-by x (continue-offset i)) (cond (is-break x) (jump-by x (size - i)) x)
+abbrev pub patch-jump : (goal size i : ℕ) → Instruction → Instruction
+patch-jump goal size i x = cond (is-continue x) (jump-by x (continue-offset goal i)) (cond (is-break x) (jump-by x (size - i)) x)
 
 -- every instruction of a loop's code in turn: the jumps of loops inside are set already
-abbrev pub patch-loop : List Instruction → List Instruction
-patch-loop code = each-at (patch-jump (length code)) 0 code
+abbrev pub patch-loop : (goal : ℕ) → List Instruction → List Instruction
+patch-loop goal code = each-at (patch-jump goal (length code)) 0 code
 
 -- a loop's code, its breaks and continues not patched yet
 abbrev pub open-loop : (mark : ℕ) → (before condition : List Instruction) → (register : ℕ) → (body : List Instruction) → List Instruction
@@ -48,9 +53,13 @@ open-loop mark before condition register body =
     ∷ wide Jmp 0 (length body + 2) mark
     ∷ (body ++ wide Jmp 0 (back (length body + length condition + 2)) mark ∷ [])))
 
+-- where the body of such a loop begins
+abbrev pub body-place : (before condition : List Instruction) → ℕ
+body-place before condition = length before + length condition + 2
+
 -- a loop's code, finished: `before`, the condition with its Test, the body and the jump back to the condition
-abbrev pub loop-code : (mark : ℕ) → (before condition : List Instruction) → (register : ℕ) → (body : List Instruction) → List Instruction
-loop-code mark before condition register body = patch-loop (open-loop mark before condition register body)
+abbrev pub loop-code : (goal mark : ℕ) → (before condition : List Instruction) → (register : ℕ) → (body : List Instruction) → List Instruction
+loop-code goal mark before condition register body = patch-loop goal (open-loop mark before condition register body)
 
 -- ---- visit_if_stmt
 

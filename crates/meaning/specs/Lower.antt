@@ -27,58 +27,59 @@ row first others = do
   cs ← others
   pure (c ∷ cs)
 
-unfoldable mutual
-  -- impl ExprAcceptor for Expr
-  pub lower-expr : Expr → M Chunk
-  lower-expr (literal node value) = visit-literal node value
-  lower-expr (variable node x) = visit-variable node x
-  lower-expr (unary node op mark x) = visit-unary node op mark (lower-expr x)
-  lower-expr (binary node op mark x y) = visit-binary node op mark (small-if (eqb op plus) y) (small-if (eqb op minus) x) (lower-expr x) (lower-expr y)
-  lower-expr (logical node op mark x y) = visit-logical node op mark (lower-expr x) (lower-expr y)
-  lower-expr (call node f mark xs) = visit-call node mark (arguments xs) (lower-expr f) (λ start. lower-arguments xs start)
-  lower-expr (function node params body) = visit-function node params (lower-stmts body)
+module _ (mode : ℕ) where
+  unfoldable mutual
+    -- impl ExprAcceptor for Expr
+    pub lower-expr : Expr → M Chunk
+    lower-expr (literal node value) = visit-literal node value
+    lower-expr (variable node x) = visit-variable node x
+    lower-expr (unary node op mark x) = visit-unary node op mark (lower-expr x)
+    lower-expr (binary node op mark x y) = visit-binary node op mark (small-if (eqb op plus) y) (small-if (eqb op minus) x) (lower-expr x) (lower-expr y)
+    lower-expr (logical node op mark x y) = visit-logical node op mark (lower-expr x) (lower-expr y)
+    lower-expr (call node f mark xs) = visit-call node mark (arguments xs) (lower-expr f) (λ start. lower-arguments xs start)
+    lower-expr (function node params body) = visit-function node params (lower-stmts body)
 
-  -- the arguments of a call, each moved to its register: the first to `register`, the next to the one after
-  pub lower-arguments : Exprs → ℕ → M (List Instruction)
-  lower-arguments no-expr register = pure []
-  lower-arguments (and-expr e es) register = visit-argument register (lower-expr e) (lower-arguments es (register + 1))
+    -- the arguments of a call, each moved to its register: the first to `register`, the next to the one after
+    pub lower-arguments : Exprs → ℕ → M (List Instruction)
+    lower-arguments no-expr register = pure []
+    lower-arguments (and-expr e es) register = visit-argument register (lower-expr e) (lower-arguments es (register + 1))
 
-  -- impl StmtAcceptor for Stmt
-  pub lower-stmt : Stmt → M Chunk
-  lower-stmt (expression node e) = lower-expr e
-  lower-stmt (let-only node x) = visit-let-only node x
-  lower-stmt (let-as node x e) = visit-let-as node x (lower-expr e)
-  lower-stmt (block node ss) = visit-block (lower-stmts ss)
-  lower-stmt (while node mark e s) = visit-while node mark (lower-expr e) (lower-stmt s)
-  lower-stmt (classic-for node mark i c n s) = visit-classic-for node mark (lower-stmts i) (lower-expr c) (lower-expr n) (lower-stmt s)
-  lower-stmt (for-in node mark e s xs) = visit-for-in node mark xs (lower-expr e) (lower-stmt s)
-  lower-stmt (break node mark) = visit-jump node JMP-BREAK mark
-  lower-stmt (continue node mark) = visit-jump node JMP-CONTINUE mark
-  lower-stmt (return-none node mark) = visit-return-none mark
-  lower-stmt (return node mark e) = visit-return node mark (lower-expr e)
-  lower-stmt (if node mark e ss es ts) = visit-if node mark (lower-expr e) (lower-stmts ss) (lower-elifs es) (lower-stmts ts)
-  lower-stmt (try node s x t) = visit-try node x (lower-stmt s) (lower-stmt t)
-  lower-stmt (define f) = lower-fun f
-  lower-stmt (class node x p ms ts) = visit-class node x p (λ op result tmp. lower-methods ms node (x .mark) op result tmp) (λ op result tmp. lower-methods ts node (x .mark) op result tmp)
+    -- impl StmtAcceptor for Stmt
+    pub lower-stmt : Stmt → M Chunk
+    lower-stmt (expression node e) = lower-expr e
+    lower-stmt (let-only node x) = visit-let-only node x
+    lower-stmt (let-as node x e) = visit-let-as node x (lower-expr e)
+    lower-stmt (block node ss) = visit-block (lower-stmts ss)
+    lower-stmt (while node mark e s) = visit-while node mark (lower-expr e) (lower-stmt s)
+    lower-stmt (classic-for node mark i c n s) = visit-classic-for mode node mark (lower-stmts i) (lower-expr c) (lower-expr n) (lower-stmt s)
+    lower-stmt (for-in node mark e s xs) = visit-for-in mode node mark xs (lower-expr e) (lower-stmt s)
+    lower-stmt (break node mark) = visit-jump node JMP-BREAK mark
+    lower-stmt (continue node mark) = visit-jump node JMP-CONTINUE mark
+    lower-stmt (return-none node mark) = visit-return-none mark
+    lower-stmt (return node mark e) = visit-return node mark (lower-expr e)
+    lower-stmt (if node mark e ss es ts) = visit-if node mark (lower-expr e) (lower-stmts ss) (lower-elifs es) (lower-stmts ts)
+    lower-stmt (try node s x t) = visit-try node x (lower-stmt s) (lower-stmt t)
+    lower-stmt (define f) = lower-fun f
+    lower-stmt (class node x p ms ts) = visit-class node x p (λ op result tmp. lower-methods ms node (x .mark) op result tmp) (λ op result tmp. lower-methods ts node (x .mark) op result tmp)
 
-  -- statements one after the other: a chunk of each
-  pub lower-stmts : Stmts → M (List Chunk)
-  lower-stmts no-stmt = pure []
-  lower-stmts (and-stmt s ss) = row (lower-stmt s) (lower-stmts ss)
+    -- statements one after the other: a chunk of each
+    pub lower-stmts : Stmts → M (List Chunk)
+    lower-stmts no-stmt = pure []
+    lower-stmts (and-stmt s ss) = row (lower-stmt s) (lower-stmts ss)
 
-  -- the elifs of an if, one after the other
-  pub lower-elifs : Elifs → M (List Instruction)
-  lower-elifs no-elif = pure []
-  lower-elifs (and-elif e ss es) = visit-elif (lower-expr e) (lower-stmts ss) (lower-elifs es)
+    -- the elifs of an if, one after the other
+    pub lower-elifs : Elifs → M (List Instruction)
+    lower-elifs no-elif = pure []
+    lower-elifs (and-elif e ss es) = visit-elif (lower-expr e) (lower-stmts ss) (lower-elifs es)
 
-  -- a function statement, as a statement or as a method
-  pub lower-fun : Fun → M Chunk
-  lower-fun (fun node x params body) = visit-fun node x params (lower-stmts body)
+    -- a function statement, as a statement or as a method
+    pub lower-fun : Fun → M Chunk
+    lower-fun (fun node x params body) = visit-fun node x params (lower-stmts body)
 
-  -- the methods of the class at `node`: the class is in register `result`, each name passes through `tmp`
-  pub lower-methods : Funs → (node mark op result tmp : ℕ) → M (List Instruction)
-  lower-methods no-fun node mark op result tmp = pure []
-  lower-methods (and-fun f fs) node mark op result tmp = visit-method node mark op result tmp (fun-name f) (lower-fun f) (lower-methods fs node mark op result tmp)
+    -- the methods of the class at `node`: the class is in register `result`, each name passes through `tmp`
+    pub lower-methods : Funs → (node mark op result tmp : ℕ) → M (List Instruction)
+    lower-methods no-fun node mark op result tmp = pure []
+    lower-methods (and-fun f fs) node mark op result tmp = visit-method node mark op result tmp (fun-name f) (lower-fun f) (lower-methods fs node mark op result tmp)
 
 -- ---- a whole program: `compile` on a fresh compiler, then `leave_function` with 0 parameters
 
@@ -87,7 +88,7 @@ abbrev pub start : State
 start = record { constants = []; prototypes = []; globals = []; current = fresh no-name; outer = [] }
 
 -- the statements of the program at `node`: the main prototype's index, or a refusal
-unfoldable pub lower-program : ℕ → Stmts → Res ℕ
-lower-program node stmts = (do
-  cs ← lower-stmts stmts
+unfoldable pub lower-program : (mode node : ℕ) → Stmts → Res ℕ
+lower-program mode node stmts = (do
+  cs ← lower-stmts mode stmts
   add-prototype node 0 (joined cs)) start

@@ -111,12 +111,12 @@ pub record Stands (constants : List Constant) (earlier : List Proto) (p : Proto)
   pub goes-on : (opcode-at (p .code) place ≡ Return → ⊥) → (further : Option ℕ) × step place further
 
 -- a tree whose lowering was done, `main` being the main prototype's index, and the image of the state in which it ended
-pub record Lowered (tree : List ℕ) (work : ℕ) (bytes : List ℕ) : Type 0 where
+pub record Lowered (mode : ℕ) (tree : List ℕ) (work : ℕ) (bytes : List ℕ) : Type 0 where
   pub nodes : ℕ
   pub accepted : checked tree work ≡ Accepted nodes
   pub main : ℕ
   pub state : State
-  pub lowering : lower-program (nodes - 1) (read-program (fields tree)) ≡ done main state
+  pub lowering : lower-program mode (nodes - 1) (read-program (fields tree)) ≡ done main state
   pub image-of : bytes ≡ image state
 
 -- demand 3: every prototype is safe, and every walk from its first instruction stands within it

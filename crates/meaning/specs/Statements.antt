@@ -2,11 +2,12 @@
 use Prim.Native.Nat.{ℕ, suc, _+_}
 use mathlib.Core.List.{List, [], _∷_, _++_}
 use lib.Dec.{eqb}
+use lib.ListN.{length}
 use Rattle.meaning.specs.Opcode.{inst, wide, no-mark, LoadK, LoadNil, Jmp, Lt, Return, Class, ClassMeth, ClassStMeth, Addi, GetIter, GetIterk, GetIteri, Length, SetGlobal, DeregisterTryCatch, GetExcept}
 use Rattle.meaning.specs.Constant.{number, text}
 use Rattle.meaning.specs.Syntax.{Token, Super, no-super, super}
 use Rattle.meaning.specs.State.{Chunk, M, _>>=_, _>>_, pure, refuse, if-then, get, next-register, allocate-register, in-block, in-loop, add-constant, is-global-context, is-global-var, add-global}
-use Rattle.meaning.specs.Chunk.{chunk, joined, loop-code, branch-code, patch-ends, try-code}
+use Rattle.meaning.specs.Chunk.{chunk, joined, continue-goal, body-place, loop-code, branch-code, patch-ends, try-code}
 use Rattle.meaning.specs.Expressions.{visit-variable}
 use Rattle.meaning.specs.Functions.{define-name, declare-name}
 use Rattle.meaning.specs.declared.Cause.the-variants.{Redefined, Stray, Returned}
@@ -59,16 +60,19 @@ unfoldable pub visit-while : (node mark : ℕ) → M Chunk → M Chunk → M Chu
 visit-while node mark condition body = do
   c ← condition
   b ← in-loop body
-  pure (chunk (loop-code mark [] (c .code) (c .result) (b .code)) (c .result))
+  pure (chunk (loop-code 0 mark [] (c .code) (c .result) (b .code)) (c .result))
 
 -- fn visit_classic_for_stmt
-unfoldable pub visit-classic-for : (node mark : ℕ) → M (List Chunk) → M Chunk → M Chunk → M Chunk → M Chunk
-visit-classic-for node mark initializer condition increment body = do
+unfoldable pub visit-classic-for : (mode node mark : ℕ) → M (List Chunk) → M Chunk → M Chunk → M Chunk → M Chunk
+visit-classic-for mode node mark initializer condition increment body = do
   i ← initializer
   c ← condition
   b ← in-loop body
   n ← increment
-  pure (chunk (loop-code mark (joined i) (c .code) (c .result) (b .code ++ n .code)) 0)
+  pure
+      (chunk
+      (loop-code (continue-goal mode (body-place (joined i) (c .code) + length (b .code))) mark (joined i) (c .code) (c .result) (b .code ++ n .code))
+      0)
 
 -- a register and a GetIteri for each name of a for-in, from index i on
 unfoldable pub iterate-each : (node mark element i : ℕ) → List Token → M (List Instruction)
@@ -90,8 +94,8 @@ iterate node mark element collection counter (x ∷ y ∷ xs) = do
   pure (inst GetIter element collection counter mark ∷ parts)
 
 -- fn visit_enhanced_for_stmt
-unfoldable pub visit-for-in : (node mark : ℕ) → List Token → M Chunk → M Chunk → M Chunk
-visit-for-in node mark names collection body = do
+unfoldable pub visit-for-in : (mode node mark : ℕ) → List Token → M Chunk → M Chunk → M Chunk
+visit-for-in mode node mark names collection body = do
   counter ← next-register node
   size ← next-register node
   condition ← next-register node
@@ -100,11 +104,11 @@ visit-for-in node mark names collection body = do
   c ← collection
   heads ← iterate node mark element (c .result) counter names
   b ← in-loop body
+  let before = wide LoadK counter k mark ∷ c .code
+  let test = inst Length size (c .result) 0 mark ∷ inst Lt condition counter size mark ∷ []
   pure
       (chunk
-      (loop-code mark (wide LoadK counter k mark ∷ c .code)
-      (inst Length size (c .result) 0 mark ∷ inst Lt condition counter size mark ∷ [])
-      condition
+      (loop-code (continue-goal mode (body-place before test + (length heads + length (b .code)))) mark before test condition
       (heads ++ (b .code ++ inst Addi counter counter 1 mark ∷ [])))
       0)
 

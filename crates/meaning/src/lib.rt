@@ -11,7 +11,7 @@ pub enum Literal {
     Other(u16),
 }
 
-// The causes of refusal, in the order of their numbers, 1 to 18.
+// The causes of refusal, in the order of their numbers, 1 to 18 and 21.
 pub enum Cause {
     Frame,
     Many,
@@ -31,6 +31,7 @@ pub enum Cause {
     Nesting,
     Long,
     Room,
+    Mode,
 }
 
 // Accepted with a length (of the image; of a check, the number of nodes), or refused with a cause and its place.

@@ -32,9 +32,9 @@ pub record Framed (w : List ℕ) (j name block loops : ℕ) (w' : List ℕ) : Ty
 pub record Begun (w : List ℕ) (n : ℕ) (w' : List ℕ) : Type 0 where
   pub same : length w' ≡ length w
   pub offsets : (i : ℕ) → 12288 + 15 * n ≤ i → getD w' i 0 ≡ getD w i 0
-  pub fine : Fine w' (main-scope n) first-step
-  pub room : Room w' (main-scope n) first-step n 0 0
-  pub runs : run w' (main-scope n) first-step [] ≡ going (config [] 0 start)
+  pub fine : (mode : ℕ) → Fine w' (main-scope mode n) first-step
+  pub room : (mode : ℕ) → Room w' (main-scope mode n) first-step n 0 0
+  pub runs : (mode : ℕ) → run w' (main-scope mode n) first-step [] ≡ going (config [] 0 start)
   pub image : (o : List ℕ) → Image o first-step []
 
 -- a function inside p is entered: its scope is `inner p`; what p's scope needs when it is left again

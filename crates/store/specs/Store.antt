@@ -60,19 +60,19 @@ run w p s ps = run-by (s .outcome) (config-of w p s ps)
 
 -- one block more
 abbrev pub deeper : Scope → Scope
-deeper p = record { nodes = p .nodes; depth = p .depth; block = p .block + 1; loops = p .loops }
+deeper p = record { nodes = p .nodes; depth = p .depth; block = p .block + 1; loops = p .loops; mode = p .mode }
 
 -- one loop more
 abbrev pub looped : Scope → Scope
-looped p = record { nodes = p .nodes; depth = p .depth; block = p .block; loops = p .loops + 1 }
+looped p = record { nodes = p .nodes; depth = p .depth; block = p .block; loops = p .loops + 1; mode = p .mode }
 
 -- one function more, with its first block
 abbrev pub inner : Scope → Scope
-inner p = record { nodes = p .nodes; depth = p .depth + 1; block = p .block + 1; loops = 0 }
+inner p = record { nodes = p .nodes; depth = p .depth + 1; block = p .block + 1; loops = 0; mode = p .mode }
 
 -- the main function's
-abbrev pub main-scope : (nodes : ℕ) → Scope
-main-scope n = record { nodes = n; depth = 0; block = 1; loops = 0 }
+abbrev pub main-scope : (mode nodes : ℕ) → Scope
+main-scope mode n = record { nodes = n; depth = 0; block = 1; loops = 0; mode = mode }
 
 -- one open function with one open block
 abbrev pub global-scope : Scope → Bool

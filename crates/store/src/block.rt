@@ -26,6 +26,7 @@ pub fn enter_block(work: &mut [u32], scope: Scope) -> Scope
         depth: scope.depth,
         block: scope.block + 1,
         loops: scope.loops,
+        mode: scope.mode,
     }
 }
 

@@ -58,6 +58,7 @@ fn search(work: &mut [u32], nodes: usize, depth: usize, name: usize) -> Found
         depth: outer,
         block: end,
         loops: 0,
+        mode: 0,
     };
     if is_global_context(around) {
         return Found::Nothing;

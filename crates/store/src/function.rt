@@ -37,6 +37,7 @@ pub fn enter_function(
         depth: depth + 1,
         block: block + 1,
         loops: 0,
+        mode: scope.mode,
     };
     if depth == 7 {
         let refused = refuse(step, meaning::Cause::Nesting, node);

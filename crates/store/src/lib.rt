@@ -45,12 +45,13 @@ pub struct Step {
     pub result: u32,
 }
 
-// What is lexical: the number of nodes, which fixes the layout; of functions around the current one; of open blocks; of the current function's open loops.
+// What is lexical: the number of nodes, which fixes the layout; of functions around the current one; of open blocks; of the current function's open loops; and the mode of the call.
 pub struct Scope {
     pub nodes: usize,
     pub depth: usize,
     pub block: usize,
     pub loops: usize,
+    pub mode: usize,
 }
 
 // What a search gives: a register or an index, nothing, or a capture that does not fit.

@@ -3,10 +3,11 @@ use crate::lent::Lent;
 use oracle::answer::Refusal;
 use oracle::facts;
 use oracle::limits::Asked;
+use oracle::modes;
 use oracle::rng::Rng;
 
-/// `yengrazul_lower`: tree, work area, output, and the answer's three numbers.
-pub type Lower = unsafe extern "C" fn(*const u8, usize, *mut u32, usize, *mut u8, usize, *mut u64);
+/// `yengrazul_lower`: tree, work area, output, the mode, and the answer's three numbers.
+pub type Lower = unsafe extern "C" fn(*const u8, usize, *mut u32, usize, *mut u8, usize, u64, *mut u64);
 
 /// `yengrazul_check`: tree, how many words the work area has, and the answer's three numbers.
 pub type Check = unsafe extern "C" fn(*const u8, usize, usize, *mut u64);
@@ -21,17 +22,7 @@ pub fn lower(function: Lower, asked: &Asked, rng: &mut Rng) -> Result<(), Fault>
     let mut out: Lent<u8> = Lent::noise(rng, asked.room as usize);
     let mut answer: Lent<u64> = Lent::noise(rng, 3);
     let (t, w, o) = (tree.slice(), work.slice_mut(), out.slice_mut());
-    unsafe {
-        function(
-            t.as_ptr(),
-            t.len(),
-            w.as_mut_ptr(),
-            w.len(),
-            o.as_mut_ptr(),
-            o.len(),
-            answer.slice_mut().as_mut_ptr(),
-        );
-    }
+    unsafe { call(function, t, w, o, asked.mode, answer.slice_mut()) };
     same_numbers(answer.slice(), asked.answer.numbers())?;
     guarded([tree.is_guarded(), work.is_guarded(), out.is_guarded(), answer.is_guarded()])?;
     holds(tree.slice() == asked.tree, "the tree was written to")?;
@@ -45,6 +36,30 @@ pub fn lower(function: Lower, asked: &Asked, rng: &mut Rng) -> Result<(), Fault>
         facts::check_bytes(image).map_err(|fault| format!("demand 3: {fault}"))?;
     }
     Ok(())
+}
+
+unsafe fn call(function: Lower, tree: &[u8], work: &mut [u32], out: &mut [u8], mode: u64, answer: &mut [u64]) {
+    let (w, o) = (work.as_mut_ptr(), out.as_mut_ptr());
+    function(tree.as_ptr(), tree.len(), w, work.len(), o, out.len(), mode, answer.as_mut_ptr())
+}
+
+/// What both modes share, of a question in mode 0 or 1 that `lower` has found nothing wrong with.
+pub fn both_modes(function: Lower, asked: &Asked) -> Result<(), Fault> {
+    let (mut work, mut answer) = (vec![0; asked.work as usize], [0; 3]);
+    let mut image_of = |tree: &[u8], mode: u64| {
+        let mut out = vec![0; asked.room as usize];
+        unsafe { call(function, tree, &mut work, &mut out, mode, &mut answer) };
+        same_numbers(&answer, asked.answer.numbers()).map_err(|fault| format!("mode {mode}: {fault}"))?;
+        out.truncate(asked.image.len());
+        Ok::<_, Fault>(out)
+    };
+    let other = image_of(&asked.tree, 1 - asked.mode)?;
+    let Some(remarked) = modes::remarked(&asked.tree).filter(|_| asked.answer.number == 0) else {
+        return holds(other == asked.image, "the modes differ, and no continue stands in the tree");
+    };
+    let marked = image_of(&remarked, asked.mode)?;
+    let (zero, one) = if asked.mode == 0 { (&asked.image, &other) } else { (&other, &asked.image) };
+    modes::shared(zero, one, &marked).map(|_| ())
 }
 
 /// Refusals 1 to 6 alone; an accepted tree has 0, 0 and its number of nodes.

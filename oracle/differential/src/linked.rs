@@ -10,6 +10,7 @@ extern "C" {
         work_len: usize,
         out: *mut u8,
         out_len: usize,
+        mode: u64,
         answer: *mut u64,
     );
 }

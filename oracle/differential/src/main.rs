@@ -21,8 +21,10 @@ fn main() -> ExitCode {
 fn plan(words: &[String]) -> Result<Plan, String> {
     let mut plan = Plan {
         seed: fresh_seed(),
+        modes: &[0, 1],
         random: 100_000,
         damaged: 20_000,
+        no_modes: 4_000,
         fixed: true,
         threads: std::thread::available_parallelism().map_or(1, |n| n.get()),
         announce: false,
@@ -37,6 +39,9 @@ fn plan(words: &[String]) -> Result<Plan, String> {
             ("--seed", _) => plan.seed = number()?,
             ("--random", _) => plan.random = number()?,
             ("--damaged", _) => plan.damaged = number()?,
+            ("--no-modes", _) => plan.no_modes = number()?,
+            ("--mode", "0") => plan.modes = &[0],
+            ("--mode", "1") => plan.modes = &[1],
             ("--threads", _) => plan.threads = number()? as usize,
             ("--announce", "yes") => plan.announce = true,
             ("--only", "lower") => plan.check = None,
@@ -62,6 +67,9 @@ fn report(plan: &Plan) -> ExitCode {
         plan.damaged,
         names.join(" and ")
     );
+    if plan.lower.is_some() {
+        println!("each in modes {:?}, and {} calls in modes that are none", plan.modes, plan.no_modes);
+    }
     let report = run(plan);
     for (number, n) in report.by_number.iter().enumerate().filter(|(_, n)| **n > 0) {
         println!("  {number:2}: {n}");

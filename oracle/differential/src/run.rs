@@ -1,4 +1,4 @@
-//! A whole run: random and damaged trees of a seed, the limits and the shapes.
+//! A whole run: random and damaged trees of a seed, the limits and the shapes, in both modes; then calls in modes that are none.
 use crate::calls::{self, Check, Fault, Lower};
 use oracle::limits::work_words;
 use oracle::questions::{self, Question};
@@ -10,8 +10,14 @@ use std::sync::Mutex;
 #[derive(Clone, Copy)]
 pub struct Plan {
     pub seed: u64,
+    /// The modes that the trees are lowered in.
+    pub modes: &'static [u64],
+    /// In each mode.
     pub random: u64,
+    /// In each mode.
     pub damaged: u64,
+    /// Calls in modes that are none.
+    pub no_modes: u64,
     /// Whether the limits and the shapes are run too.
     pub fixed: bool,
     pub threads: usize,
@@ -24,7 +30,7 @@ pub struct Plan {
 #[derive(Default)]
 pub struct Report {
     /// How many trees were asked about, by the number that was due.
-    pub by_number: [u64; 19],
+    pub by_number: [u64; 22],
     pub differences: Vec<String>,
 }
 
@@ -50,24 +56,52 @@ const STACK: usize = 256 << 20;
 /// A question of the run, made when its turn comes.
 struct Turn {
     kind: &'static str,
+    mode: u64,
     k: u64,
+}
+
+/// How many questions of a kind there are in each of its modes.
+struct Row {
+    kind: &'static str,
+    modes: &'static [u64],
+    count: u64,
+}
+
+impl Row {
+    fn total(&self) -> u64 {
+        self.modes.len() as u64 * self.count
+    }
+}
+
+/// Turn n of the rows, mode by mode.
+fn turn(rows: &[Row], mut n: u64) -> Turn {
+    for row in rows {
+        if n < row.total() {
+            return Turn { kind: row.kind, mode: row.modes[(n / row.count) as usize], k: n % row.count };
+        }
+        n -= row.total();
+    }
+    unreachable!("a turn behind the last")
 }
 
 pub fn run(plan: &Plan) -> Report {
     let fixed = if plan.fixed { (questions::limits(), questions::shapes()) } else { (vec![], vec![]) };
-    let (limits, shapes) = (fixed.0.len(), fixed.1.len());
-    let total = limits + shapes + (plan.damaged + plan.random) as usize;
-    let turn = |n: usize| match n {
-        n if n < limits => Turn { kind: "limits", k: n as u64 },
-        n if n < limits + shapes => Turn { kind: "shapes", k: (n - limits) as u64 },
-        n if n < limits + shapes + plan.damaged as usize => Turn { kind: "damaged", k: (n - limits - shapes) as u64 },
-        n => Turn { kind: "random", k: (n - limits - shapes) as u64 - plan.damaged },
-    };
+    // the check knows no mode
+    let (modes, no_modes): (&[u64], u64) = if plan.lower.is_some() { (plan.modes, plan.no_modes) } else { (&[0], 0) };
+    let rows = [
+        Row { kind: "limits", modes, count: fixed.0.len() as u64 },
+        Row { kind: "shapes", modes, count: fixed.1.len() as u64 },
+        Row { kind: "modes", modes: &[0], count: no_modes },
+        Row { kind: "damaged", modes, count: plan.damaged },
+        Row { kind: "random", modes, count: plan.random },
+    ];
+    let total = rows.iter().map(Row::total).sum::<u64>() as usize;
     let question = |t: &Turn| match t.kind {
-        "limits" => fixed.0[t.k as usize].clone(),
-        "shapes" => fixed.1[t.k as usize].clone(),
-        "damaged" => questions::damaged(plan.seed, t.k),
-        _ => questions::random(plan.seed, t.k),
+        "limits" => fixed.0[t.k as usize].clone().in_mode(t.mode),
+        "shapes" => fixed.1[t.k as usize].clone().in_mode(t.mode),
+        "modes" => questions::no_mode(plan.seed, t.k),
+        "damaged" => questions::damaged(plan.seed, t.k, t.mode),
+        _ => questions::random(plan.seed, t.k, t.mode),
     };
     let (next, whole) = (AtomicUsize::new(0), Mutex::new(Report::default()));
     let work = || {
@@ -77,9 +111,9 @@ pub fn run(plan: &Plan) -> Report {
             if n >= total || report.differences.len() >= ENOUGH {
                 break;
             }
-            let t = turn(n);
+            let t = turn(&rows, n as u64);
             if plan.announce {
-                println!("{} {}", t.kind, t.k);
+                println!("{} {} of mode {}", t.kind, t.k, t.mode);
             }
             let mut rng = Rng::for_case(plan.seed ^ 0x6E6F_6973_65, n as u64);
             ask(plan, &t, question(&t), &mut rng, &mut report);
@@ -116,8 +150,12 @@ fn ask(plan: &Plan, turn: &Turn, question: Question, rng: &mut Rng, report: &mut
     if let Some(function) = plan.lower {
         let asked = question.ask();
         number = Some(asked.answer.number);
-        if let Err(fault) = calls::lower(function, &asked, rng) {
-            fail("lower", &asked.tree, format!("work {}, room {}: {fault}", asked.work, asked.room));
+        let right = calls::lower(function, &asked, rng);
+        let right =
+            if turn.kind == "random" { right.and_then(|()| calls::both_modes(function, &asked)) } else { right };
+        if let Err(fault) = right {
+            let lent = format!("mode {}, work {}, room {}", asked.mode, asked.work, asked.room);
+            fail("lower", &asked.tree, format!("{lent}: {fault}"));
         }
     }
     if let Some(number) = number {

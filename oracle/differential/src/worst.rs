@@ -64,7 +64,7 @@ fn call(function: Lower, w: &Worst, stack: &mut Stack, rng: &mut Rng) -> (Took, 
     let (t, words, bytes, told) = (tree.slice(), work.slice_mut(), out.slice_mut(), answer.slice_mut());
     let took = stack.run(|| unsafe {
         let (w, b) = (words.as_mut_ptr(), bytes.as_mut_ptr());
-        function(t.as_ptr(), t.len(), w, words.len(), b, bytes.len(), told.as_mut_ptr())
+        function(t.as_ptr(), t.len(), w, words.len(), b, bytes.len(), 0, told.as_mut_ptr())
     });
     let (number, length) = (answer.slice()[0], answer.slice()[2] as usize);
     let guarded = tree.is_guarded() && work.is_guarded() && out.is_guarded() && answer.is_guarded();

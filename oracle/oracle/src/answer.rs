@@ -1,7 +1,7 @@
-//! The whole answer: 1 to 6 by the judge, 7 to 17 and the image by the traced source, 18 by the image's length.
+//! The whole answer: 21 by the mode, 1 to 6 by the judge, 7 to 17 and the image by the traced source, 18 by the image's length.
 use crate::judge;
 
-/// A number of 01's table, with its place.
+/// A number of 01's table or 21 of 02's, with its place.
 #[derive(Clone, Copy, Debug, PartialEq)]
 pub struct Refusal {
     pub number: u8,
@@ -29,16 +29,19 @@ impl std::fmt::Display for Answer {
     }
 }
 
-/// The image of a tree, whatever the room for it, or the first of 1 to 17.
-pub fn image(tree: &[u8], work_words: u64) -> Result<Vec<u8>, Refusal> {
+/// The image of a tree in a mode, whatever the room for it, or the first of 21 and 1 to 17.
+pub fn image(tree: &[u8], mode: u64, work_words: u64) -> Result<Vec<u8>, Refusal> {
+    if mode > 1 {
+        return Err(Refusal { number: 21, place: 0 });
+    }
     let nodes = judge::check(tree, work_words)?;
-    let lowered = traced::lower(&nodes);
+    let lowered = traced::lower(&nodes, mode);
     lowered.map(|image| image.to_bytes()).map_err(|r| Refusal { number: r.number, place: r.node as u64 })
 }
 
 /// The answer, and the image where it is accepted (else nothing).
-pub fn answer(tree: &[u8], work_words: u64, room: u64) -> (Answer, Vec<u8>) {
-    in_room(tree, image(tree, work_words), room)
+pub fn answer(tree: &[u8], mode: u64, work_words: u64, room: u64) -> (Answer, Vec<u8>) {
+    in_room(tree, image(tree, mode, work_words), room)
 }
 
 /// 18: the image is longer than the output, at the last node.

@@ -1,4 +1,4 @@
-//! The traced copy against the unchanged source: the same image, or the panic that the refusal stands for.
+//! The traced copy against the source, unchanged or as mode 1 has it: the same image, or the panic that the refusal stands for.
 use crate::judge;
 use files::tree::Field;
 
@@ -21,20 +21,21 @@ pub enum Outcome {
     },
 }
 
-/// Compares on one tree, in this process; says whether there was something to compare.
+/// Compares on one tree in a mode, in this process; says whether there was something to compare.
 /// Refusals 9 and 10 end the process and 11 and 14 to 17 are the port's own: those are for a child.
-pub fn in_process(tree: &[u8]) -> Result<bool, String> {
+pub fn in_process(tree: &[u8], mode: u64) -> Result<bool, String> {
     let Ok(nodes) = judge::check(tree, u64::MAX) else { return Ok(false) };
-    match traced::lower(&nodes) {
-        Ok(image) => match unchanged::attempt(&nodes) {
+    let attempt = if mode == 0 { unchanged::attempt } else { mode1::attempt };
+    match traced::lower(&nodes, mode) {
+        Ok(image) => match attempt(&nodes) {
             Ok(other) if other == image => Ok(true),
-            other => Err(format!("an image, and unchanged {other:?}")),
+            other => Err(format!("mode {mode}: an image, and the source {other:?}")),
         },
         Err(refusal) => match panic_due(refusal.number) {
             None => Ok(false),
-            Some(words) => match unchanged::attempt(&nodes) {
+            Some(words) => match attempt(&nodes) {
                 Err(panic) if panic.contains(words) => Ok(true),
-                other => Err(format!("{refusal:?}, and unchanged {other:?}")),
+                other => Err(format!("mode {mode}: {refusal:?}, and the source {other:?}")),
             },
         },
     }

@@ -1,12 +1,12 @@
-//! Lines for comparing with the definition: `tree work room number place length image`, bytes in hexadecimal, `-` for none.
-use crate::limits::{ask, cases, Asked, Room, Work};
+//! Lines for comparing with the definition: `mode tree work room number place length image`, bytes in hexadecimal, `-` for none.
+use crate::limits::{ask_in, cases, Asked, Room, Work};
 use crate::questions;
 use crate::rng::Rng;
 use crate::trees::crowd;
 
-/// N lines from a seed: seven of ten small programs, then damaged files, crowded functions, and limits of each number alike.
+/// N lines of a mode from a seed: seven of ten small programs, then damaged files, crowded functions, and limits of each number alike.
 /// With `many` a last line more is 32,769 fields, the only one that refusal 2 can have.
-pub fn lines(seed: u64, count: u64, many: bool) -> Vec<String> {
+pub fn lines(seed: u64, count: u64, mode: u64, many: bool) -> Vec<String> {
     let limits = limits_by_number();
     let mut lines = vec![];
     let mut k = 0;
@@ -14,12 +14,12 @@ pub fn lines(seed: u64, count: u64, many: bool) -> Vec<String> {
         k += 1;
         let mut rng = Rng::for_case(seed, k);
         let asked = match k % 20 {
-            0..=13 => questions::small(seed, k).ask(),
-            14..=15 => questions::damaged(seed, k).ask(),
-            16 => crowded(&mut rng),
+            0..=13 => questions::small(seed, k, mode).ask(),
+            14..=15 => questions::damaged(seed, k, mode).ask(),
+            16 => crowded(&mut rng, mode),
             _ => {
                 let of_a_number = rng.pick(&limits);
-                reask(rng.pick(of_a_number))
+                reask(rng.pick(of_a_number), mode)
             }
         };
         if is_small(&asked) {
@@ -28,7 +28,7 @@ pub fn lines(seed: u64, count: u64, many: bool) -> Vec<String> {
     }
     if many {
         let two = cases().into_iter().find(|c| c.name == "32,769 fields").expect("a limit by this name");
-        lines.push(line(&two.ask()));
+        lines.push(line(&reask(&two.ask(), mode)));
     }
     lines
 }
@@ -43,19 +43,19 @@ fn limits_by_number() -> Vec<Vec<Asked>> {
     by_number
 }
 
-fn reask(a: &Asked) -> Asked {
-    ask(a.tree.clone(), Work::Words(a.work), Room::Bytes(a.room))
+fn reask(a: &Asked, mode: u64) -> Asked {
+    ask_in(mode, a.tree.clone(), Work::Words(a.work), Room::Bytes(a.room))
 }
 
 /// Registers, nesting or numerals minus something.
-fn crowded(rng: &mut Rng) -> Asked {
+fn crowded(rng: &mut Rng, mode: u64) -> Asked {
     let program = match rng.below(3) {
         0 => crowd::registers(rng),
         1 => crowd::nesting(rng),
         _ => crowd::minus(rng),
     };
     let tree = questions::numbered(rng, &program);
-    ask(tree, Work::Exact, Room::Exact)
+    ask_in(mode, tree, Work::Exact, Room::Exact)
 }
 
 /// About a hundred nodes at most; 5 cannot be had with fewer than 129, nor 8 with fewer than some 270.
@@ -69,7 +69,7 @@ fn is_small(a: &Asked) -> bool {
 }
 
 pub fn line(a: &Asked) -> String {
-    format!("{} {} {} {} {}", hex(&a.tree), a.work, a.room, a.answer, hex(&a.image))
+    format!("{} {} {} {} {} {}", a.mode, hex(&a.tree), a.work, a.room, a.answer, hex(&a.image))
 }
 
 pub fn hex(bytes: &[u8]) -> String {

@@ -5,6 +5,7 @@ pub mod export;
 pub mod facts;
 pub mod judge;
 pub mod limits;
+pub mod modes;
 pub mod packed;
 pub mod questions;
 pub mod rng;

@@ -21,8 +21,8 @@ type Done = Result<(), String>;
 
 fn run(words: &[&str]) -> Done {
     match words {
-        ["answer", tree, work, room] => tell(tree, work, room, None),
-        ["answer", tree, work, room, image] => tell(tree, work, room, Some(image)),
+        ["answer", "--mode", mode, tree, work, room, image @ ..] => tell(mode, tree, work, room, image),
+        ["answer", tree, work, room, image @ ..] => tell("0", tree, work, room, image),
         ["show", image] => show(&load(image)?),
         ["rust", tree] => rust(&load(tree)?),
         ["rust", tree, image] => rust_image(&load(tree)?, image),
@@ -30,7 +30,8 @@ fn run(words: &[&str]) -> Done {
         ["sample", path] => save(path, &packed::write(&sample::sample(sample::SEED))),
         ["export", rest @ ..] => {
             let o = Options::read(rest)?;
-            export::lines(o.seed, o.count, !o.without_many).iter().try_for_each(|l| print(&format!("{l}\n")))
+            let lines = export::lines(o.seed, o.count, o.mode.unwrap_or(0), !o.without_many);
+            lines.iter().try_for_each(|l| print(&format!("{l}\n")))
         }
         _ => Err("answer, show, rust, generate, sample or export; see oracle/README.md".into()),
     }
@@ -39,19 +40,22 @@ fn run(words: &[&str]) -> Done {
 struct Options {
     seed: u64,
     count: u64,
+    /// 0 where none is given.
+    mode: Option<u64>,
     without_many: bool,
     pack: Option<String>,
 }
 
 impl Options {
     fn read(words: &[&str]) -> Result<Options, String> {
-        let mut o = Options { seed: 1, count: 1000, without_many: false, pack: None };
+        let mut o = Options { seed: 1, count: 1000, mode: None, without_many: false, pack: None };
         let mut words = words.iter();
         while let Some(word) = words.next() {
             let mut value = || words.next().ok_or(format!("{word} wants a value"));
             match *word {
                 "--seed" => o.seed = number(value()?)?,
                 "--count" => o.count = number(value()?)?,
+                "--mode" => o.mode = Some(number(value()?)?),
                 "--pack" => o.pack = Some(value()?.to_string()),
                 "--without-many" => o.without_many = true,
                 other => return Err(format!("no option {other}")),
@@ -80,10 +84,13 @@ fn print(text: &str) -> Done {
     std::io::stdout().write_all(text.as_bytes()).map_err(|e| e.to_string())
 }
 
-fn tell(tree: &str, work: &str, room: &str, image: Option<&str>) -> Done {
-    let (answer, bytes) = answer::answer(&load(tree)?, number(work)?, number(room)?);
-    if let Some(path) = image {
-        save(path, &bytes)?;
+/// The image goes to one file at most.
+fn tell(mode: &str, tree: &str, work: &str, room: &str, image: &[&str]) -> Done {
+    let (answer, bytes) = answer::answer(&load(tree)?, number(mode)?, number(work)?, number(room)?);
+    match image {
+        [] => {}
+        [path] => save(path, &bytes)?,
+        _ => return Err("one image at a time".into()),
     }
     print(&format!("{answer}\n"))
 }
@@ -109,14 +116,19 @@ fn rust_image(tree: &[u8], path: &str) -> Done {
 }
 
 fn generate(kind: &str, o: &Options) -> Done {
-    let of_seed = |make: fn(u64, u64) -> Question| (0..o.count).map(|k| make(o.seed, k)).collect();
+    let mode = o.mode.unwrap_or(0);
+    let of_seed = |make: fn(u64, u64, u64) -> Question| (0..o.count).map(|k| make(o.seed, k, mode)).collect();
+    let in_mode = |fixed: Vec<Question>| fixed.into_iter().map(|q| q.in_mode(mode)).collect();
     let questions: Vec<Question> = match kind {
         "random" => of_seed(questions::random),
         "small" => of_seed(questions::small),
         "damaged" => of_seed(questions::damaged),
-        "limits" => questions::limits(),
-        "shapes" => questions::shapes(),
-        other => return Err(format!("no kind {other}: random, small, damaged, limits or shapes")),
+        "limits" => in_mode(questions::limits()),
+        "shapes" => in_mode(questions::shapes()),
+        "modes" if o.mode.is_none() => (0..o.count).map(|k| questions::no_mode(o.seed, k)).collect(),
+        other => {
+            return Err(format!("no kind {other}: random, small, damaged, limits, shapes, or modes without --mode"))
+        }
     };
     let mut asked = questions.into_iter().map(Question::ask);
     match &o.pack {

@@ -10,6 +10,7 @@ pub const SHOWN: usize = 1500;
 /// One case of a packed file.
 #[derive(Debug, PartialEq)]
 pub struct Packed {
+    pub mode: u64,
     pub rule: Rule,
     pub tree_length: u32,
     pub work: u32,
@@ -25,6 +26,7 @@ impl Packed {
         let rule = rule_of(&asked.tree);
         assert_eq!(rule.expand(), asked.tree, "the rule is the tree's");
         Packed {
+            mode: asked.mode,
             rule,
             tree_length: asked.tree.len() as u32,
             work: asked.work.try_into().expect("32 bits of work words"),
@@ -52,6 +54,7 @@ pub fn write(cases: &[Packed]) -> Vec<u8> {
     let head = [cases.len() as u32, most(|c| c.tree_length), most(|c| c.work), most(|c| c.room)];
     head.iter().for_each(|n| long(&mut out, *n));
     for case in cases {
+        out.extend(case.mode.to_be_bytes());
         write_rule(&mut out, &case.rule);
         let a = case.answer;
         let numbers =
@@ -111,6 +114,10 @@ impl Reader<'_> {
         Some(u32::from_be_bytes(self.take(4)?.try_into().ok()?))
     }
 
+    fn whole(&mut self) -> Option<u64> {
+        Some(u64::from_be_bytes(self.take(8)?.try_into().ok()?))
+    }
+
     fn part(&mut self) -> Option<Part> {
         let times = self.long()?;
         let size = self.short()?;
@@ -120,6 +127,7 @@ impl Reader<'_> {
     }
 
     fn case(&mut self) -> Option<Packed> {
+        let mode = self.whole()?;
         let rule = Rule((0..self.short()?).map(|_| self.part()).collect::<Option<_>>()?);
         let [tree_length, work, room] = [self.long()?, self.long()?, self.long()?];
         let [number, place, length] = [self.long()?, self.long()?, self.long()?];
@@ -127,6 +135,6 @@ impl Reader<'_> {
         let shown = self.long()?;
         let image = self.take(shown as usize)?.to_vec();
         let answer = Answer { number: number as u8, place: place.into(), length: length.into() };
-        Some(Packed { rule, tree_length, work, room, answer, checksum, image })
+        Some(Packed { mode, rule, tree_length, work, room, answer, checksum, image })
     }
 }

@@ -1,13 +1,14 @@
 //! Questions of a run: case k of a seed is the same on every machine.
-use crate::limits::{self, ask, Asked, Room, Work};
+use crate::limits::{self, ask_in, Asked, Room, Work};
 use crate::rng::Rng;
 use crate::trees::build::Node;
 use crate::trees::order::{file, Order};
 use crate::trees::{crowd, damage, random};
 
-/// A file, and what is lent with it.
+/// A mode and a file, and what is lent with it.
 #[derive(Clone)]
 pub struct Question {
+    pub mode: u64,
     pub tree: Vec<u8>,
     pub work: Work,
     pub room: Room,
@@ -15,51 +16,80 @@ pub struct Question {
 
 impl Question {
     pub fn ask(self) -> Asked {
-        ask(self.tree, self.work, self.room)
+        ask_in(self.mode, self.tree, self.work, self.room)
+    }
+
+    pub fn in_mode(self, mode: u64) -> Question {
+        Question { mode, ..self }
     }
 }
 
-/// A random program, numbered in any order, with a work area and an output that mostly suffice.
-pub fn random(seed: u64, k: u64) -> Question {
+/// A random program, numbered in any order, with a work area and an output that mostly suffice; in mode 1 with more loops and continues.
+pub fn random(seed: u64, k: u64, mode: u64) -> Question {
     let mut rng = Rng::for_case(seed, k);
-    let program = crowd::any(&mut rng);
+    let program = crowd::any(&mut rng, mode == 1);
     let tree = numbered(&mut rng, &program);
-    lent(&mut rng, tree)
+    lent(&mut rng, tree).in_mode(mode)
 }
 
-/// A small random program.
-pub fn small(seed: u64, k: u64) -> Question {
+/// A small random program; in mode 1 with more loops and continues.
+pub fn small(seed: u64, k: u64, mode: u64) -> Question {
     let mut rng = Rng::for_case(seed, k);
-    let tree = small_tree(&mut rng, 70);
-    lent(&mut rng, tree)
+    let tree = small_tree(&mut rng, 70, mode == 1);
+    lent(&mut rng, tree).in_mode(mode)
 }
 
 /// A damaged file of a small random program, or noise.
-pub fn damaged(seed: u64, k: u64) -> Question {
+pub fn damaged(seed: u64, k: u64, mode: u64) -> Question {
     let mut rng = Rng::for_case(seed, k);
     let tree = if rng.chance(50) {
         damage::noise(&mut rng)
     } else {
-        let whole = small_tree(&mut rng, 60);
+        let whole = small_tree(&mut rng, 60, mode == 1);
         damage::damaged(&mut rng, &whole)
     };
-    lent(&mut rng, tree)
+    lent(&mut rng, tree).in_mode(mode)
+}
+
+/// Any file in a mode that is none, with any work area and output: 21 comes before everything.
+pub fn no_mode(seed: u64, k: u64) -> Question {
+    let mut rng = Rng::for_case(seed, k);
+    let tree = match rng.below(4) {
+        0 => vec![],
+        1 => damaged(seed, k, 0).tree,
+        _ => small_tree(&mut rng, 60, true),
+    };
+    let question = lent(&mut rng, tree);
+    let work = if rng.chance(300) { Work::Words(0) } else { question.work };
+    let room = if rng.chance(300) { Room::Bytes(0) } else { question.room };
+    Question { mode: other_mode(&mut rng), work, room, ..question }
+}
+
+/// The numbers whose low half is a mode's or whose high half is not looked at are the likely mistakes.
+fn other_mode(rng: &mut Rng) -> u64 {
+    let near =
+        [2, 3, 255, 256, 257, 65_536, 65_537, u64::from(u32::MAX), 1 << 32, (1 << 32) + 1, 1 << 63, (1 << 63) + 1];
+    match rng.below(4) {
+        0 => u64::MAX - rng.below(2) as u64,
+        1 => rng.next() | 2,
+        _ => *rng.pick(&near),
+    }
 }
 
 /// The limits of 01, the same in every run.
 pub fn limits() -> Vec<Question> {
-    let of = |c: limits::Case| Question { tree: c.rule.expand(), work: c.work, room: c.room };
+    let of = |c: limits::Case| Question { mode: 0, tree: c.rule.expand(), work: c.work, room: c.room };
     limits::heavy_cases().into_iter().chain(limits::cases()).map(of).collect()
 }
 
 /// Every small edit of a tree with every tag, the same in every run.
 pub fn shapes() -> Vec<Question> {
-    let of = |tree| Question { tree, work: Work::Exact, room: Room::Exact };
+    let of = |tree| Question { mode: 0, tree, work: Work::Exact, room: Room::Exact };
     limits::edited_shapes().into_iter().map(of).collect()
 }
 
-fn small_tree(rng: &mut Rng, size: usize) -> Vec<u8> {
-    let taste = random::Taste::any(rng, size);
+fn small_tree(rng: &mut Rng, size: usize, loops: bool) -> Vec<u8> {
+    let taste = random::Taste { loops, ..random::Taste::any(rng, size) };
     let program = random::program(rng, taste);
     numbered(rng, &program)
 }
@@ -89,5 +119,5 @@ fn lent(rng: &mut Rng, tree: Vec<u8>) -> Question {
         8..=99 => Room::Exact,
         _ => Room::Plenty,
     };
-    Question { tree, work, room }
+    Question { mode: 0, tree, work, room }
 }

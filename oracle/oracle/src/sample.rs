@@ -1,5 +1,5 @@
 //! The fixed sample: which cases stand in crates/lower_replay/stdin.
-use crate::limits::{ask, cases, zoo, Asked, Case, Room, Work};
+use crate::limits::{ask, ask_in, cases, zoo, Asked, Case, Room, Work};
 use crate::packed::Packed;
 use crate::questions;
 use crate::trees::order::post;
@@ -7,14 +7,21 @@ use crate::trees::order::post;
 /// The seed of the committed sample.
 pub const SEED: u64 = 20_260;
 
-/// Reference programs and limits, the zoo, then random and damaged trees of the seed.
+/// Mode 0: reference programs and limits, the zoo, then random and damaged trees of the seed. Mode 1: long loops, the zoo, then small
+/// trees of many loops, and damaged ones. Then modes that are none.
 pub fn sample(seed: u64) -> Vec<Packed> {
     let mut asked: Vec<Asked> =
         cases().into_iter().enumerate().filter(|(k, c)| chosen(*k, c)).map(|(_, c)| c.ask()).collect();
     asked.push(ask(post(&zoo()), Work::Exact, Room::Exact));
     let small = |a: &Asked| a.tree.len() < 2000 && a.image.len() < 4000;
-    asked.extend((0..).map(|k| questions::random(seed, k).ask()).filter(small).take(400));
-    asked.extend((0..).map(|k| questions::damaged(seed, k).ask()).filter(small).take(300));
+    asked.extend((0..).map(|k| questions::random(seed, k, 0).ask()).filter(small).take(400));
+    asked.extend((0..).map(|k| questions::damaged(seed, k, 0).ask()).filter(small).take(300));
+    let long_loop = |c: &Case| c.name.starts_with("for") && c.name.ends_with("over 257");
+    asked.extend(cases().iter().filter(|c| long_loop(c)).map(|c| ask_in(1, c.rule.expand(), c.work, c.room)));
+    asked.push(ask_in(1, post(&zoo()), Work::Exact, Room::Exact));
+    asked.extend((0..).map(|k| questions::small(seed, k, 1).ask()).filter(small).take(130));
+    asked.extend((0..).map(|k| questions::damaged(seed, k, 1).ask()).filter(small).take(40));
+    asked.extend((0..).map(|k| questions::no_mode(seed, k).ask()).filter(small).take(40));
     asked.iter().map(Packed::of).collect()
 }
 

@@ -1,21 +1,20 @@
-//! The traced copy against the unchanged source, in this process and in children.
+//! The traced copy against the source, unchanged and as mode 1 has it, in this process and in children.
 use oracle::compare::{in_process, with_child, Outcome};
 use oracle::limits::cases;
-use oracle::questions::Question;
 use oracle::{judge, questions};
 use std::io::Write;
 use std::process::{Command, Stdio};
 
 const SEED: u64 = 7;
 
-/// How many of the first cases could be compared, on two threads.
-fn compared(count: u64, make: fn(u64, u64) -> Question) -> u64 {
+/// How many of the first cases of a mode could be compared, on two threads.
+fn compared(count: u64, mode: u64) -> u64 {
     let half = |odd: u64| {
         let mut compared = 0;
         for k in (odd..count).step_by(2) {
-            match in_process(&make(SEED, k).tree) {
+            match in_process(&questions::random(SEED, k, mode).tree, mode) {
                 Ok(something) => compared += u64::from(something),
-                Err(fault) => panic!("case {k} of seed {SEED}: {fault}"),
+                Err(fault) => panic!("case {k} of seed {SEED} in mode {mode}: {fault}"),
             }
         }
         compared
@@ -28,7 +27,13 @@ fn compared(count: u64, make: fn(u64, u64) -> Question) -> u64 {
 
 #[test]
 fn random_trees() {
-    let n = compared(24_000, questions::random);
+    let n = compared(24_000, 0);
+    assert!(n > 20_000, "{n} could be compared");
+}
+
+#[test]
+fn random_trees_in_mode_1() {
+    let n = compared(24_000, 1);
     assert!(n > 20_000, "{n} could be compared");
 }
 
@@ -36,12 +41,15 @@ fn random_trees() {
 fn limits() {
     let mut n = 0;
     for case in cases() {
-        match in_process(&case.rule.expand()) {
-            Ok(something) => n += u64::from(something),
-            Err(fault) => panic!("{}: {fault}", case.name),
+        let tree = case.rule.expand();
+        for mode in 0..2 {
+            match in_process(&tree, mode) {
+                Ok(something) => n += u64::from(something),
+                Err(fault) => panic!("{}: {fault}", case.name),
+            }
         }
     }
-    assert!(n > 1500, "{n} could be compared");
+    assert!(n > 3000, "{n} could be compared");
 }
 
 fn child(tree: &[u8]) -> Outcome {
@@ -63,7 +71,7 @@ fn child(tree: &[u8]) -> Outcome {
 fn refusals_seen_from_a_child() {
     let most = 40;
     let mut seen = [0; 19];
-    let random = (0..12_000).map(|k| questions::random(SEED + 1, k).ask());
+    let random = (0..12_000).map(|k| questions::random(SEED + 1, k, 0).ask());
     for asked in cases().iter().map(|c| c.ask()).chain(random) {
         let number = asked.answer.number;
         if (7..=17).contains(&number) && seen[usize::from(number)] < most {

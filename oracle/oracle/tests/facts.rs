@@ -8,7 +8,7 @@ use oracle::trees::order::post;
 
 #[test]
 fn every_accepted_image_has_the_facts() {
-    let random = (0..6000).map(|k| questions::random(11, k).ask());
+    let random = (0..6000).map(|k| questions::random(11, k, k % 2).ask());
     let mut n = 0;
     for asked in cases().iter().map(|c| c.ask()).chain(random) {
         if asked.answer.number == 0 {

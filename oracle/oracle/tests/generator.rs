@@ -57,7 +57,7 @@ fn random_trees_reach_everything() {
     };
     let count = 15_000;
     for k in 0..count {
-        let asked = questions::random(99, k).ask();
+        let asked = questions::random(99, k, 0).ask();
         seen.numbers[usize::from(asked.answer.number)] += 1;
         if asked.answer.number == 0 {
             seen.accepted(&fields(&asked.tree).unwrap(), &asked.image);
@@ -80,7 +80,7 @@ fn random_trees_reach_everything() {
 fn damaged_files_are_of_every_kind() {
     let mut numbers = [0; 19];
     for k in 0..10_000 {
-        numbers[usize::from(questions::damaged(99, k).ask().answer.number)] += 1;
+        numbers[usize::from(questions::damaged(99, k, 0).ask().answer.number)] += 1;
     }
     assert!([0, 1, 3, 4, 6, 9, 18].iter().all(|n| numbers[*n] > 10), "{numbers:?}");
 }
@@ -99,6 +99,6 @@ fn heavy_trees_agree_with_the_unchanged_source() {
     for case in heavy_cases() {
         let asked = case.ask();
         assert!([0, 7, 14, 15].contains(&asked.answer.number), "{}: {}", case.name, asked.answer);
-        compare::in_process(&asked.tree).unwrap();
+        (0..2).for_each(|mode| assert!(compare::in_process(&asked.tree, mode).is_ok()));
     }
 }

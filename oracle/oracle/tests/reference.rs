@@ -11,13 +11,13 @@ fn tree(name: &str) -> Vec<u8> {
 }
 
 fn accepted(name: &str) -> Image {
-    let (answer, image) = answer(&tree(name), ENOUGH, ENOUGH);
+    let (answer, image) = answer(&tree(name), 0, ENOUGH, ENOUGH);
     assert_eq!((answer.number, answer.place, answer.length), (0, 0, image.len() as u64), "program {name}");
     Image::from_bytes(&image).unwrap()
 }
 
 fn refused(name: &str, number: u8, place: u64) {
-    let (answer, image) = answer(&tree(name), ENOUGH, ENOUGH);
+    let (answer, image) = answer(&tree(name), 0, ENOUGH, ENOUGH);
     assert_eq!((answer.number, answer.place, answer.length), (number, place, 0), "program {name}");
     assert!(image.is_empty());
 }
@@ -36,7 +36,7 @@ fn one(x: f64) -> Constant {
 #[test]
 fn program_1_by_its_bytes() {
     let due = [0x41, 0, 0x0A, 0xFF, 0xFF, 0, 0, 0, 0, 0, 0, 0, 1, 0x43, 0, 6, 0x14, 0, 0, 0, 0xFF, 0xFF];
-    let (answer, image) = answer(&[0x1E, 0, 0], 12_288 + 16, 22);
+    let (answer, image) = answer(&[0x1E, 0, 0], 0, 12_288 + 16, 22);
     assert_eq!(answer.numbers(), [0, 0, 22]);
     assert_eq!(image, due);
 }

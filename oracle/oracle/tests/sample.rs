@@ -19,14 +19,16 @@ fn the_sample_is_made_again() {
 fn the_sample_is_of_every_kind() {
     let cases = read(&committed()).expect("the packed layout");
     assert!(cases.len() >= 300);
-    let (mut numbers, mut tags) = ([0; 19], [0; 256]);
+    let (mut numbers, mut tags) = ([[0; 22]; 2], [0; 256]);
     for case in &cases {
-        numbers[usize::from(case.answer.number)] += 1;
+        numbers[usize::from(case.mode == 1)][usize::from(case.answer.number)] += 1;
         if case.answer.number == 0 {
             fields(&case.rule.expand()).unwrap().iter().for_each(|f| tags[usize::from(f.tag)] += 1);
         }
     }
-    assert!(numbers.iter().all(|n| *n > 0), "by number {numbers:?}");
+    let [other, one] = numbers;
+    assert!((0..=18).chain([21]).all(|n| other[n] > 0), "by number {other:?}");
+    assert!(one[0] > 100 && one[21] == 0 && other[21] == 40, "by number in mode 1 {one:?}");
     let listed = (0x01..=0x09).chain(0x10..=0x1E);
     assert!(listed.clone().all(|tag| tags[tag] > 0), "by tag {tags:?}");
 }
@@ -35,10 +37,10 @@ fn the_sample_is_of_every_kind() {
 #[test]
 fn the_sample_replays() {
     for case in read(&committed()).unwrap() {
-        let Packed { rule, tree_length, work, room, answer: due, checksum: sum, image } = case;
+        let Packed { mode, rule, tree_length, work, room, answer: due, checksum: sum, image } = case;
         let tree = rule.expand();
         assert_eq!(tree.len() as u32, tree_length);
-        let (got, bytes) = answer(&tree, work.into(), room.into());
+        let (got, bytes) = answer(&tree, mode, work.into(), room.into());
         assert_eq!(got, due);
         assert_eq!(checksum(&bytes), sum);
         assert!(image.is_empty() || image == bytes);

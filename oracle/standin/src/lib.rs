@@ -12,11 +12,12 @@ pub unsafe extern "C" fn yengrazul_lower(
     work_len: usize,
     out: *mut u8,
     out_len: usize,
+    mode: u64,
     answer: *mut u64,
 ) {
     let (tree, work) = (from_raw_parts(tree, tree_len), from_raw_parts_mut(work, work_len));
     let (out, answer) = (from_raw_parts_mut(out, out_len), from_raw_parts_mut(answer, 3));
-    let (due, image) = answer::answer(tree, work_len as u64, out_len as u64);
+    let (due, image) = answer::answer(tree, mode, work_len as u64, out_len as u64);
     work.fill(0);
     out.fill(0);
     out[..image.len()].copy_from_slice(&image);

@@ -29,9 +29,11 @@ use files::tree::Field;
 use std::panic::{catch_unwind, resume_unwind, AssertUnwindSafe};
 pub use trace::Refusal;
 
-/// The image of a checked tree, or the first of 7 to 17 that is met.
-pub fn lower(fields: &[Field]) -> Result<Image, Refusal> {
+/// The image of a checked tree in mode 0 or 1, or the first of 7 to 17 that is met.
+pub fn lower(fields: &[Field], mode: u64) -> Result<Image, Refusal> {
+    assert!(mode < 2, "a lowering has mode 0 or 1");
     let run = || {
+        trace::set_mode_1(mode == 1);
         let program = read::program(fields);
         let _visit = trace::Visit::of(fields.len() - 1);
         let mut compiler = Compiler {

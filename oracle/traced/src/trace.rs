@@ -1,4 +1,4 @@
-//! What the edits of build.rs call: the node being visited, and the refusals 7 to 17 of document 01.
+//! What the edits of build.rs call: the mode, the node being visited, and the refusals 7 to 17 of document 01.
 use crate::compiler::{Chunk, Compiler, InstSrc};
 use crate::token::Literal;
 use std::cell::Cell;
@@ -8,6 +8,17 @@ use std::cell::Cell;
 pub struct Refusal {
     pub number: u8,
     pub node: usize,
+}
+
+thread_local!(static MODE_1: Cell<bool> = const { Cell::new(false) });
+
+/// The mode of this thread's next lowering.
+pub fn set_mode_1(is: bool) {
+    MODE_1.set(is);
+}
+
+pub fn is_mode_1() -> bool {
+    MODE_1.get()
 }
 
 thread_local!(static NODE: Cell<usize> = const { Cell::new(0) });

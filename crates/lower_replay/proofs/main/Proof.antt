@@ -9,4 +9,4 @@ use Rattle.lower_replay.proofs.main.Tie as tie
 pub main-spec : {M : Type 1} → statement M
 main-spec =
     tie.close
-    (tie.spec (λ c. sym (length-replicate {A = ℕ} 800000 0)) (λ c κs. search needs) (λ c κs. search needs) (λ c. search needs))
+    (tie.spec (λ c. sym (length-replicate {A = ℕ} 1000000 0)) (λ c κs. search needs) (λ c κs. search needs) (λ c. search needs))

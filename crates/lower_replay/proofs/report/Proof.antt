@@ -8,7 +8,7 @@ abbrev Inv-loop : tie.InvT-loop
 Inv-loop agreed count differences number₀ t5 t6 t7 t8 number = Unit {0}
 
 abbrev μ-loop : tie.MeasureT-loop
-μ-loop agreed count differences number₀ t5 t6 t7 t8 number = 19 - number
+μ-loop agreed count differences number₀ t5 t6 t7 t8 number = 22 - number
 
 pub report-spec : {M : Type 1} → statement M
 report-spec =

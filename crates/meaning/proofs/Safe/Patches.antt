@@ -9,11 +9,11 @@ use mathlib.Core.List.{List, [], _∷_, _++_}
 use native.Mathlib.Nat.{le-refl}
 use native.Mathlib.Omega.{arith}
 use lib.ListN.{length, length-append}
-use lib.Dec.{eqb}
+use lib.Dec.{eqb, leb}
 use borrow.Author.Tests.{eqb-true}
 use Rattle.meaning.specs.Opcode.{inst, wide, back, is-continue, is-break, is-end-jump, no-mark, Jmp, Test, RegisterTryCatch, DeregisterTryCatch}
 use Rattle.meaning.specs.State.{Chunk}
-use Rattle.meaning.specs.Chunk.{each-at, jump-by, patch-jump, patch-loop, open-loop, loop-code, branch-code, patch-end, patch-ends, patch-first, try-code}
+use Rattle.meaning.specs.Chunk.{each-at, jump-by, continue-offset, continue-goal, patch-jump, patch-loop, open-loop, body-place, loop-code, branch-code, patch-end, patch-ends, patch-first, try-code}
 use Rattle.meaning.specs.declared.Instruction.{Instruction}
 use Rattle.meaning.proofs.Lists.{and-left}
 use Rattle.meaning.proofs.Safe.Fine.{Kind, jump, test, handler, constant-of, name-of, capture-of, closure-of, calls, plain, never, View, looped, Fine, FineAs, Sane, Lands, lands, continues, breaks, kind, fine-at, shift, in-a-loop, join-at, join, join-after}
@@ -66,10 +66,14 @@ out-as calls v b e x h k l = l
 out-as plain v b e x h k l = l
 out-as never v b e x h k l = l
 
--- continue goes back to the loop's start, break just past its end
-patch-jump-fine : (v : View) (size b e : ℕ) (x : Instruction) → size ≤ b + suc e → Fine (looped v) b e x → Fine v b e (patch-jump size b x)
-patch-jump-fine v size b e x q h =
-    choice (Fine v b e) (is-continue x) (λ z. jump-fine v b e x _ (and-left _ _ z) (λ k. lands-back b e b (le-refl _) k)) λ z.
+-- a continue goes to a place of its loop, ahead or back
+lands-at : (b e goal : ℕ) → goal ≤ b + suc e → b + e ≤ 32766 → Lands b e (encoded (continue-offset goal b))
+lands-at b e goal h k = choice (λ n. Lands b e (encoded n)) (leb b goal) (λ z. lands-on b e _ (omega arith) k) (λ z. lands-back b e _ (omega arith) k)
+
+-- continue goes to its goal, break just past the loop's end
+patch-jump-fine : (v : View) (goal size b e : ℕ) (x : Instruction) → goal ≤ size → size ≤ b + suc e → Fine (looped v) b e x → Fine v b e (patch-jump goal size b x)
+patch-jump-fine v goal size b e x g q h =
+    choice (Fine v b e) (is-continue x) (λ z. jump-fine v b e x _ (and-left _ _ z) (λ k. lands-at b e goal (omega arith) k)) λ z.
     choice (Fine v b e) (is-break x) (λ y. jump-fine v b e x _ (and-left _ _ y) (λ k. lands-on b e _ (omega arith) k)) λ y.
     (h .0, out-as (kind (x .opcode)) v b e x z y (h .1))
 
@@ -94,8 +98,8 @@ each-sane v w f size h b (x ∷ xs) q k = (
   each-sane v w f size h (suc b) xs (omega arith) (k .1),
 )
 
-pub patch-loop-sane : (v : View) (code : List Instruction) → Sane (looped v) 0 0 code → Sane v 0 0 (patch-loop code)
-patch-loop-sane v code h = each-sane (looped v) v _ _ (λ b e x q k. patch-jump-fine v _ b e x q k) 0 code (omega arith) h
+pub patch-loop-sane : (v : View) (goal : ℕ) (code : List Instruction) → goal ≤ length code → Sane (looped v) 0 0 code → Sane v 0 0 (patch-loop goal code)
+patch-loop-sane v goal code g h = each-sane (looped v) v _ _ (λ b e x q k. patch-jump-fine v goal _ b e x g q k) 0 code (omega arith) h
 
 pub patch-ends-sane : (v : View) (code : List Instruction) → Sane v 0 0 code → Sane v 0 0 (patch-ends code)
 patch-ends-sane v code h = each-sane v v _ _ (λ b e x q k. patch-end-fine v _ b e x q k) 0 code (omega arith) h
@@ -120,11 +124,19 @@ guarded v b r c m n m' body x hn hr hb hx = (
 stays : (b e : ℕ) → b + e ≤ 32766 → Lands b e 0
 stays b e k = (λ l. omega arith, λ l. absurd (omega arith))
 
+-- the jump back stands behind the body
+loop-length : (mark : ℕ) (before condition : List Instruction) (r : ℕ) (body : List Instruction) → length (open-loop mark before condition r body) ≡ body-place before condition + length body + 1
+loop-length mark before condition r body = simp length-append (omega arith)
+
+-- in either mode continue goes to a place within the loop
+pub goal-inside : (mode increment size : ℕ) → increment ≤ size → continue-goal mode increment ≤ size
+goal-inside mode increment size h = choice (λ n. n ≤ size) (eqb mode 1) (λ z. h) (λ z. omega arith)
+
 -- what stands before a loop's condition, the condition and its register, the body
-pub loop-sane : (v : View) (mark : ℕ) (before condition : List Instruction) (r : ℕ) (body : List Instruction)
-    → Sane v 0 0 before → Sane v 0 0 condition → r < v .registers → Sane (looped v) 0 0 body → Sane v 0 0 (loop-code mark before condition r body)
-loop-sane v mark before condition r body hb hc hr hd =
-    patch-loop-sane v (open-loop mark before condition r body)
+pub loop-sane : (v : View) (goal mark : ℕ) (before condition : List Instruction) (r : ℕ) (body : List Instruction) → goal ≤ body-place before condition + length body
+    → Sane v 0 0 before → Sane v 0 0 condition → r < v .registers → Sane (looped v) 0 0 body → Sane v 0 0 (loop-code goal mark before condition r body)
+loop-sane v goal mark before condition r body hg hb hc hr hd =
+    patch-loop-sane v goal (open-loop mark before condition r body) (omega (arith, hg, loop-length mark before condition r body))
     (join (looped v) before _ (in-a-loop v before hb)
     (join-after (looped v) condition _ (in-a-loop v condition hc)
     (guarded (looped v) _ r 0 mark _ mark body (wide Jmp 0 _ mark) (omega arith) hr hd (tt, lands refl (λ k. lands-back _ _ _ (omega arith) k)))))

@@ -5,6 +5,7 @@ use mathlib.Core.Path.{refl}
 use mathlib.Core.List.{List, [], _∷_, _++_}
 use native.Mathlib.Omega.{arith}
 use lib.Dec.{eqb}
+use lib.ListN.{length-append}
 use borrow.Author.Tests.{eqb-false}
 use Rattle.meaning.specs.Opcode.{inst, wide, no-mark, LoadK, Jmp, Lt, Return, Class, ClassMeth, ClassStMeth, Addi, Length, SetGlobal, JMP-BREAK, JMP-CONTINUE}
 use Rattle.meaning.specs.Syntax.{Token, Super, no-super, super}
@@ -14,7 +15,7 @@ use Rattle.meaning.specs.Statements.{new-global, visit-let-as, visit-let
 use Rattle.meaning.specs.Safety.{IsText, Holds}
 use Rattle.meaning.specs.declared.Instruction.{Instruction}
 use Rattle.meaning.proofs.Safe.Fine.{View, Any, Fine, Leap, continues, breaks, holds-grown, wider-in-loop, in-a-loop, widen, shift, join, plus-one, one-plus}
-use Rattle.meaning.proofs.Safe.Patches.{encoded, loop-sane, branch-sane, patch-ends-sane, try-sane}
+use Rattle.meaning.proofs.Safe.Patches.{encoded, goal-inside, loop-sane, branch-sane, patch-ends-sane, try-sane}
 use Rattle.meaning.proofs.Safe.Sound.{Sound, More, more-chain, Gives, Always, bind, next, by-pure, by-refuse, either, either-known, weaken, regs, takes, allocates, globals, gets, stores, Code, Good, Loose, Row, loose, good-more, loose-more, row-sane}
 use Rattle.meaning.proofs.Safe.Brackets.{block-gives, loop-gives}
 use Rattle.meaning.proofs.Safe.Expressions.{variable-good}
@@ -63,15 +64,15 @@ unfolding visit-while
 while-good node mark hc hb s σ =
     bind (hc s σ) λ c t τ g p. bind (loop-gives hb t τ) λ b u υ g' q.
     let p' = good-more c t u g' p in
-    by-pure _ υ (record { code = loop-sane _ mark [] (c .code) _ (b .code) tt (p' .code) (p' .result) (q .code); result = omega (arith, p' .result) })
+    by-pure _ υ (record { code = loop-sane _ 0 mark [] (c .code) _ (b .code) (omega arith) tt (p' .code) (p' .result) (q .code); result = omega (arith, p' .result) })
 
-pub for-good : (node mark : ℕ) {i : M (List Chunk)} {c n b : M Chunk} → Always i Row → Always c Good → Always n Good → Always b Loose → Always (visit-classic-for node mark i c n b) Loose
+pub for-good : (mode node mark : ℕ) {i : M (List Chunk)} {c n b : M Chunk} → Always i Row → Always c Good → Always n Good → Always b Loose → Always (visit-classic-for mode node mark i c n b) Loose
 unfolding visit-classic-for
-for-good node mark hi hc hn hb s σ =
+for-good mode node mark hi hc hn hb s σ =
     bind (hi s σ) λ i t1 τ1 g1 p1. bind (hc t1 τ1) λ c t2 τ2 g2 p2. bind (loop-gives hb t2 τ2) λ b t3 τ3 g3 p3. bind (hn t3 τ3) λ n t4 τ4 g4 p4.
     let c' = good-more c t2 t4 (more-chain g3 g4) p2 in
     by-pure _ τ4 (record {
-      code = loop-sane _ mark (joined i) (c .code) _ (b .code ++ n .code)
+      code = loop-sane _ _ mark (joined i) (c .code) _ (b .code ++ n .code) (goal-inside mode _ _ (omega (arith, length-append (b .code) (n .code))))
           (widen (joined i) (more-chain g2 (more-chain g3 g4) .wider) (row-sane i _ p1)) (c' .code) (c' .result)
           (join _ (b .code) _ (widen (b .code) (wider-in-loop (g4 .wider)) (p3 .code)) (in-a-loop _ (n .code) (p4 .code)));
       result = omega arith;
@@ -96,9 +97,9 @@ iterate-good node mark element collection counter (x ∷ y ∷ xs) s σ h1 h2 h3
     let r = g .wider .registers in
     by-pure _ τ (((omega arith, (omega arith, (omega arith, tt))), tt), shift _ 1 0 parts p)
 
-pub for-in-good : (node mark : ℕ) (xs : List Token) {c b : M Chunk} → Always c Good → Always b Loose → Always (visit-for-in node mark xs c b) Loose
+pub for-in-good : (mode node mark : ℕ) (xs : List Token) {c b : M Chunk} → Always c Good → Always b Loose → Always (visit-for-in mode node mark xs c b) Loose
 unfolding visit-for-in
-for-in-good node mark xs hc hb s σ =
+for-in-good mode node mark xs hc hb s σ =
     bind (takes node s σ) λ counter t1 τ1 g1 p1. bind (takes node t1 τ1) λ size t2 τ2 g2 p2. bind (takes node t2 τ2) λ condition t3 τ3 g3 p3. bind (takes node t3 τ3) λ element t4 τ4 g4 p4.
     bind (stores node _ Any tt t4 τ4) λ k t5 τ5 g5 p5. bind (hc t5 τ5) λ c t6 τ6 g6 p6.
     bind (iterate-good node mark element _ counter xs t6 τ6 (omega (arith, g6 .wider .registers)) (p6 .result) (omega (arith, g6 .wider .registers))) λ heads t7 τ7 g7 p7.
@@ -106,7 +107,8 @@ for-in-good node mark xs hc hb s σ =
     let r6 = g6 .wider .registers in let r7 = g7 .wider .registers in let r8 = g8 .wider .registers in
     let c' = good-more c t6 t8 (more-chain g7 g8) p6 in
     by-pure _ τ8 (record {
-      code = loop-sane _ mark (wide LoadK counter k mark ∷ c .code) (inst Length size (c .result) 0 mark ∷ inst Lt condition counter size mark ∷ []) condition (heads ++ (b .code ++ inst Addi counter counter 1 mark ∷ []))
+      code = loop-sane _ _ mark (wide LoadK counter k mark ∷ c .code) (inst Length size (c .result) 0 mark ∷ inst Lt condition counter size mark ∷ []) condition (heads ++ (b .code ++ inst Addi counter counter 1 mark ∷ []))
+          (goal-inside mode _ _ (omega (arith, length-append heads (b .code ++ inst Addi counter counter 1 mark ∷ []), length-append (b .code) (inst Addi counter counter 1 mark ∷ []))))
           (((omega arith, tt), holds-grown Any _ (more-chain g6 (more-chain g7 g8) .wider .constants) (p5 .1)), shift _ 1 0 (c .code) (c' .code))
           (((omega arith, (c' .result, tt)), tt), (((omega arith, (omega arith, (omega arith, tt))), tt), tt))
           (omega arith)

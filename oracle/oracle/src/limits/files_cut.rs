@@ -50,7 +50,7 @@ fn lent() -> Vec<Case> {
     let mut all = vec![];
     for (name, rule) in reference::programs() {
         let due =
-            crate::answer::image(&rule.expand(), 1 << 40).map_or_else(|r| (r.number, r.place as usize), |_| (0, 0));
+            crate::answer::image(&rule.expand(), 0, 1 << 40).map_or_else(|r| (r.number, r.place as usize), |_| (0, 0));
         let last = files::tree::fields(&rule.expand()).unwrap().len().saturating_sub(1);
         let case = || Case::file(format!("reference {name}"), rule.clone(), Some(due));
         all.push(case());

@@ -55,6 +55,7 @@ pub struct Case {
 
 /// A case asked: the file, what is lent, and the oracle's answer.
 pub struct Asked {
+    pub mode: u64,
     pub tree: Vec<u8>,
     pub work: u64,
     pub room: u64,
@@ -92,13 +93,18 @@ pub fn work_words(tree: &[u8], work: Work) -> u64 {
     }
 }
 
-/// Asks the oracle about a file.
+/// Asks the oracle about a file in mode 0.
 pub fn ask(tree: Vec<u8>, work: Work, room: Room) -> Asked {
+    ask_in(0, tree, work, room)
+}
+
+/// Asks the oracle about a file in a mode.
+pub fn ask_in(mode: u64, tree: Vec<u8>, work: Work, room: Room) -> Asked {
     let work = work_words(&tree, work);
-    let image = image(&tree, work);
+    let image = image(&tree, mode, work);
     let room = room_for(room, &image);
     let (answer, image) = in_room(&tree, image, room);
-    Asked { tree, work, room, answer, image }
+    Asked { mode, tree, work, room, answer, image }
 }
 
 fn room_for(room: Room, image: &Result<Vec<u8>, Refusal>) -> u64 {

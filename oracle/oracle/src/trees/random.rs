@@ -15,13 +15,15 @@ pub struct Taste {
     pub mischief: u8,
     /// In 1,000: how often a body begins with a row of literals that take most of its registers.
     pub stuffing: usize,
+    /// More loops and continues, and increments of the kinds that mode 1 tells apart.
+    pub loops: bool,
 }
 
 impl Taste {
     /// Small programs, most of them without mischief.
     pub fn any(rng: &mut Rng, size: usize) -> Taste {
         let mischief = if rng.chance(160) { *rng.pick(&[9, 10, 11, 12]) } else { 0 };
-        Taste { size: rng.range(1, size), deepest: rng.range(4, 30), mischief, stuffing: 0 }
+        Taste { size: rng.range(1, size), deepest: rng.range(4, 30), mischief, stuffing: 0, loops: false }
     }
 }
 
@@ -90,7 +92,7 @@ impl Grower<'_> {
         if !self.may_grow(depth + 1) {
             return self.small_statement(depth);
         }
-        match self.rng.below(100) {
+        match self.kind() {
             0..=27 => self.expression_statement(depth),
             28..=42 => self.let_statement(depth),
             43..=48 => self.block_statement(depth),
@@ -106,7 +108,19 @@ impl Grower<'_> {
         }
     }
 
+    /// In hundredths; where loops are wanted, often one of while to for-in, or to try within one.
+    fn kind(&mut self) -> usize {
+        match self.taste.loops && self.rng.chance(500) {
+            true if self.scope.in_loop() => self.rng.range(49, 90),
+            true => self.rng.range(49, 65),
+            false => self.rng.below(100),
+        }
+    }
+
     fn small_statement(&mut self, depth: usize) -> Grown {
+        if self.taste.loops && self.scope.in_loop() && self.rng.chance(500) {
+            return self.jump_statement(depth);
+        }
         match self.rng.below(6) {
             0 => Grown { node: block(vec![]), emits: false },
             1 => emits(return_(self.mark(), None)),
@@ -193,8 +207,18 @@ impl Grower<'_> {
         };
         let condition = self.expr(depth + 1).node;
         let body = self.loop_body(depth + 1);
-        let increment = self.expr(depth + 1).node;
+        let increment = if self.taste.loops { self.increment(depth + 1) } else { self.expr(depth + 1).node };
         emits(for_(self.mark(), initializer, condition, increment, body))
+    }
+
+    /// Often a local variable, which gives no instruction, or a numeral minus something, of which a pass is dropped.
+    fn increment(&mut self, depth: usize) -> Node {
+        let (mark, locals) = (self.mark(), self.scope.locals());
+        match self.rng.below(4) {
+            0 if !locals.is_empty() => variable((*self.rng.pick(&locals), mark)),
+            1 => binary(8, mark, number(self.rng.below(256) as f64), self.expr(depth + 1).node),
+            _ => self.expr(depth).node,
+        }
     }
 
     fn for_in_statement(&mut self, depth: usize) -> Grown {
@@ -212,7 +236,8 @@ impl Grower<'_> {
     fn jump_statement(&mut self, depth: usize) -> Grown {
         if self.scope.in_loop() || self.mischief(11) {
             let mark = self.mark();
-            return emits(if self.rng.chance(500) { break_(mark) } else { continue_(mark) });
+            let breaks = if self.taste.loops { 200 } else { 500 };
+            return emits(if self.rng.chance(breaks) { break_(mark) } else { continue_(mark) });
         }
         self.expression_statement(depth)
     }

@@ -62,6 +62,11 @@ impl Scope {
         self.functions.pop();
     }
 
+    /// The names of the current function's open blocks.
+    pub fn locals(&self) -> Vec<u16> {
+        self.functions.last().unwrap().blocks.concat()
+    }
+
     pub fn is_local(&self, name: u16) -> bool {
         self.functions.last().unwrap().blocks.iter().flatten().any(|n| *n == name)
     }

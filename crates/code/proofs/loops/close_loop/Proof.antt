@@ -25,7 +25,7 @@ returns c =
     let one = spell none (jump-back .ensures) (write .ensures) (omega (arith, pre .1)) in
     let two = spell-over one (pack-wide .ensures) (write2 .ensures) (omega (arith, pre .5)) in
     let three = spell-anew two ((c .before .before .patch-loop) .ensures) (omega (arith, pre .1)) in
-    anew (closed-loop (a .first) (a .condition) (a .test) (a .mark)) three (closed-is _ k (a .first) (a .condition) (a .test) (a .mark))
+    anew (closed-loop (a .goal) (a .first) (a .condition) (a .test) (a .mark)) three (closed-is _ k (a .goal) (a .first) (a .condition) (a .test) (a .mark))
 
 pub close-loop-spec : {M : Type 1} → statement M
 close-loop-spec =

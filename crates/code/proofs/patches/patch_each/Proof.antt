@@ -10,15 +10,15 @@ use Rattle.code.proofs.patches.patch_each.Statement.{statement}
 use Rattle.code.proofs.patches.patch_each.Tie as tie
 
 abbrev Inv-loop : tie.InvT-loop
-Inv-loop work₀ nodes first end looped top size i₀ work i = (first ≤ i) × (i ≤ end) × Scanning work₀ work nodes first i (patch-by looped (end - first))
+Inv-loop work₀ nodes first end looped goal top size i₀ work i = (first ≤ i) × (i ≤ end) × Scanning work₀ work nodes first i (patch-by looped goal (end - first))
 
 abbrev μ-loop : tie.MeasureT-loop
-μ-loop work₀ nodes first end looped top size i₀ work i = end - i
+μ-loop work₀ nodes first end looped goal top size i₀ work i = end - i
 
 loop-holds : tie.Need-loop-holds Inv-loop μ-loop
 loop-holds c =
     let a = (c .before) .args in
-    (omega arith, (c .before) .pre .2, scan-starts (now (a .work)) (a .nodes) (a .first) (patch-by (a .looped) (a .end - a .first)))
+    (omega arith, (c .before) .pre .2, scan-starts (now (a .work)) (a .nodes) (a .first) (patch-by (a .looped) (a .goal) (a .end - a .first)))
 
 loop-again : tie.Need-loop-again Inv-loop μ-loop
 loop-again c =
@@ -35,7 +35,7 @@ returns c =
     let start = c .before .before .before in
     let a = start .args in
     let v = (c .before .loop) .inv in
-    scan-ends (patched (a .looped)) (a .end) (v .2) (omega (arith, v .1, (c .loop-test) .left)) (start .pre .2) (start .pre .1) (λ l h. ap (λ k. each-at (patch-by (a .looped) k) 0 l) h)
+    scan-ends (patched (a .looped) (a .goal)) (a .end) (v .2) (omega (arith, v .1, (c .loop-test) .left)) (start .pre .2) (start .pre .1) (λ l h. ap (λ k. each-at (patch-by (a .looped) (a .goal) k) 0 l) h)
 
 pub patch-each-spec : {M : Type 1} → statement M
 patch-each-spec =

@@ -39,8 +39,8 @@ pub record Moving (t w0 o0 : List ℕ) (p : Scope) (s0 : Step) (i register : ℕ
   pub place : to ≡ register + (k - 2)
   pub done : ℕ
   pub size : done + size-exprs (exprs-at (fields t) i k (count-of (fields t) i)) ≡ size-exprs (exprs-at (fields t) i 2 (count-of (fields t) i))
-  pub turning : Turning w0 o0 p s0 w o s (uses (8 * done + 2 * (k - 2)) 0 0) (fwd-code (lower-arguments (exprs-at (fields t) i 2 (count-of (fields t) i)) register))
-      (fwd-code (lower-arguments (exprs-at (fields t) i k (count-of (fields t) i)) to))
+  pub turning : Turning w0 o0 p s0 w o s (uses (8 * done + 2 * (k - 2)) 0 0) (fwd-code (lower-arguments (p .mode) (exprs-at (fields t) i 2 (count-of (fields t) i)) register))
+      (fwd-code (lower-arguments (p .mode) (exprs-at (fields t) i k (count-of (fields t) i)) to))
 
 module _ {t w0 : List ℕ} {p : Scope} {s0 : Step} {i register : ℕ} (r : AskArguments t w0 p s0 i register) where
   start : {o0 : List ℕ} → Moving t w0 o0 p s0 i register w0 o0 s0 register 2

@@ -33,20 +33,20 @@ some-small k h = rw (lt-ltb k 256 h)
 none-small : (k : ℕ) → 256 ≤ k → small-of k ≡ none
 none-small k h = rw (le-ltb k 256 h)
 
-module _ {fs : List Field} {i : ℕ} (x : Binary fs i) where
+module _ (mode : ℕ) {fs : List Field} {i : ℕ} (x : Binary fs i) where
   is-addi : (k : ℕ) → k < 256 → small-if (eqb (word-of fs i 0) plus) (expr-at fs (word-of fs i 3)) ≡ small-of k
-      → visit-addi i (word-of fs i 1) k (lower-expr (expr-at fs (word-of fs i 2))) ≡ lower-expr (expr-at fs i)
+      → visit-addi i (word-of fs i 1) k (lower-expr mode (expr-at fs (word-of fs i 2))) ≡ lower-expr mode (expr-at fs i)
   unfolding lower-expr visit-binary
   is-addi k h e = rw (x .is, e, some-small k h)
 
   module _ (k : ℕ) (h : 256 ≤ k) (e : small-if (eqb (word-of fs i 0) plus) (expr-at fs (word-of fs i 3)) ≡ small-of k) where
     is-minus : (j : ℕ) → j < 256 → small-if (eqb (word-of fs i 0) minus) (expr-at fs (word-of fs i 2)) ≡ small-of j
-        → visit-binary i (word-of fs i 0) (word-of fs i 1) none (some 0) (lower-expr (expr-at fs (word-of fs i 2))) (lower-expr (expr-at fs (word-of fs i 3))) ≡ lower-expr (expr-at fs i)
+        → visit-binary i (word-of fs i 0) (word-of fs i 1) none (some 0) (lower-expr mode (expr-at fs (word-of fs i 2))) (lower-expr mode (expr-at fs (word-of fs i 3))) ≡ lower-expr mode (expr-at fs i)
     unfolding lower-expr visit-binary
     is-minus j l f = rw (x .is, e, none-small k h, f, some-small j l)
 
     is-both : (j : ℕ) → 256 ≤ j → small-if (eqb (word-of fs i 0) minus) (expr-at fs (word-of fs i 2)) ≡ small-of j
-        → visit-both i (word-of fs i 0) (word-of fs i 1) (lower-expr (expr-at fs (word-of fs i 2))) (lower-expr (expr-at fs (word-of fs i 3))) ≡ lower-expr (expr-at fs i)
+        → visit-both i (word-of fs i 0) (word-of fs i 1) (lower-expr mode (expr-at fs (word-of fs i 2))) (lower-expr mode (expr-at fs (word-of fs i 3))) ≡ lower-expr mode (expr-at fs i)
     unfolding lower-expr visit-binary
     is-both j l f = rw (x .is, e, none-small k h, f, none-small j l)
 
@@ -75,7 +75,7 @@ same-length-2 t c = (c .before .before .before .before .addi) .ensures .does .sa
 pub returns : (t : ℕ) → lts.Need-returns (claims t) (binary-at t) binary.Post
 returns t c =
     let g = (c .before .before .before .before .before .before .before .before .before .before .before .before .before .before .before) .pre .1 .0 in
-    likewise (is-addi (a-binary (g .ready .lawful) (g .known) ((c .before .before .before .before .before .before .before .before .before .before .before .before .before .before .before) .pre .1 .1)) _ ((c .before .before .before .before .before .before .before .if1) .taken) (rw ((c .before .before .before .before .before .before .before .before .before .before .words-of) .ensures .0) at ((c .before .before .before .before .before .before .before .before .immediate) .ensures))) ((c .before .before .before .before .addi) .ensures)
+    likewise (is-addi ((c .before .before .before .before .before .before .before .before .before .before .before .before .before .before .before) .args .scope .mode) (a-binary (g .ready .lawful) (g .known) ((c .before .before .before .before .before .before .before .before .before .before .before .before .before .before .before) .pre .1 .1)) _ ((c .before .before .before .before .before .before .before .if1) .taken) (rw ((c .before .before .before .before .before .before .before .before .before .before .words-of) .ensures .0) at ((c .before .before .before .before .before .before .before .before .immediate) .ensures))) ((c .before .before .before .before .addi) .ensures)
 
 pub immediate-requires-2 : (t : ℕ) → lts.Need-immediate-requires-2 (claims t) (binary-at t) binary.Post
 immediate-requires-2 t c κs =
@@ -96,7 +96,7 @@ pub returns-2 : (t : ℕ) → lts.Need-returns-2 (claims t) (binary-at t) binary
 returns-2 t c =
     let g = (c .before .before .before .before .before .before .before .before .before .before .before .before .before .before .before .before .before .before) .pre .1 .0 in
     let e = (c .before .before .before .before .before .before .before .before .before .before .before .before .before .words-of) .ensures .0 in
-    likewise (is-minus (a-binary (g .ready .lawful) (g .known) ((c .before .before .before .before .before .before .before .before .before .before .before .before .before .before .before .before .before .before) .pre .1 .1)) _ ((c .before .before .before .before .before .before .before .before .before .before .if1) .left) (rw e at ((c .before .before .before .before .before .before .before .before .before .before .before .immediate) .ensures)) _ ((c .before .before .before .before .before .before .before .if2) .taken) (rw e at ((c .before .before .before .before .before .before .before .before .immediate2) .ensures))) ((c .before .before .before .before .minus) .ensures)
+    likewise (is-minus ((c .before .before .before .before .before .before .before .before .before .before .before .before .before .before .before .before .before .before) .args .scope .mode) (a-binary (g .ready .lawful) (g .known) ((c .before .before .before .before .before .before .before .before .before .before .before .before .before .before .before .before .before .before) .pre .1 .1)) _ ((c .before .before .before .before .before .before .before .before .before .before .if1) .left) (rw e at ((c .before .before .before .before .before .before .before .before .before .before .before .immediate) .ensures)) _ ((c .before .before .before .before .before .before .before .if2) .taken) (rw e at ((c .before .before .before .before .before .before .before .before .immediate2) .ensures))) ((c .before .before .before .before .minus) .ensures)
 
 pub both-requires : (t : ℕ) → lts.Need-both-requires (claims t) (binary-at t) binary.Post
 both-requires t c κs = (omega (arith, (c .before .before .before .before .before .before .before .before .before .before .before .before .before) .pre .0), ((c .before .before .before .before .before .before .before .before .before .before .before .before .before) .pre .1 .0, (c .before .before .before .before .before .before .before .before .before .before .before .before .before) .pre .1 .1))
@@ -111,4 +111,4 @@ pub returns-3 : (t : ℕ) → lts.Need-returns-3 (claims t) (binary-at t) binary
 returns-3 t c =
     let g = (c .before .before .before .before .before .before .before .before .before .before .before .before .before .before .before .before .before .before) .pre .1 .0 in
     let e = (c .before .before .before .before .before .before .before .before .before .before .before .before .before .words-of) .ensures .0 in
-    likewise (is-both (a-binary (g .ready .lawful) (g .known) ((c .before .before .before .before .before .before .before .before .before .before .before .before .before .before .before .before .before .before) .pre .1 .1)) _ ((c .before .before .before .before .before .before .before .before .before .before .if1) .left) (rw e at ((c .before .before .before .before .before .before .before .before .before .before .before .immediate) .ensures)) _ ((c .before .before .before .before .before .before .before .if2) .left) (rw e at ((c .before .before .before .before .before .before .before .before .immediate2) .ensures))) ((c .before .before .before .before .both) .ensures)
+    likewise (is-both ((c .before .before .before .before .before .before .before .before .before .before .before .before .before .before .before .before .before .before) .args .scope .mode) (a-binary (g .ready .lawful) (g .known) ((c .before .before .before .before .before .before .before .before .before .before .before .before .before .before .before .before .before .before) .pre .1 .1)) _ ((c .before .before .before .before .before .before .before .before .before .before .if1) .left) (rw e at ((c .before .before .before .before .before .before .before .before .before .before .before .immediate) .ensures)) _ ((c .before .before .before .before .before .before .before .if2) .left) (rw e at ((c .before .before .before .before .before .before .before .before .immediate2) .ensures))) ((c .before .before .before .before .both) .ensures)

@@ -59,7 +59,7 @@ module _ {t w : List ℕ} {p : Scope} {s : Step} {i f : ℕ} (g : AskBody t w p 
                   let a2 = next a1 (d2 .does) in
                   let a3 = next-leaf a2 d3 in
                   let a4 = next-left a3 (left-runs (m .fine) d4) in
-                  let h = rw (stmts-count (fields t) i f (count-of (fields t) i) (g .0 .ends)) at (rows (stmts-at (fields t) i f (count-of (fields t) i))) in
+                  let h = rw (stmts-count (fields t) i f (count-of (fields t) i) (g .0 .ends)) at (rows (p .mode) (stmts-at (fields t) i f (count-of (fields t) i))) in
                   ends a4 (body-chain _ _ _ h _ _ (known _ _ _ ps) _ (a1 .runs) _ (a2 .runs) _ (a3 .runs) _ (a4 .runs));
             }
 

@@ -44,7 +44,7 @@ pub record Branching (t w0 o0 : List ℕ) (p : Scope) (s0 : Step) (i from to : �
   pub low : from ≤ k
   pub done : ℕ
   pub size : done + size-elifs (elif-row (fields t) i k to) ≡ size-elifs (elif-row (fields t) i from to)
-  pub turning : Turning w0 o0 p s0 w o s (uses (8 * done) done 0) (fwd-code (lower-elifs (elif-row (fields t) i from to))) (fwd-code (lower-elifs (elif-row (fields t) i k to)))
+  pub turning : Turning w0 o0 p s0 w o s (uses (8 * done) done 0) (fwd-code (lower-elifs (p .mode) (elif-row (fields t) i from to))) (fwd-code (lower-elifs (p .mode) (elif-row (fields t) i k to)))
 
 module _ {t w0 : List ℕ} {p : Scope} {s0 : Step} {i f g : ℕ} (r : AskElifs t w0 p s0 i f g) where
   start : {o0 : List ℕ} → Branching t w0 o0 p s0 i f g w0 o0 s0 f

@@ -116,7 +116,7 @@ module _ {t w : List ℕ} {p : Scope} {s : Step} {i : ℕ} (g : GivenStmt t w p 
                     (omega arith, omega arith, omega arith),
               )
 
-          module _ {w5 : List ℕ} {s5 : Step} (d5 : Leaf w4 p s4 w5 p s5 (uses 4 0 0) (sure (end-for-in (s .code) (s2 .code) (s1 .result) (word-of (fields t) i 0)))) where
+          module _ {w5 : List ℕ} {s5 : Step} (d5 : Leaf w4 p s4 w5 p s5 (uses 4 0 0) (sure (end-for-in (p .mode) (s .code) (s2 .code) (s1 .result) (word-of (fields t) i 0)))) where
             lowers : LowersStmt t i w o p s w5 o4 s5
             unfolding lower-expr end-for-in end-loop
             lowers =
@@ -132,7 +132,7 @@ module _ {t w : List ℕ} {p : Scope} {s : Step} {i : ℕ} (g : GivenStmt t w p 
                 let a6 = next-leaf a5 (loop-left p (d4 .does .moves .fine)) in
                 let a7 = next-leaf a6 d5 in
                 ends a7 (rw (x .is)
-                (for-in-chain _ _ _ _ _ _ _ (known _ _ _ ps) _ (a1 .runs) _ (known _ _ _ (a1 .protos)) _ (a2 .runs) _ (known _ _ _ (a2 .protos)) _ (a3 .runs) _ (a4 .runs) _ (a5 .runs) _ (a6 .runs) _ (a7 .runs)))
+                (for-in-chain (p .mode) _ _ _ _ _ _ _ (known _ _ _ ps) _ (a1 .runs) _ (known _ _ _ (a1 .protos)) _ (a2 .runs) _ (known _ _ _ (a2 .protos)) _ (a3 .runs) _ (a4 .runs) _ (a5 .runs) _ (a6 .runs) _ (a7 .runs)))
 
 -- what each function that is called asks and promises; a member of the cycle at a smaller measure
 abbrev pub claims : ℕ → lts.Claims

@@ -89,7 +89,7 @@ module _ {t w : List ℕ} {p : Scope} {s : Step} {i : ℕ} (g : GivenStmt t w p 
               give-expr (from (g .ready) ▹ d1 .does .moves ▹ d2 .does .moves ▹ d3 .moves ▹ loop-around p (d3 .moves .fine) (d4 .does .moves)) (g .known) (x .increment) (omega arith) (omega arith) (omega arith) (omega arith)
 
           module _ {w5 o5 : List ℕ} {s5 : Step} (d5 : LowersExpr t (word-of (fields t) i 3) w4 o4 p s4 w5 o5 s5) where
-            at-end : Fine w5 p s5 × Room w5 p s5 0 2 0 × while-going (s5 .outcome) ((s .code ≤ s5 .code) × (s1 .code ≤ s5 .code) × (s2 .code + 2 ≤ s5 .code) × (0 < 256))
+            at-end : Fine w5 p s5 × Room w5 p s5 0 2 0 × while-going (s5 .outcome) ((s .code ≤ s5 .code) × (s1 .code ≤ s5 .code) × (s2 .code + 2 ≤ s5 .code) × (0 < 256) × (s .code ≤ s4 .code))
             unfolding test-and-jump
             at-end =
                 let n = for-size-of x in
@@ -97,16 +97,16 @@ module _ {t w : List ℕ} {p : Scope} {s : Step} {i : ℕ} (g : GivenStmt t w p 
                 let y = stand 0 2 0 (from (g .ready) ▹ d1 .does .moves ▹ d2 .does .moves ▹ d3 .moves ▹ m4 ▹ d5 .does .moves) (omega arith) (omega arith) (omega arith) (omega arith) in (
                   y .fine,
                   y .room,
-                  meanwhile (s5 .outcome) ((s .code ≤ s5 .code) × (s1 .code ≤ s5 .code) × (s2 .code + 2 ≤ s5 .code) × (0 < 256)) λ e.
+                  meanwhile (s5 .outcome) ((s .code ≤ s5 .code) × (s1 .code ≤ s5 .code) × (s2 .code + 2 ≤ s5 .code) × (0 < 256) × (s .code ≤ s4 .code)) λ e.
                       let l = adds d3 2 (λ c. twice (c .code) _ _) (m4 .back (d5 .does .moves .back e)) in
                       let l1 = d1 .does .moves .longer in
                       let l2 = d2 .does .moves .longer in
                       let l4 = m4 .longer in
                       let l5 = d5 .does .moves .longer in
-                      (omega arith, omega arith, omega arith, omega arith),
+                      (omega arith, omega arith, omega arith, omega arith, omega arith),
                 )
 
-            module _ {w6 : List ℕ} {s6 : Step} (d6 : Leaf w5 p s5 w6 p s6 (uses 2 0 0) (sure (end-loop (s .code) (s1 .code) (s2 .code) 0 (word-of (fields t) i 0)))) where
+            module _ {w6 : List ℕ} {s6 : Step} (d6 : Leaf w5 p s5 w6 p s6 (uses 2 0 0) (sure (end-loop (p .mode) (s .code) (s4 .code) (s1 .code) (s2 .code) 0 (word-of (fields t) i 0)))) where
               lowers : LowersStmt t i w o p s w6 o5 s6
               unfolding lower-expr end-loop
               lowers =
@@ -123,7 +123,7 @@ module _ {t w : List ℕ} {p : Scope} {s : Step} {i : ℕ} (g : GivenStmt t w p 
                   let a7 = next a6 (d5 .does) in
                   let a8 = next-leaf a7 d6 in
                   ends a8 (rw (x .is, initializer-is x _ refl)
-                  (for-chain _ _ _ _ _ _ _ _ (known _ _ _ ps) _ (a1 .runs) _ (known _ _ _ (a1 .protos)) _ (a2 .runs) _ (known _ _ _ (a2 .protos)) _ (a3 .runs) _ (a4 .runs) _ (a5 .runs) _ (a6 .runs) _ (a7 .runs) _ (a8 .runs)))
+                  (for-chain (p .mode) _ _ _ _ _ _ _ _ (known _ _ _ ps) _ (a1 .runs) _ (known _ _ _ (a1 .protos)) _ (a2 .runs) _ (known _ _ _ (a2 .protos)) _ (a3 .runs) _ (a4 .runs) _ (a5 .runs) _ (a6 .runs) _ (known _ _ _ (a6 .protos)) _ (a7 .runs) _ (a8 .runs)))
 
 -- what each function that is called asks and promises; a member of the cycle at a smaller measure
 abbrev pub claims : ℕ → lts.Claims

@@ -38,7 +38,7 @@ pub record Methoding (t w0 o0 : List ℕ) (p : Scope) (s0 : Step) (i from to mar
   pub low : from ≤ k
   pub done : ℕ
   pub size : done + size-funs (funs-at (fields t) i k to) ≡ size-funs (funs-at (fields t) i from to)
-  pub turning : Turning w0 o0 p s0 w o s (uses (8 * done) done 0) (fwd-code (lower-methods (funs-at (fields t) i from to) i mark op class (class + 1))) (fwd-code (lower-methods (funs-at (fields t) i k to) i mark op class (class + 1)))
+  pub turning : Turning w0 o0 p s0 w o s (uses (8 * done) done 0) (fwd-code (lower-methods (p .mode) (funs-at (fields t) i from to) i mark op class (class + 1))) (fwd-code (lower-methods (p .mode) (funs-at (fields t) i k to) i mark op class (class + 1)))
 
 module _ {t w0 : List ℕ} {p : Scope} {s0 : Step} {i f g op class : ℕ} (r : AskMethods t w0 p s0 i f g op class) (mark : ℕ) where
   start : {o0 : List ℕ} → Methoding t w0 o0 p s0 i f g mark op class w0 o0 s0 f

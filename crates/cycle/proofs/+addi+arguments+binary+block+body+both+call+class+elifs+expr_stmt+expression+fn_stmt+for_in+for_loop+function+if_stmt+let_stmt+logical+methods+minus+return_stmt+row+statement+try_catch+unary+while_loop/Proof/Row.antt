@@ -30,7 +30,7 @@ pub record Rowing (t w0 o0 : List ℕ) (p : Scope) (s0 : Step) (i from to : ℕ)
   pub low : from ≤ k
   pub done : ℕ
   pub size : done + size-stmts (stmts-at (fields t) i k to) ≡ size-stmts (stmts-at (fields t) i from to)
-  pub turning : Turning w0 o0 p s0 w o s (uses (8 * done) done 0) (fwd-row (lower-stmts (stmts-at (fields t) i from to))) (fwd-row (lower-stmts (stmts-at (fields t) i k to)))
+  pub turning : Turning w0 o0 p s0 w o s (uses (8 * done) done 0) (fwd-row (lower-stmts (p .mode) (stmts-at (fields t) i from to))) (fwd-row (lower-stmts (p .mode) (stmts-at (fields t) i k to)))
   pub small : Small s0 → Small s
 
 module _ {t w0 : List ℕ} {p : Scope} {s0 : Step} {i f g : ℕ} (r : AskRow t w0 p s0 i f g) where

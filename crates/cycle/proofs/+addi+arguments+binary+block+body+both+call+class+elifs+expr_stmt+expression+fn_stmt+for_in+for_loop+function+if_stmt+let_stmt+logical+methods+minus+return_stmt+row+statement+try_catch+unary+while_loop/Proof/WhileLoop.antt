@@ -49,7 +49,7 @@ module _ {t w : List ℕ} {p : Scope} {s : Step} {i : ℕ} (g : GivenStmt t w p 
       body = let n = while-size x in give-looped (from (g .ready) ▹ d1 .does .moves ▹ d2 .moves) (g .known) (x .body) (omega arith) (omega arith) (omega arith) (omega arith)
 
       module _ {w3 o3 : List ℕ} {s3 : Step} (d3 : LowersStmt t (word-of (fields t) i 2) w2 o1 (looped p) s2 w3 o3 s3) where
-        at-end : Fine w3 p s3 × Room w3 p s3 0 2 0 × while-going (s3 .outcome) ((s .code ≤ s3 .code) × (s .code ≤ s3 .code) × (s1 .code + 2 ≤ s3 .code) × (s1 .result < 256))
+        at-end : Fine w3 p s3 × Room w3 p s3 0 2 0 × while-going (s3 .outcome) ((s .code ≤ s3 .code) × (s .code ≤ s3 .code) × (s1 .code + 2 ≤ s3 .code) × (s1 .result < 256) × (s .code ≤ s .code))
         unfolding test-and-jump
         at-end =
             let n = while-size x in
@@ -57,16 +57,16 @@ module _ {t w : List ℕ} {p : Scope} {s : Step} {i : ℕ} (g : GivenStmt t w p 
             let y = stand 0 2 0 (from (g .ready) ▹ d1 .does .moves ▹ d2 .moves ▹ m3) (omega arith) (omega arith) (omega arith) (omega arith) in (
               y .fine,
               y .room,
-              meanwhile (s3 .outcome) ((s .code ≤ s3 .code) × (s .code ≤ s3 .code) × (s1 .code + 2 ≤ s3 .code) × (s1 .result < 256)) λ e.
+              meanwhile (s3 .outcome) ((s .code ≤ s3 .code) × (s .code ≤ s3 .code) × (s1 .code + 2 ≤ s3 .code) × (s1 .result < 256) × (s .code ≤ s .code)) λ e.
                   let e2 = m3 .back e in
                   let v1 = due (s1 .outcome) (d1 .small) (d2 .moves .back e2) in
                   let l = adds d2 2 (λ c. twice (c .code) _ _) e2 in
                   let a = d1 .does .moves .longer in
                   let b = m3 .longer in
-                  (omega arith, omega arith, omega arith, omega arith),
+                  (omega arith, omega arith, omega arith, omega arith, omega arith),
             )
 
-        module _ {w4 : List ℕ} {s4 : Step} (d4 : Leaf w3 p s3 w4 p s4 (uses 2 0 0) (sure (end-loop (s .code) (s .code) (s1 .code) (s1 .result) (word-of (fields t) i 0)))) where
+        module _ {w4 : List ℕ} {s4 : Step} (d4 : Leaf w3 p s3 w4 p s4 (uses 2 0 0) (sure (end-loop (p .mode) (s .code) (s .code) (s .code) (s1 .code) (s1 .result) (word-of (fields t) i 0)))) where
           lowers : LowersStmt t i w o p s w4 o3 s4
           unfolding lower-expr end-loop
           lowers =
@@ -80,7 +80,7 @@ module _ {t w : List ℕ} {p : Scope} {s : Step} {i : ℕ} (g : GivenStmt t w p 
               let a4 = next a3 (d3 .does) in
               let a5 = next-leaf a4 (loop-left p (d3 .does .moves .fine)) in
               let a6 = next-leaf a5 d4 in
-              ends a6 (rw (x .is) (while-chain _ _ _ _ _ _ (known _ _ _ ps) _ (a1 .runs) _ (known _ _ _ (a1 .protos)) _ (a2 .runs) _ (a3 .runs) _ (a4 .runs) _ (a5 .runs) _ (a6 .runs)))
+              ends a6 (rw (x .is) (while-chain (p .mode) _ _ _ _ _ _ (known _ _ _ ps) _ (a1 .runs) _ (known _ _ _ (a1 .protos)) _ (a2 .runs) _ (a3 .runs) _ (a4 .runs) _ (a5 .runs) _ (a6 .runs)))
 
 -- what each function that is called asks and promises; a member of the cycle at a smaller measure
 abbrev pub claims : ℕ → lts.Claims
