@@ -6,3 +6,4 @@ pub mod Turning
 pub mod Dropping
 pub mod Adding
 pub mod Ending
+pub mod Determined

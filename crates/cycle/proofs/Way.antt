@@ -25,7 +25,7 @@ use Rattle.store.proofs.Around.{loop-entered}
 use Rattle.code.specs.Words.{Bytes}
 use Rattle.parts.specs.Parts.{Small}
 use Rattle.leaves.specs.Node.{Lawful, OnNode, Gives}
-use Rattle.cycle.specs.Cycle.{Ready, AskExpr, AskStmt, AskRow, Lowers, branched}
+use Rattle.cycle.specs.Cycle.{Ready, AskExpr, AskStmt, AskRow, Lowers}
 
 -- ---- the way
 
@@ -207,10 +207,6 @@ module _ {t w w' : List ℕ} {p : Scope} {s r : Step} {k a b i : ℕ} {u : Cost}
       → 8 * size-stmts (stmts-at (fields t) i f g) + u .words ≤ 8 * k + a + u .words-back → size-stmts (stmts-at (fields t) i f g) + u .locals ≤ k + b + u .locals-back → u .names ≤ u .names-back → size-stmts (stmts-at (fields t) i f g) ≤ k
       → AskRow t w' p r i f g
   give-row f g d e l l' m z = record { ready = stand _ 0 0 x (omega (arith, l)) (omega (arith, l')) m z; known = h; ends = d; each = e }
-
--- a branch that opens no block is in the scope around it
-pub no-block : {p r : Scope} → r ≡ branched 0 p → r ≡ p
-no-block {p} e = let z : 0 + p .block ≡ p .block = omega arith in e ∙ ap (λ b. record { nodes = p .nodes; depth = p .depth; block = b; loops = p .loops; mode = p .mode }) z
 
 -- ---- the end of the way
 

@@ -173,7 +173,3 @@ first-words fs i =
 -- where the parts of an if end: its statements, its elifs, its else
 abbrev pub branches-of : List Field → ℕ → Branches
 branches-of fs i = record { thens = 3 + word-of fs i 2; elifs = 4 + word-of fs i 2 + word-of fs i (3 + word-of fs i 2); all = count-of fs i }
-
--- "If branches .. open no block": the scope of a branch that opens so many
-abbrev pub branched : ℕ → Scope → Scope
-branched blocks p = record { nodes = p .nodes; depth = p .depth; block = blocks + p .block; loops = p .loops; mode = p .mode }

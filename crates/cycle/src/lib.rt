@@ -22,7 +22,6 @@ use crate::reading::names_in;
 use crate::reading::payload_of;
 use crate::reading::tag_of;
 use crate::reading::words_of;
-use crate::scopes::in_branch;
 use crate::scopes::in_loop;
 use instruction::OpCode;
 use meaning::NO_MARK;
@@ -63,9 +62,6 @@ const CLASS_ST_METH: u32 = OpCode::ClassStMeth as u32;
 const ADDI: u32 = OpCode::Addi as u32;
 
 const SET_GLOBAL: u32 = OpCode::SetGlobal as u32;
-
-// "If branches and loop bodies open no block."
-const BRANCH_BLOCKS: usize = 0;
 
 const NO_NAME: usize = 65535;
 
@@ -321,7 +317,7 @@ fn return_stmt(
     code::end_return(work, value, scope, node, x.a)
 }
 
-// fn visit_if_stmt
+// fn visit_if_stmt: "if branches .. open no block"
 fn if_stmt(
     tree: &[u8],
     work: &mut [u32],
@@ -335,10 +331,9 @@ fn if_stmt(
 {
     let x = words_of(tree, work, scope, node);
     let ends = branches_of(tree, work, scope, node);
-    let inside = in_branch(scope, BRANCH_BLOCKS);
     let condition = expression(tree, work, out, step, scope, x.child1);
     let tested = code::test_and_jump(work, condition, scope, 0, x.a);
-    let then = row(tree, work, out, tested, inside, node, 3, ends.thens);
+    let then = row(tree, work, out, tested, scope, node, 3, ends.thens);
     let branch = code::end_branch(work, then, scope, condition.code, x.a);
     let others = elifs(
         tree,
@@ -350,7 +345,7 @@ fn if_stmt(
         ends.thens + 1,
         ends.elifs,
     );
-    let last = row(tree, work, out, others, inside, node, ends.elifs, ends.all);
+    let last = row(tree, work, out, others, scope, node, ends.elifs, ends.all);
     code::end_if(work, last, scope, step.code)
 }
 
@@ -369,7 +364,6 @@ fn elifs(
     ensures { λ r. ⌜ LowersElifs (now (tree .entry)) node from to (now (work .entry)) (now (out .entry)) scope step (now (work .exit)) (now (out .exit)) r ⌝ }
 {
     let payload = payload_of(tree, work, scope, node);
-    let inside = in_branch(scope, BRANCH_BLOCKS);
     let mut last = step;
     let mut k = from;
     while k < to {
@@ -378,7 +372,7 @@ fn elifs(
         let n = count_of(tree, work, scope, child);
         let condition = expression(tree, work, out, last, scope, x.child0);
         let tested = code::test_and_jump(work, condition, scope, 0, NO_MARK);
-        let then = row(tree, work, out, tested, inside, child, 1, n);
+        let then = row(tree, work, out, tested, scope, child, 1, n);
         last = code::end_branch(work, then, scope, condition.code, NO_MARK);
         k += 1;
     }

@@ -2,3 +2,4 @@
 pub mod Words
 pub mod Headers
 pub mod Allowed
+pub mod Determined

@@ -21,3 +21,4 @@ pub mod Upvalues
 pub mod Opening
 pub mod Functions
 pub mod Inside
+pub mod Determined

@@ -72,6 +72,17 @@ fn check_with(tree: &[u8], scratch: &mut [u32], work_len: usize) -> Outcome
     outcome
 }
 
+// The same in a large scratch of its own. Inlined, that would be a part of every caller's frame; a function that may call itself is not, so this one may: no file is so long that it does.
+fn check_large(tree: &[u8], work_len: usize, turns: usize) -> Outcome
+    ensures { λ r. ⌜ r ≡ checked (now (tree .entry)) «work_len» ⌝ }
+{
+    if 0 < turns {
+        check_large(tree, work_len, turns - 1);
+    }
+    let mut large = [0u32; 32768];
+    check_with(tree, &mut large, work_len)
+}
+
 // The same in scratch of its own: a small one for a short file, so that few words are made. A field takes three bytes at least.
 pub fn check(tree: &[u8], work_len: usize) -> Outcome
     ensures { λ r. ⌜ r ≡ checked (now (tree .entry)) «work_len» ⌝ }
@@ -80,8 +91,7 @@ pub fn check(tree: &[u8], work_len: usize) -> Outcome
         let mut small = [0u32; 4096];
         return check_with(tree, &mut small, work_len);
     }
-    let mut large = [0u32; 32768];
-    check_with(tree, &mut large, work_len)
+    check_large(tree, work_len, tree.len() / 0x8000_0000_0000_0000)
 }
 
 // The same. The scratch serves where it has a word for each field that there may be.

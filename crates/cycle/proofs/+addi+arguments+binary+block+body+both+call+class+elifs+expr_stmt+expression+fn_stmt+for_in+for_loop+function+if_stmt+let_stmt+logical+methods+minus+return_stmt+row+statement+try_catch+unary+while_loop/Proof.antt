@@ -256,7 +256,6 @@ pub +addi+arguments+binary+block+body+both+call+class+elifs+expr-stmt+expression
     elifs-proof.Inv-loop
     elifs-proof.μ-loop
     (elifs-proof.payload-of-requires t)
-    (elifs-proof.in-branch-requires t)
     (elifs-proof.loop-holds t)
     (elifs-proof.child-requires t)
     (elifs-proof.words-of-requires t)
@@ -379,7 +378,6 @@ pub +addi+arguments+binary+block+body+both+call+class+elifs+expr-stmt+expression
     if-stmt.Post
     (if-stmt-proof.words-of-requires t)
     (if-stmt-proof.branches-of-requires t)
-    (if-stmt-proof.in-branch-requires t)
     (if-stmt-proof.expression-requires t)
     (if-stmt-proof.test-and-jump-requires t)
     (if-stmt-proof.row-requires t)

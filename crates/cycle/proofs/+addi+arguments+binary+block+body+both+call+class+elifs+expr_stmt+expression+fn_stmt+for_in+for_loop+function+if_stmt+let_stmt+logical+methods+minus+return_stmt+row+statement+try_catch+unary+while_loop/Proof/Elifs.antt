@@ -8,7 +8,6 @@ use Rattle.code.proofs.end_branch.Reads as end-branch-reads
 use Rattle.code.proofs.test_and_jump.Reads as test-and-jump-reads
 use Rattle.cycle.proofs.reading.count_of.Reads as count-of-reads
 use Rattle.cycle.proofs.reading.payload_of.Reads as payload-of-reads
-use Rattle.cycle.proofs.scopes.in_branch.Reads as in-branch-reads
 use Rattle.cycle.proofs.reading.words_of.Reads as words-of-reads
 use Rattle.nodes.proofs.child.Reads as child-reads
 use Rattle.store.proofs.settle.Reads as settle-reads
@@ -18,7 +17,7 @@ use Rattle.meaning.specs.At.{elifs-at as elif-row}
 use Rattle.cycle.proofs.Nodes.{an-elif}
 use Rattle.cycle.proofs.Sizes.{elifs-size, elifs-size-none}
 use Rattle.cycle.proofs.Turns.{Turning, closed, none-turned, turned}
-use Rattle.cycle.proofs.Way.{_▹_, adds, arrive, fits, give-expr, give-row, meanwhile, next, next-leaf, no-block, readable, small, spends, stand, twice}
+use Rattle.cycle.proofs.Way.{_▹_, adds, arrive, fits, give-expr, give-row, meanwhile, next, next-leaf, readable, small, spends, stand, twice}
 use Rattle.cycle.specs.Cycle.{AskElifs, AskExpr, AskRow, LowersElifs, LowersExpr, LowersRow, Ready}
 use Rattle.forward.proofs.Chains.{elif-chain}
 use Rattle.forward.specs.Forward.{end-branch, fwd-code, sure, test-and-jump}
@@ -35,7 +34,7 @@ use Rattle.store.specs.Promise.{Leaf, Room, uses}
 use Rattle.store.specs.Store.{Fine, while-going, with-result}
 use Rattle.store.specs.declared.Scope.{Scope}
 use Rattle.store.specs.declared.Step.{Step}
-use lib.Dec.{lit<, lit≤}
+use lib.Dec.{lit<}
 use mathlib.Core.List.{List}
 use mathlib.Core.Path.{_∙_, _≡_}
 use native.Mathlib.Omega.{arith}
@@ -132,70 +131,67 @@ one-more h l = omega arith
 
 -- what each function that is called asks and promises; a member of the cycle at a smaller measure
 abbrev pub claims : ℕ → lts.Claims
-claims t = (payload-of-reads.Asked, payload-of-reads.Learnt, in-branch-reads.Asked, in-branch-reads.Learnt, child-reads.Asked, child-reads.Learnt, words-of-reads.Asked, words-of-reads.Learnt, count-of-reads.Asked, count-of-reads.Learnt, expression-below t, expression.Post, test-and-jump-reads.Asked, test-and-jump-reads.Learnt, row-below t, row.Post, end-branch-reads.Asked, end-branch-reads.Learnt, settle-reads.Asked, settle-reads.Learnt)
+claims t = (payload-of-reads.Asked, payload-of-reads.Learnt, child-reads.Asked, child-reads.Learnt, words-of-reads.Asked, words-of-reads.Learnt, count-of-reads.Asked, count-of-reads.Learnt, expression-below t, expression.Post, test-and-jump-reads.Asked, test-and-jump-reads.Learnt, row-below t, row.Post, end-branch-reads.Asked, end-branch-reads.Learnt, settle-reads.Asked, settle-reads.Learnt)
 
 abbrev pub Inv-loop : lts.InvT-loop
-Inv-loop tree work₀ out₀ scope node from to payload inside last₀ k₀ work out last k = Branching tree work₀ out₀ scope last₀ node from to work out last k
+Inv-loop tree work₀ out₀ scope node from to payload last₀ k₀ work out last k = Branching tree work₀ out₀ scope last₀ node from to work out last k
 
 abbrev pub μ-loop : lts.MeasureT-loop
-μ-loop tree work₀ out₀ scope node from to payload inside last₀ k₀ work out last k = to - k
+μ-loop tree work₀ out₀ scope node from to payload last₀ k₀ work out last k = to - k
 
 pub payload-of-requires : (t : ℕ) → lts.Need-payload-of-requires (claims t) (elifs-at t) elifs.Post Inv-loop μ-loop
 payload-of-requires t c κs = readable ((c .before .before .before .before) .pre .1 .ready) ((c .before .before .before .before) .pre .1 .known)
 
-pub in-branch-requires : (t : ℕ) → lts.Need-in-branch-requires (claims t) (elifs-at t) elifs.Post Inv-loop μ-loop
-in-branch-requires t c κs = let h = (c .before .before .before .before .before) .pre .1 .ready in (lit≤ tt, h .fine .sound .blocks, h .fine .sound .few)
-
 pub loop-holds : (t : ℕ) → lts.Need-loop-holds (claims t) (elifs-at t) elifs.Post Inv-loop μ-loop
-loop-holds t c = start ((c .before .before .before .before .before .before) .pre .1)
+loop-holds t c = start ((c .before .before .before .before .before) .pre .1)
 
 pub child-requires : (t : ℕ) → lts.Need-child-requires (claims t) (elifs-at t) elifs.Post Inv-loop μ-loop
-child-requires t c κs = rw ((c .before .before .before .payload-of) .ensures) (omega (arith, (c .loop-test) .taken, (c .before .before .before .before .before .before .before .before) .pre .1 .ends))
+child-requires t c κs = rw ((c .before .before .payload-of) .ensures) (omega (arith, (c .loop-test) .taken, (c .before .before .before .before .before .before .before) .pre .1 .ends))
 
 pub words-of-requires : (t : ℕ) → lts.Need-words-of-requires (claims t) (elifs-at t) elifs.Post Inv-loop μ-loop
 words-of-requires t c κs =
-    rw (rw ((c .before .before .before .before .before .payload-of) .ensures) at ((c .before .child) .ensures .0)) (readable (here ((c .before .before .before .before .before .before .before .before .before .before) .pre .1) ((c .before .before .before .loop) .inv)) (known-elif ((c .before .before .before .before .before .before .before .before .before .before) .pre .1) ((c .before .before .before .loop) .inv) ((c .before .before .loop-test) .taken)))
+    rw (rw ((c .before .before .before .before .payload-of) .ensures) at ((c .before .child) .ensures .0)) (readable (here ((c .before .before .before .before .before .before .before .before .before) .pre .1) ((c .before .before .before .loop) .inv)) (known-elif ((c .before .before .before .before .before .before .before .before .before) .pre .1) ((c .before .before .before .loop) .inv) ((c .before .before .loop-test) .taken)))
 
 pub count-of-requires : (t : ℕ) → lts.Need-count-of-requires (claims t) (elifs-at t) elifs.Post Inv-loop μ-loop
 count-of-requires t c κs =
-    rw (rw ((c .before .before .before .before .before .before .before .payload-of) .ensures) at ((c .before .before .before .child) .ensures .0)) (readable (here ((c .before .before .before .before .before .before .before .before .before .before .before .before) .pre .1) ((c .before .before .before .before .before .loop) .inv)) (known-elif ((c .before .before .before .before .before .before .before .before .before .before .before .before) .pre .1) ((c .before .before .before .before .before .loop) .inv) ((c .before .before .before .before .loop-test) .taken)))
+    rw (rw ((c .before .before .before .before .before .before .payload-of) .ensures) at ((c .before .before .before .child) .ensures .0)) (readable (here ((c .before .before .before .before .before .before .before .before .before .before .before) .pre .1) ((c .before .before .before .before .before .loop) .inv)) (known-elif ((c .before .before .before .before .before .before .before .before .before .before .before) .pre .1) ((c .before .before .before .before .before .loop) .inv) ((c .before .before .before .before .loop-test) .taken)))
 
 pub expression-requires : (t : ℕ) → lts.Need-expression-requires (claims t) (elifs-at t) elifs.Post Inv-loop μ-loop
 expression-requires t c κs =
-    let r = (c .before .before .before .before .before .before .before .before .before .before .before .before .before .before .before) .pre .1 in
+    let r = (c .before .before .before .before .before .before .before .before .before .before .before .before .before .before) .pre .1 in
     let v = (c .before .before .before .before .before .before .before .before .loop) .inv in
     let h = (c .before .before .before .before .before .before .before .loop-test) .taken in
-    let e = rw ((c .before .before .before .before .before .before .before .before .before .before .payload-of) .ensures) at ((c .before .before .before .before .before .before .child) .ensures .0) in
-    rw ((c .before .before .before .before .words-of) .ensures .0, e) (omega (arith, (c .before .before .before .before .before .before .before .before .before .before .before .before .before .before .before) .pre .0, below r v h .below, elif r v h .condition .below), condition r v h)
+    let e = rw ((c .before .before .before .before .before .before .before .before .before .payload-of) .ensures) at ((c .before .before .before .before .before .before .child) .ensures .0) in
+    rw ((c .before .before .before .before .words-of) .ensures .0, e) (omega (arith, (c .before .before .before .before .before .before .before .before .before .before .before .before .before .before) .pre .0, below r v h .below, elif r v h .condition .below), condition r v h)
 
 pub test-and-jump-requires : (t : ℕ) → lts.Need-test-and-jump-requires (claims t) (elifs-at t) elifs.Post Inv-loop μ-loop
 test-and-jump-requires t c κs =
-    let e = rw ((c .before .before .before .before .before .before .before .before .before .before .before .before .before .before .before .before .payload-of) .ensures) at ((c .before .before .before .before .before .before .before .before .before .before .before .before .child) .ensures .0) in
-    at-test ((c .before .before .before .before .before .before .before .before .before .before .before .before .before .before .before .before .before .before .before .before .before) .pre .1) ((c .before .before .before .before .before .before .before .before .before .before .before .before .before .before .loop) .inv) ((c .before .before .before .before .before .before .before .before .before .before .before .before .before .loop-test) .taken) (rw ((c .before .before .before .before .before .before .before .before .before .before .words-of) .ensures .0, e) at ((c .before .before .before .before .before .expression) .ensures))
+    let e = rw ((c .before .before .before .before .before .before .before .before .before .before .before .before .before .before .before .payload-of) .ensures) at ((c .before .before .before .before .before .before .before .before .before .before .before .before .child) .ensures .0) in
+    at-test ((c .before .before .before .before .before .before .before .before .before .before .before .before .before .before .before .before .before .before .before .before) .pre .1) ((c .before .before .before .before .before .before .before .before .before .before .before .before .before .before .loop) .inv) ((c .before .before .before .before .before .before .before .before .before .before .before .before .before .loop-test) .taken) (rw ((c .before .before .before .before .before .before .before .before .before .before .words-of) .ensures .0, e) at ((c .before .before .before .before .before .expression) .ensures))
 
 pub row-requires : (t : ℕ) → lts.Need-row-requires (claims t) (elifs-at t) elifs.Post Inv-loop μ-loop
 row-requires t c κs =
-    let r = (c .before .before .before .before .before .before .before .before .before .before .before .before .before .before .before .before .before .before .before .before .before .before .before .before .before .before) .pre .1 in
+    let r = (c .before .before .before .before .before .before .before .before .before .before .before .before .before .before .before .before .before .before .before .before .before .before .before .before .before) .pre .1 in
     let v = (c .before .before .before .before .before .before .before .before .before .before .before .before .before .before .before .before .before .before .before .loop) .inv in
     let h = (c .before .before .before .before .before .before .before .before .before .before .before .before .before .before .before .before .before .before .loop-test) .taken in
-    let e = rw ((c .before .before .before .before .before .before .before .before .before .before .before .before .before .before .before .before .before .before .before .before .before .payload-of) .ensures) at ((c .before .before .before .before .before .before .before .before .before .before .before .before .before .before .before .before .before .child) .ensures .0) in
-    rw (no-block ((c .before .before .before .before .before .before .before .before .before .before .before .before .before .before .before .before .before .before .before .before .in-branch) .ensures), (c .before .before .before .before .before .before .before .before .before .before .before .before .before .count-of) .ensures .0, e) (omega (arith, (c .before .before .before .before .before .before .before .before .before .before .before .before .before .before .before .before .before .before .before .before .before .before .before .before .before .before) .pre .0, below r v h .below), thens r v h (rw ((c .before .before .before .before .before .before .before .before .before .before .before .before .before .before .before .words-of) .ensures .0, e) at ((c .before .before .before .before .before .before .before .before .before .before .expression) .ensures)) ((c .before .before .before .before .test-and-jump) .ensures))
+    let e = rw ((c .before .before .before .before .before .before .before .before .before .before .before .before .before .before .before .before .before .before .before .before .payload-of) .ensures) at ((c .before .before .before .before .before .before .before .before .before .before .before .before .before .before .before .before .before .child) .ensures .0) in
+    rw ((c .before .before .before .before .before .before .before .before .before .before .before .before .before .count-of) .ensures .0, e) (omega (arith, (c .before .before .before .before .before .before .before .before .before .before .before .before .before .before .before .before .before .before .before .before .before .before .before .before .before) .pre .0, below r v h .below), thens r v h (rw ((c .before .before .before .before .before .before .before .before .before .before .before .before .before .before .before .words-of) .ensures .0, e) at ((c .before .before .before .before .before .before .before .before .before .before .expression) .ensures)) ((c .before .before .before .before .test-and-jump) .ensures))
 
 pub end-branch-requires : (t : ℕ) → lts.Need-end-branch-requires (claims t) (elifs-at t) elifs.Post Inv-loop μ-loop
 end-branch-requires t c κs =
-    let e = rw ((c .before .before .before .before .before .before .before .before .before .before .before .before .before .before .before .before .before .before .before .before .before .before .before .before .before .before .before .payload-of) .ensures) at ((c .before .before .before .before .before .before .before .before .before .before .before .before .before .before .before .before .before .before .before .before .before .before .before .child) .ensures .0) in
-    at-end ((c .before .before .before .before .before .before .before .before .before .before .before .before .before .before .before .before .before .before .before .before .before .before .before .before .before .before .before .before .before .before .before .before) .pre .1) ((c .before .before .before .before .before .before .before .before .before .before .before .before .before .before .before .before .before .before .before .before .before .before .before .before .before .loop) .inv) ((c .before .before .before .before .before .before .before .before .before .before .before .before .before .before .before .before .before .before .before .before .before .before .before .before .loop-test) .taken) (rw ((c .before .before .before .before .before .before .before .before .before .before .before .before .before .before .before .before .before .before .before .before .before .words-of) .ensures .0, e) at ((c .before .before .before .before .before .before .before .before .before .before .before .before .before .before .before .before .expression) .ensures)) ((c .before .before .before .before .before .before .before .before .before .before .test-and-jump) .ensures) (rw (no-block ((c .before .before .before .before .before .before .before .before .before .before .before .before .before .before .before .before .before .before .before .before .before .before .before .before .before .before .in-branch) .ensures), (c .before .before .before .before .before .before .before .before .before .before .before .before .before .before .before .before .before .before .before .count-of) .ensures .0, e) at ((c .before .before .before .before .before .row) .ensures))
+    let e = rw ((c .before .before .before .before .before .before .before .before .before .before .before .before .before .before .before .before .before .before .before .before .before .before .before .before .before .before .payload-of) .ensures) at ((c .before .before .before .before .before .before .before .before .before .before .before .before .before .before .before .before .before .before .before .before .before .before .before .child) .ensures .0) in
+    at-end ((c .before .before .before .before .before .before .before .before .before .before .before .before .before .before .before .before .before .before .before .before .before .before .before .before .before .before .before .before .before .before .before) .pre .1) ((c .before .before .before .before .before .before .before .before .before .before .before .before .before .before .before .before .before .before .before .before .before .before .before .before .before .loop) .inv) ((c .before .before .before .before .before .before .before .before .before .before .before .before .before .before .before .before .before .before .before .before .before .before .before .before .loop-test) .taken) (rw ((c .before .before .before .before .before .before .before .before .before .before .before .before .before .before .before .before .before .before .before .before .before .words-of) .ensures .0, e) at ((c .before .before .before .before .before .before .before .before .before .before .before .before .before .before .before .before .expression) .ensures)) ((c .before .before .before .before .before .before .before .before .before .before .test-and-jump) .ensures) (rw ((c .before .before .before .before .before .before .before .before .before .before .before .before .before .before .before .before .before .before .before .count-of) .ensures .0, e) at ((c .before .before .before .before .before .row) .ensures))
 
 pub add-k : (t : ℕ) → lts.Need-add-k (claims t) (elifs-at t) elifs.Post Inv-loop μ-loop
-add-k t c = record { fits = one-more ((c .before .before .before .before .before .before .before .before .before .before .before .before .before .before .before .before .before .before .before .before .before .before .before .before .before .before .before .loop-test) .taken) ((c .before .before .before .before .before .before .before .before .before .before .before .before .before .before .before .before .before .before .before .before .before .before .before .before .before .before .before .before .before .before .before .before .before .before .before) .fits .to .fits) }
+add-k t c = record { fits = one-more ((c .before .before .before .before .before .before .before .before .before .before .before .before .before .before .before .before .before .before .before .before .before .before .before .before .before .before .before .loop-test) .taken) ((c .before .before .before .before .before .before .before .before .before .before .before .before .before .before .before .before .before .before .before .before .before .before .before .before .before .before .before .before .before .before .before .before .before .before) .fits .to .fits) }
 
 pub loop-less : (t : ℕ) → lts.Need-loop-less (claims t) (elifs-at t) elifs.Post Inv-loop μ-loop
 loop-less t c = omega (arith, (c .before .before .before .before .before .before .before .before .before .before .before .before .before .before .before .before .before .before .before .before .before .before .before .before .before .before .before .loop-test) .taken)
 
 pub loop-again : (t : ℕ) → lts.Need-loop-again (claims t) (elifs-at t) elifs.Post Inv-loop μ-loop
 loop-again t c =
-    let e = rw ((c .before .before .before .before .before .before .before .before .before .before .before .before .before .before .before .before .before .before .before .before .before .before .before .before .before .before .before .before .before .before .payload-of) .ensures) at ((c .before .before .before .before .before .before .before .before .before .before .before .before .before .before .before .before .before .before .before .before .before .before .before .before .before .before .child) .ensures .0) in
-    turn ((c .before .before .before .before .before .before .before .before .before .before .before .before .before .before .before .before .before .before .before .before .before .before .before .before .before .before .before .before .before .before .before .before .before .before .before) .pre .1) ((c .before .before .before .before .before .before .before .before .before .before .before .before .before .before .before .before .before .before .before .before .before .before .before .before .before .before .before .before .loop) .inv) ((c .before .before .before .before .before .before .before .before .before .before .before .before .before .before .before .before .before .before .before .before .before .before .before .before .before .before .before .loop-test) .taken) (rw ((c .before .before .before .before .before .before .before .before .before .before .before .before .before .before .before .before .before .before .before .before .before .before .before .before .words-of) .ensures .0, e) at ((c .before .before .before .before .before .before .before .before .before .before .before .before .before .before .before .before .before .before .before .expression) .ensures)) ((c .before .before .before .before .before .before .before .before .before .before .before .before .before .test-and-jump) .ensures) (rw (no-block ((c .before .before .before .before .before .before .before .before .before .before .before .before .before .before .before .before .before .before .before .before .before .before .before .before .before .before .before .before .before .in-branch) .ensures), (c .before .before .before .before .before .before .before .before .before .before .before .before .before .before .before .before .before .before .before .before .before .before .count-of) .ensures .0, e) at ((c .before .before .before .before .before .before .before .before .row) .ensures)) ((c .before .before .end-branch) .ensures)
+    let e = rw ((c .before .before .before .before .before .before .before .before .before .before .before .before .before .before .before .before .before .before .before .before .before .before .before .before .before .before .before .before .before .payload-of) .ensures) at ((c .before .before .before .before .before .before .before .before .before .before .before .before .before .before .before .before .before .before .before .before .before .before .before .before .before .before .child) .ensures .0) in
+    turn ((c .before .before .before .before .before .before .before .before .before .before .before .before .before .before .before .before .before .before .before .before .before .before .before .before .before .before .before .before .before .before .before .before .before .before) .pre .1) ((c .before .before .before .before .before .before .before .before .before .before .before .before .before .before .before .before .before .before .before .before .before .before .before .before .before .before .before .before .loop) .inv) ((c .before .before .before .before .before .before .before .before .before .before .before .before .before .before .before .before .before .before .before .before .before .before .before .before .before .before .before .loop-test) .taken) (rw ((c .before .before .before .before .before .before .before .before .before .before .before .before .before .before .before .before .before .before .before .before .before .before .before .before .words-of) .ensures .0, e) at ((c .before .before .before .before .before .before .before .before .before .before .before .before .before .before .before .before .before .before .before .expression) .ensures)) ((c .before .before .before .before .before .before .before .before .before .before .before .before .before .test-and-jump) .ensures) (rw ((c .before .before .before .before .before .before .before .before .before .before .before .before .before .before .before .before .before .before .before .before .before .before .count-of) .ensures .0, e) at ((c .before .before .before .before .before .before .before .before .row) .ensures)) ((c .before .before .end-branch) .ensures)
 
 pub settle-requires : (t : ℕ) → lts.Need-settle-requires (claims t) (elifs-at t) elifs.Post Inv-loop μ-loop
 settle-requires t c κs = tt
@@ -207,4 +203,4 @@ pub same-length-2 : (t : ℕ) → lts.Need-same-length-2 (claims t) (elifs-at t)
 same-length-2 t c = (c .before .before .loop) .inv .turning .same
 
 pub returns : (t : ℕ) → lts.Need-returns (claims t) (elifs-at t) elifs.Post Inv-loop μ-loop
-returns t c = rw ((c .settle) .ensures) (lowers ((c .before .before .before .before .before .before .before .before .before) .pre .1) ((c .before .before .loop) .inv) ((c .before .loop-test) .left))
+returns t c = rw ((c .settle) .ensures) (lowers ((c .before .before .before .before .before .before .before .before) .pre .1) ((c .before .before .loop) .inv) ((c .before .loop-test) .left))

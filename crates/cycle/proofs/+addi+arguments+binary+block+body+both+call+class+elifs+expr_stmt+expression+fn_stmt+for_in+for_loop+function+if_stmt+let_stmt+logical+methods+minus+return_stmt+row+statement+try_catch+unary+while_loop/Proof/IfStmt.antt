@@ -9,12 +9,11 @@ use Rattle.code.proofs.end_branch.Reads as end-branch-reads
 use Rattle.code.proofs.end_if.Reads as end-if-reads
 use Rattle.code.proofs.test_and_jump.Reads as test-and-jump-reads
 use Rattle.cycle.proofs.reading.branches_of.Reads as branches-of-reads
-use Rattle.cycle.proofs.scopes.in_branch.Reads as in-branch-reads
 use Rattle.cycle.proofs.reading.words_of.Reads as words-of-reads
 use Rattle.cycle.proofs.+addi+arguments+binary+block+body+both+call+class+elifs+expr_stmt+expression+fn_stmt+for_in+for_loop+function+if_stmt+let_stmt+logical+methods+minus+return_stmt+row+statement+try_catch+unary+while_loop.Proof.Order.{elifs-below, expression-below, if-stmt-at, row-below}
 use Rattle.cycle.proofs.Nodes.{an-if}
 use Rattle.cycle.proofs.Sizes.{if-size}
-use Rattle.cycle.proofs.Way.{_▹_, adds, arrive, ends, from, give-expr, give-row, meanwhile, next, next-leaf, no-block, readable, sets, stand, twice}
+use Rattle.cycle.proofs.Way.{_▹_, adds, arrive, ends, from, give-expr, give-row, meanwhile, next, next-leaf, readable, sets, stand, twice}
 use Rattle.cycle.specs.Cycle.{AskElifs, AskExpr, AskRow, GivenStmt, LowersElifs, LowersExpr, LowersRow, LowersStmt}
 use Rattle.forward.proofs.Chains.{if-chain}
 use Rattle.forward.specs.Forward.{end-branch, end-if, sure, test-and-jump}
@@ -29,7 +28,7 @@ use Rattle.store.specs.Store.{Fine, while-going}
 use Rattle.store.specs.declared.Scope.{Scope}
 use Rattle.store.specs.declared.Step.{Step}
 use denote.Ref.{now}
-use lib.Dec.{lit<, lit≤}
+use lib.Dec.{lit<}
 use mathlib.Core.List.{List}
 use mathlib.Core.Path.{_∙_, _≡_, refl}
 use native.Mathlib.Omega.{arith}
@@ -107,7 +106,7 @@ after-thens n = omega arith
 
 -- what each function that is called asks and promises; a member of the cycle at a smaller measure
 abbrev pub claims : ℕ → lts.Claims
-claims t = (words-of-reads.Asked, words-of-reads.Learnt, branches-of-reads.Asked, branches-of-reads.Learnt, in-branch-reads.Asked, in-branch-reads.Learnt, expression-below t, expression.Post, test-and-jump-reads.Asked, test-and-jump-reads.Learnt, row-below t, row.Post, end-branch-reads.Asked, end-branch-reads.Learnt, elifs-below t, elifs.Post, end-if-reads.Asked, end-if-reads.Learnt)
+claims t = (words-of-reads.Asked, words-of-reads.Learnt, branches-of-reads.Asked, branches-of-reads.Learnt, expression-below t, expression.Post, test-and-jump-reads.Asked, test-and-jump-reads.Learnt, row-below t, row.Post, end-branch-reads.Asked, end-branch-reads.Learnt, elifs-below t, elifs.Post, end-if-reads.Asked, end-if-reads.Learnt)
 
 pub words-of-requires : (t : ℕ) → lts.Need-words-of-requires (claims t) (if-stmt-at t) if-stmt.Post
 words-of-requires t c κs = readable ((c .before .before .before .before) .pre .1 .0 .ready) ((c .before .before .before .before) .pre .1 .0 .known)
@@ -115,61 +114,58 @@ words-of-requires t c κs = readable ((c .before .before .before .before) .pre .
 pub branches-of-requires : (t : ℕ) → lts.Need-branches-of-requires (claims t) (if-stmt-at t) if-stmt.Post
 branches-of-requires t c κs = readable ((c .before .before .before .before .before .before) .pre .1 .0 .ready) ((c .before .before .before .before .before .before) .pre .1 .0 .known)
 
-pub in-branch-requires : (t : ℕ) → lts.Need-in-branch-requires (claims t) (if-stmt-at t) if-stmt.Post
-in-branch-requires t c κs = let h = (c .before .before .before .before .before .before .before) .pre .1 .0 .ready in (lit≤ tt, h .fine .sound .blocks, h .fine .sound .few)
-
 pub expression-requires : (t : ℕ) → lts.Need-expression-requires (claims t) (if-stmt-at t) if-stmt.Post
 expression-requires t c κs =
-    let g = (c .before .before .before .before .before .before .before .before .before .before) .pre .1 .0 in
-    let x = an-if (g .ready .lawful) (g .known) ((c .before .before .before .before .before .before .before .before .before .before) .pre .1 .1) in
-    rw ((c .before .before .before .before .before .words-of) .ensures .0) (omega (arith, (c .before .before .before .before .before .before .before .before .before .before) .pre .0, x .condition .below), condition g x)
+    let g = (c .before .before .before .before .before .before .before .before .before) .pre .1 .0 in
+    let x = an-if (g .ready .lawful) (g .known) ((c .before .before .before .before .before .before .before .before .before) .pre .1 .1) in
+    rw ((c .before .before .before .before .words-of) .ensures .0) (omega (arith, (c .before .before .before .before .before .before .before .before .before) .pre .0, x .condition .below), condition g x)
 
 pub test-and-jump-requires : (t : ℕ) → lts.Need-test-and-jump-requires (claims t) (if-stmt-at t) if-stmt.Post
 test-and-jump-requires t c κs =
-    let g = (c .before .before .before .before .before .before .before .before .before .before .before .before .before .before .before .before) .pre .1 .0 in
-    at-test g (an-if (g .ready .lawful) (g .known) ((c .before .before .before .before .before .before .before .before .before .before .before .before .before .before .before .before) .pre .1 .1)) (rw ((c .before .before .before .before .before .before .before .before .before .before .before .words-of) .ensures .0) at ((c .before .before .before .before .before .expression) .ensures))
+    let g = (c .before .before .before .before .before .before .before .before .before .before .before .before .before .before .before) .pre .1 .0 in
+    at-test g (an-if (g .ready .lawful) (g .known) ((c .before .before .before .before .before .before .before .before .before .before .before .before .before .before .before) .pre .1 .1)) (rw ((c .before .before .before .before .before .before .before .before .before .before .words-of) .ensures .0) at ((c .before .before .before .before .before .expression) .ensures))
 
 pub row-requires : (t : ℕ) → lts.Need-row-requires (claims t) (if-stmt-at t) if-stmt.Post
 row-requires t c κs =
-    let g = (c .before .before .before .before .before .before .before .before .before .before .before .before .before .before .before .before .before .before .before .before .before) .pre .1 .0 in
-    let e = (c .before .before .before .before .before .before .before .before .before .before .before .before .before .before .before .before .words-of) .ensures .0 in
-    rw (no-block ((c .before .before .before .before .before .before .before .before .before .before .before .before .before .in-branch) .ensures), (c .before .before .before .before .before .before .before .before .before .before .before .before .before .before .branches-of) .ensures .0) (omega (arith, (c .before .before .before .before .before .before .before .before .before .before .before .before .before .before .before .before .before .before .before .before .before) .pre .0), thens g (an-if (g .ready .lawful) (g .known) ((c .before .before .before .before .before .before .before .before .before .before .before .before .before .before .before .before .before .before .before .before .before) .pre .1 .1)) (rw e at ((c .before .before .before .before .before .before .before .before .before .before .expression) .ensures)) (rw e at ((c .before .before .before .before .test-and-jump) .ensures)))
+    let g = (c .before .before .before .before .before .before .before .before .before .before .before .before .before .before .before .before .before .before .before .before) .pre .1 .0 in
+    let e = (c .before .before .before .before .before .before .before .before .before .before .before .before .before .before .before .words-of) .ensures .0 in
+    rw ((c .before .before .before .before .before .before .before .before .before .before .before .before .before .branches-of) .ensures .0) (omega (arith, (c .before .before .before .before .before .before .before .before .before .before .before .before .before .before .before .before .before .before .before .before) .pre .0), thens g (an-if (g .ready .lawful) (g .known) ((c .before .before .before .before .before .before .before .before .before .before .before .before .before .before .before .before .before .before .before .before) .pre .1 .1)) (rw e at ((c .before .before .before .before .before .before .before .before .before .before .expression) .ensures)) (rw e at ((c .before .before .before .before .test-and-jump) .ensures)))
 
 pub end-branch-requires : (t : ℕ) → lts.Need-end-branch-requires (claims t) (if-stmt-at t) if-stmt.Post
 end-branch-requires t c κs =
-    let g = (c .before .before .before .before .before .before .before .before .before .before .before .before .before .before .before .before .before .before .before .before .before .before .before .before .before .before .before) .pre .1 .0 in
-    let e = (c .before .before .before .before .before .before .before .before .before .before .before .before .before .before .before .before .before .before .before .before .before .before .words-of) .ensures .0 in
-    at-branch g (an-if (g .ready .lawful) (g .known) ((c .before .before .before .before .before .before .before .before .before .before .before .before .before .before .before .before .before .before .before .before .before .before .before .before .before .before .before) .pre .1 .1)) (rw e at ((c .before .before .before .before .before .before .before .before .before .before .before .before .before .before .before .before .expression) .ensures)) (rw e at ((c .before .before .before .before .before .before .before .before .before .before .test-and-jump) .ensures)) (rw (no-block ((c .before .before .before .before .before .before .before .before .before .before .before .before .before .before .before .before .before .before .before .in-branch) .ensures), (c .before .before .before .before .before .before .before .before .before .before .before .before .before .before .before .before .before .before .before .before .branches-of) .ensures .0) at ((c .before .before .before .before .before .row) .ensures))
+    let g = (c .before .before .before .before .before .before .before .before .before .before .before .before .before .before .before .before .before .before .before .before .before .before .before .before .before .before) .pre .1 .0 in
+    let e = (c .before .before .before .before .before .before .before .before .before .before .before .before .before .before .before .before .before .before .before .before .before .words-of) .ensures .0 in
+    at-branch g (an-if (g .ready .lawful) (g .known) ((c .before .before .before .before .before .before .before .before .before .before .before .before .before .before .before .before .before .before .before .before .before .before .before .before .before .before) .pre .1 .1)) (rw e at ((c .before .before .before .before .before .before .before .before .before .before .before .before .before .before .before .before .expression) .ensures)) (rw e at ((c .before .before .before .before .before .before .before .before .before .before .test-and-jump) .ensures)) (rw ((c .before .before .before .before .before .before .before .before .before .before .before .before .before .before .before .before .before .before .before .branches-of) .ensures .0) at ((c .before .before .before .before .before .row) .ensures))
 
 pub add-elifs : (t : ℕ) → lts.Need-add-elifs (claims t) (if-stmt-at t) if-stmt.Post
-add-elifs t c = omega (arith, (c .before .before .before .before .before .before .before .before .before .before .before .before .before .before .before .before .before .before .before .before .before .before .before .before .before .before .branches-of) .ensures .1)
+add-elifs t c = omega (arith, (c .before .before .before .before .before .before .before .before .before .before .before .before .before .before .before .before .before .before .before .before .before .before .before .before .before .branches-of) .ensures .1)
 
 pub elifs-requires : (t : ℕ) → lts.Need-elifs-requires (claims t) (if-stmt-at t) if-stmt.Post
 elifs-requires t c κs =
-    let g = (c .before .before .before .before .before .before .before .before .before .before .before .before .before .before .before .before .before .before .before .before .before .before .before .before .before .before .before .before .before .before .before .before .before) .pre .1 .0 in
-    let e = (c .before .before .before .before .before .before .before .before .before .before .before .before .before .before .before .before .before .before .before .before .before .before .before .before .before .before .before .before .words-of) .ensures .0 in
-    let b = (c .before .before .before .before .before .before .before .before .before .before .before .before .before .before .before .before .before .before .before .before .before .before .before .before .before .before .branches-of) .ensures .0 in
-    rw (b, after-thens (word-of (fields (now ((c .before .before .before .before .before .before .before .before .before .before .before .before .before .before .before .before .before .before .before .before .before .before .before .before .before .before .before .before .before .before .before .before .before) .args .tree))) ((c .before .before .before .before .before .before .before .before .before .before .before .before .before .before .before .before .before .before .before .before .before .before .before .before .before .before .before .before .before .before .before .before .before) .args .node) 2))
-    (omega (arith, (c .before .before .before .before .before .before .before .before .before .before .before .before .before .before .before .before .before .before .before .before .before .before .before .before .before .before .before .before .before .before .before .before .before) .pre .0), others g (an-if (g .ready .lawful) (g .known) ((c .before .before .before .before .before .before .before .before .before .before .before .before .before .before .before .before .before .before .before .before .before .before .before .before .before .before .before .before .before .before .before .before .before) .pre .1 .1)) (rw e at ((c .before .before .before .before .before .before .before .before .before .before .before .before .before .before .before .before .before .before .before .before .before .before .expression) .ensures)) (rw e at ((c .before .before .before .before .before .before .before .before .before .before .before .before .before .before .before .before .test-and-jump) .ensures)) (rw (no-block ((c .before .before .before .before .before .before .before .before .before .before .before .before .before .before .before .before .before .before .before .before .before .before .before .before .before .in-branch) .ensures), b) at ((c .before .before .before .before .before .before .before .before .before .before .before .row) .ensures)) (rw e at ((c .before .before .before .before .before .end-branch) .ensures)))
+    let g = (c .before .before .before .before .before .before .before .before .before .before .before .before .before .before .before .before .before .before .before .before .before .before .before .before .before .before .before .before .before .before .before .before) .pre .1 .0 in
+    let e = (c .before .before .before .before .before .before .before .before .before .before .before .before .before .before .before .before .before .before .before .before .before .before .before .before .before .before .before .words-of) .ensures .0 in
+    let b = (c .before .before .before .before .before .before .before .before .before .before .before .before .before .before .before .before .before .before .before .before .before .before .before .before .before .branches-of) .ensures .0 in
+    rw (b, after-thens (word-of (fields (now ((c .before .before .before .before .before .before .before .before .before .before .before .before .before .before .before .before .before .before .before .before .before .before .before .before .before .before .before .before .before .before .before .before) .args .tree))) ((c .before .before .before .before .before .before .before .before .before .before .before .before .before .before .before .before .before .before .before .before .before .before .before .before .before .before .before .before .before .before .before .before) .args .node) 2))
+    (omega (arith, (c .before .before .before .before .before .before .before .before .before .before .before .before .before .before .before .before .before .before .before .before .before .before .before .before .before .before .before .before .before .before .before .before) .pre .0), others g (an-if (g .ready .lawful) (g .known) ((c .before .before .before .before .before .before .before .before .before .before .before .before .before .before .before .before .before .before .before .before .before .before .before .before .before .before .before .before .before .before .before .before) .pre .1 .1)) (rw e at ((c .before .before .before .before .before .before .before .before .before .before .before .before .before .before .before .before .before .before .before .before .before .before .expression) .ensures)) (rw e at ((c .before .before .before .before .before .before .before .before .before .before .before .before .before .before .before .before .test-and-jump) .ensures)) (rw (b) at ((c .before .before .before .before .before .before .before .before .before .before .before .row) .ensures)) (rw e at ((c .before .before .before .before .before .end-branch) .ensures)))
 
 pub row-requires-2 : (t : ℕ) → lts.Need-row-requires-2 (claims t) (if-stmt-at t) if-stmt.Post
 row-requires-2 t c κs =
-    let g = (c .before .before .before .before .before .before .before .before .before .before .before .before .before .before .before .before .before .before .before .before .before .before .before .before .before .before .before .before .before .before .before .before .before .before .before .before .before .before .before .before) .pre .1 .0 in
-    let e = (c .before .before .before .before .before .before .before .before .before .before .before .before .before .before .before .before .before .before .before .before .before .before .before .before .before .before .before .before .before .before .before .before .before .before .before .words-of) .ensures .0 in
-    let b = (c .before .before .before .before .before .before .before .before .before .before .before .before .before .before .before .before .before .before .before .before .before .before .before .before .before .before .before .before .before .before .before .before .before .branches-of) .ensures .0 in
-    rw (no-block ((c .before .before .before .before .before .before .before .before .before .before .before .before .before .before .before .before .before .before .before .before .before .before .before .before .before .before .before .before .before .before .before .before .in-branch) .ensures), b) (
-      omega (arith, (c .before .before .before .before .before .before .before .before .before .before .before .before .before .before .before .before .before .before .before .before .before .before .before .before .before .before .before .before .before .before .before .before .before .before .before .before .before .before .before .before) .pre .0),
-      elses g (an-if (g .ready .lawful) (g .known) ((c .before .before .before .before .before .before .before .before .before .before .before .before .before .before .before .before .before .before .before .before .before .before .before .before .before .before .before .before .before .before .before .before .before .before .before .before .before .before .before .before) .pre .1 .1)) (rw e at ((c .before .before .before .before .before .before .before .before .before .before .before .before .before .before .before .before .before .before .before .before .before .before .before .before .before .before .before .before .before .expression) .ensures)) (rw e at ((c .before .before .before .before .before .before .before .before .before .before .before .before .before .before .before .before .before .before .before .before .before .before .before .test-and-jump) .ensures)) (rw (no-block ((c .before .before .before .before .before .before .before .before .before .before .before .before .before .before .before .before .before .before .before .before .before .before .before .before .before .before .before .before .before .before .before .before .in-branch) .ensures), b) at ((c .before .before .before .before .before .before .before .before .before .before .before .before .before .before .before .before .before .before .row) .ensures)) (rw e at ((c .before .before .before .before .before .before .before .before .before .before .before .before .end-branch) .ensures))
-          (rw (b, after-thens (word-of (fields (now ((c .before .before .before .before .before .before .before .before .before .before .before .before .before .before .before .before .before .before .before .before .before .before .before .before .before .before .before .before .before .before .before .before .before .before .before .before .before .before .before .before) .args .tree))) ((c .before .before .before .before .before .before .before .before .before .before .before .before .before .before .before .before .before .before .before .before .before .before .before .before .before .before .before .before .before .before .before .before .before .before .before .before .before .before .before .before) .args .node) 2)) at ((c .before .before .before .before .before .before .elifs) .ensures)),
+    let g = (c .before .before .before .before .before .before .before .before .before .before .before .before .before .before .before .before .before .before .before .before .before .before .before .before .before .before .before .before .before .before .before .before .before .before .before .before .before .before .before) .pre .1 .0 in
+    let e = (c .before .before .before .before .before .before .before .before .before .before .before .before .before .before .before .before .before .before .before .before .before .before .before .before .before .before .before .before .before .before .before .before .before .before .words-of) .ensures .0 in
+    let b = (c .before .before .before .before .before .before .before .before .before .before .before .before .before .before .before .before .before .before .before .before .before .before .before .before .before .before .before .before .before .before .before .before .branches-of) .ensures .0 in
+    rw (b) (
+      omega (arith, (c .before .before .before .before .before .before .before .before .before .before .before .before .before .before .before .before .before .before .before .before .before .before .before .before .before .before .before .before .before .before .before .before .before .before .before .before .before .before .before) .pre .0),
+      elses g (an-if (g .ready .lawful) (g .known) ((c .before .before .before .before .before .before .before .before .before .before .before .before .before .before .before .before .before .before .before .before .before .before .before .before .before .before .before .before .before .before .before .before .before .before .before .before .before .before .before) .pre .1 .1)) (rw e at ((c .before .before .before .before .before .before .before .before .before .before .before .before .before .before .before .before .before .before .before .before .before .before .before .before .before .before .before .before .before .expression) .ensures)) (rw e at ((c .before .before .before .before .before .before .before .before .before .before .before .before .before .before .before .before .before .before .before .before .before .before .before .test-and-jump) .ensures)) (rw (b) at ((c .before .before .before .before .before .before .before .before .before .before .before .before .before .before .before .before .before .before .row) .ensures)) (rw e at ((c .before .before .before .before .before .before .before .before .before .before .before .before .end-branch) .ensures))
+          (rw (b, after-thens (word-of (fields (now ((c .before .before .before .before .before .before .before .before .before .before .before .before .before .before .before .before .before .before .before .before .before .before .before .before .before .before .before .before .before .before .before .before .before .before .before .before .before .before .before) .args .tree))) ((c .before .before .before .before .before .before .before .before .before .before .before .before .before .before .before .before .before .before .before .before .before .before .before .before .before .before .before .before .before .before .before .before .before .before .before .before .before .before .before) .args .node) 2)) at ((c .before .before .before .before .before .before .elifs) .ensures)),
     )
 
 pub end-if-requires : (t : ℕ) → lts.Need-end-if-requires (claims t) (if-stmt-at t) if-stmt.Post
 end-if-requires t c κs =
-    let g = (c .before .before .before .before .before .before .before .before .before .before .before .before .before .before .before .before .before .before .before .before .before .before .before .before .before .before .before .before .before .before .before .before .before .before .before .before .before .before .before .before .before .before .before .before .before .before) .pre .1 .0 in
-    let e = (c .before .before .before .before .before .before .before .before .before .before .before .before .before .before .before .before .before .before .before .before .before .before .before .before .before .before .before .before .before .before .before .before .before .before .before .before .before .before .before .before .before .words-of) .ensures .0 in
-    let b = (c .before .before .before .before .before .before .before .before .before .before .before .before .before .before .before .before .before .before .before .before .before .before .before .before .before .before .before .before .before .before .before .before .before .before .before .before .before .before .before .branches-of) .ensures .0 in
-    at-end g (an-if (g .ready .lawful) (g .known) ((c .before .before .before .before .before .before .before .before .before .before .before .before .before .before .before .before .before .before .before .before .before .before .before .before .before .before .before .before .before .before .before .before .before .before .before .before .before .before .before .before .before .before .before .before .before .before) .pre .1 .1)) (rw e at ((c .before .before .before .before .before .before .before .before .before .before .before .before .before .before .before .before .before .before .before .before .before .before .before .before .before .before .before .before .before .before .before .before .before .before .before .expression) .ensures)) (rw e at ((c .before .before .before .before .before .before .before .before .before .before .before .before .before .before .before .before .before .before .before .before .before .before .before .before .before .before .before .before .before .test-and-jump) .ensures)) (rw (no-block ((c .before .before .before .before .before .before .before .before .before .before .before .before .before .before .before .before .before .before .before .before .before .before .before .before .before .before .before .before .before .before .before .before .before .before .before .before .before .before .in-branch) .ensures), b) at ((c .before .before .before .before .before .before .before .before .before .before .before .before .before .before .before .before .before .before .before .before .before .before .before .before .row) .ensures)) (rw e at ((c .before .before .before .before .before .before .before .before .before .before .before .before .before .before .before .before .before .before .end-branch) .ensures))
-    (rw (b, after-thens (word-of (fields (now ((c .before .before .before .before .before .before .before .before .before .before .before .before .before .before .before .before .before .before .before .before .before .before .before .before .before .before .before .before .before .before .before .before .before .before .before .before .before .before .before .before .before .before .before .before .before .before) .args .tree))) ((c .before .before .before .before .before .before .before .before .before .before .before .before .before .before .before .before .before .before .before .before .before .before .before .before .before .before .before .before .before .before .before .before .before .before .before .before .before .before .before .before .before .before .before .before .before .before) .args .node) 2)) at ((c .before .before .before .before .before .before .before .before .before .before .before .before .elifs) .ensures)) (rw (no-block ((c .before .before .before .before .before .before .before .before .before .before .before .before .before .before .before .before .before .before .before .before .before .before .before .before .before .before .before .before .before .before .before .before .before .before .before .before .before .before .in-branch) .ensures), b) at ((c .before .before .before .before .before .row2) .ensures))
+    let g = (c .before .before .before .before .before .before .before .before .before .before .before .before .before .before .before .before .before .before .before .before .before .before .before .before .before .before .before .before .before .before .before .before .before .before .before .before .before .before .before .before .before .before .before .before .before) .pre .1 .0 in
+    let e = (c .before .before .before .before .before .before .before .before .before .before .before .before .before .before .before .before .before .before .before .before .before .before .before .before .before .before .before .before .before .before .before .before .before .before .before .before .before .before .before .before .words-of) .ensures .0 in
+    let b = (c .before .before .before .before .before .before .before .before .before .before .before .before .before .before .before .before .before .before .before .before .before .before .before .before .before .before .before .before .before .before .before .before .before .before .before .before .before .before .branches-of) .ensures .0 in
+    at-end g (an-if (g .ready .lawful) (g .known) ((c .before .before .before .before .before .before .before .before .before .before .before .before .before .before .before .before .before .before .before .before .before .before .before .before .before .before .before .before .before .before .before .before .before .before .before .before .before .before .before .before .before .before .before .before .before) .pre .1 .1)) (rw e at ((c .before .before .before .before .before .before .before .before .before .before .before .before .before .before .before .before .before .before .before .before .before .before .before .before .before .before .before .before .before .before .before .before .before .before .before .expression) .ensures)) (rw e at ((c .before .before .before .before .before .before .before .before .before .before .before .before .before .before .before .before .before .before .before .before .before .before .before .before .before .before .before .before .before .test-and-jump) .ensures)) (rw (b) at ((c .before .before .before .before .before .before .before .before .before .before .before .before .before .before .before .before .before .before .before .before .before .before .before .before .row) .ensures)) (rw e at ((c .before .before .before .before .before .before .before .before .before .before .before .before .before .before .before .before .before .before .end-branch) .ensures))
+    (rw (b, after-thens (word-of (fields (now ((c .before .before .before .before .before .before .before .before .before .before .before .before .before .before .before .before .before .before .before .before .before .before .before .before .before .before .before .before .before .before .before .before .before .before .before .before .before .before .before .before .before .before .before .before .before) .args .tree))) ((c .before .before .before .before .before .before .before .before .before .before .before .before .before .before .before .before .before .before .before .before .before .before .before .before .before .before .before .before .before .before .before .before .before .before .before .before .before .before .before .before .before .before .before .before .before) .args .node) 2)) at ((c .before .before .before .before .before .before .before .before .before .before .before .before .elifs) .ensures)) (rw (b) at ((c .before .before .before .before .before .row2) .ensures))
 
 pub same-length : (t : ℕ) → lts.Need-same-length (claims t) (if-stmt-at t) if-stmt.Post
 same-length t c =
@@ -181,8 +177,8 @@ same-length-2 t c = (c .before .before .before .before .before .before .before .
 
 pub returns : (t : ℕ) → lts.Need-returns (claims t) (if-stmt-at t) if-stmt.Post
 returns t c =
-    let g = (c .before .before .before .before .before .before .before .before .before .before .before .before .before .before .before .before .before .before .before .before .before .before .before .before .before .before .before .before .before .before .before .before .before .before .before .before .before .before .before .before .before .before .before .before .before .before .before .before .before) .pre .1 .0 in
-    let e = (c .before .before .before .before .before .before .before .before .before .before .before .before .before .before .before .before .before .before .before .before .before .before .before .before .before .before .before .before .before .before .before .before .before .before .before .before .before .before .before .before .before .before .before .before .words-of) .ensures .0 in
-    let b = (c .before .before .before .before .before .before .before .before .before .before .before .before .before .before .before .before .before .before .before .before .before .before .before .before .before .before .before .before .before .before .before .before .before .before .before .before .before .before .before .before .before .before .branches-of) .ensures .0 in
-    lowers g (an-if (g .ready .lawful) (g .known) ((c .before .before .before .before .before .before .before .before .before .before .before .before .before .before .before .before .before .before .before .before .before .before .before .before .before .before .before .before .before .before .before .before .before .before .before .before .before .before .before .before .before .before .before .before .before .before .before .before .before) .pre .1 .1)) (rw e at ((c .before .before .before .before .before .before .before .before .before .before .before .before .before .before .before .before .before .before .before .before .before .before .before .before .before .before .before .before .before .before .before .before .before .before .before .before .before .before .expression) .ensures)) (rw e at ((c .before .before .before .before .before .before .before .before .before .before .before .before .before .before .before .before .before .before .before .before .before .before .before .before .before .before .before .before .before .before .before .before .test-and-jump) .ensures)) (rw (no-block ((c .before .before .before .before .before .before .before .before .before .before .before .before .before .before .before .before .before .before .before .before .before .before .before .before .before .before .before .before .before .before .before .before .before .before .before .before .before .before .before .before .before .in-branch) .ensures), b) at ((c .before .before .before .before .before .before .before .before .before .before .before .before .before .before .before .before .before .before .before .before .before .before .before .before .before .before .before .row) .ensures)) (rw e at ((c .before .before .before .before .before .before .before .before .before .before .before .before .before .before .before .before .before .before .before .before .before .end-branch) .ensures))
-    (rw (b, after-thens (word-of (fields (now ((c .before .before .before .before .before .before .before .before .before .before .before .before .before .before .before .before .before .before .before .before .before .before .before .before .before .before .before .before .before .before .before .before .before .before .before .before .before .before .before .before .before .before .before .before .before .before .before .before .before) .args .tree))) ((c .before .before .before .before .before .before .before .before .before .before .before .before .before .before .before .before .before .before .before .before .before .before .before .before .before .before .before .before .before .before .before .before .before .before .before .before .before .before .before .before .before .before .before .before .before .before .before .before .before) .args .node) 2)) at ((c .before .before .before .before .before .before .before .before .before .before .before .before .before .before .before .elifs) .ensures)) (rw (no-block ((c .before .before .before .before .before .before .before .before .before .before .before .before .before .before .before .before .before .before .before .before .before .before .before .before .before .before .before .before .before .before .before .before .before .before .before .before .before .before .before .before .before .in-branch) .ensures), b) at ((c .before .before .before .before .before .before .before .before .row2) .ensures)) ((c .before .before .end-if) .ensures)
+    let g = (c .before .before .before .before .before .before .before .before .before .before .before .before .before .before .before .before .before .before .before .before .before .before .before .before .before .before .before .before .before .before .before .before .before .before .before .before .before .before .before .before .before .before .before .before .before .before .before .before) .pre .1 .0 in
+    let e = (c .before .before .before .before .before .before .before .before .before .before .before .before .before .before .before .before .before .before .before .before .before .before .before .before .before .before .before .before .before .before .before .before .before .before .before .before .before .before .before .before .before .before .before .words-of) .ensures .0 in
+    let b = (c .before .before .before .before .before .before .before .before .before .before .before .before .before .before .before .before .before .before .before .before .before .before .before .before .before .before .before .before .before .before .before .before .before .before .before .before .before .before .before .before .before .branches-of) .ensures .0 in
+    lowers g (an-if (g .ready .lawful) (g .known) ((c .before .before .before .before .before .before .before .before .before .before .before .before .before .before .before .before .before .before .before .before .before .before .before .before .before .before .before .before .before .before .before .before .before .before .before .before .before .before .before .before .before .before .before .before .before .before .before .before) .pre .1 .1)) (rw e at ((c .before .before .before .before .before .before .before .before .before .before .before .before .before .before .before .before .before .before .before .before .before .before .before .before .before .before .before .before .before .before .before .before .before .before .before .before .before .before .expression) .ensures)) (rw e at ((c .before .before .before .before .before .before .before .before .before .before .before .before .before .before .before .before .before .before .before .before .before .before .before .before .before .before .before .before .before .before .before .before .test-and-jump) .ensures)) (rw (b) at ((c .before .before .before .before .before .before .before .before .before .before .before .before .before .before .before .before .before .before .before .before .before .before .before .before .before .before .before .row) .ensures)) (rw e at ((c .before .before .before .before .before .before .before .before .before .before .before .before .before .before .before .before .before .before .before .before .before .end-branch) .ensures))
+    (rw (b, after-thens (word-of (fields (now ((c .before .before .before .before .before .before .before .before .before .before .before .before .before .before .before .before .before .before .before .before .before .before .before .before .before .before .before .before .before .before .before .before .before .before .before .before .before .before .before .before .before .before .before .before .before .before .before .before) .args .tree))) ((c .before .before .before .before .before .before .before .before .before .before .before .before .before .before .before .before .before .before .before .before .before .before .before .before .before .before .before .before .before .before .before .before .before .before .before .before .before .before .before .before .before .before .before .before .before .before .before .before) .args .node) 2)) at ((c .before .before .before .before .before .before .before .before .before .before .before .before .before .before .before .elifs) .ensures)) (rw (b) at ((c .before .before .before .before .before .before .before .before .row2) .ensures)) ((c .before .before .end-if) .ensures)
