@@ -5,15 +5,25 @@ include!("../bridge/continues.rs");
 /// In the file, `old` stands `times` times and becomes `new`.
 struct Edit(&'static str, usize, &'static str, &'static str);
 
-const EDITS: [Edit; 13] = [
+const EDITS: [Edit; 15] = [
     // 7 and 8: the source panics
-    Edit("compiler", 1, "panic!(\"Ran out of registers\")", "crate::trace::refuse(7)"),
-    Edit("compiler", 1, "panic!(\"Too many upvalues\")", "crate::trace::refuse(8)"),
+    Edit("compiler", 1, "panic!(\"Ran out of registers\")", "return crate::trace::refuse_or(7, 0)"),
+    Edit("compiler", 1, "panic!(\"Too many upvalues\")", "return crate::trace::refuse_or(8, 0)"),
     // 9 and 10: the source prints and ends the process
     Edit(
         "compiler", 1,
         "pub fn compilation_error(&self, msg: RuntimeErr, token_data: Option<TokenData>) {",
-        "pub fn compilation_error(&self, msg: RuntimeErr, token_data: Option<TokenData>) {\n        crate::trace::compilation_error(msg.msg);",
+        "pub fn compilation_error(&self, msg: RuntimeErr, token_data: Option<TokenData>) {\n        return crate::trace::compilation_error(msg.msg);",
+    ),
+    Edit(
+        "compiler", 1,
+        "(ERR_GLOBAL_ALREADY_DEFINED, Some(stmt.name.clone()));\n                unreachable!();",
+        "(ERR_GLOBAL_ALREADY_DEFINED, Some(stmt.name.clone()));",
+    ),
+    Edit(
+        "compiler", 1,
+        "self.is_global_var(var_name.clone())",
+        "self.is_global_var(var_name.clone()) || crate::trace::is_passed(9)",
     ),
     // 11: the source goes on; a loop is open while its body is lowered
     Edit("compiler", 3, "stmt.body.accept(self)", "crate::trace::in_loop(self, |c| stmt.body.accept(c))"),
@@ -22,7 +32,7 @@ const EDITS: [Edit; 13] = [
     // 13, then 12: the source's sum overflows, then its unwrap panics
     Edit("compiler", 2, "b: chunk.result_register + 2,", "b: crate::trace::plus_two(chunk.result_register),"),
     Edit("compiler", 1, "b: val_chunk.result_register + 2,", "b: crate::trace::plus_two(val_chunk.result_register),"),
-    Edit("compiler", 2, "chunk.instructions.last().unwrap()", "crate::trace::last_of(&chunk.instructions)"),
+    Edit("compiler", 2, "chunk.instructions.last().unwrap().src.clone()", "crate::trace::last_mark(&chunk.instructions)"),
     // 14: the source goes on
     Edit("compiler", 1, "pub constants: Vec<Literal>,", "pub constants: crate::trace::Constants,"),
     // 16: the source goes on
@@ -40,7 +50,7 @@ const EDITS: [Edit; 13] = [
     Edit(
         "compiler", 3,
         "-((body_chunk.instructions.len() + cond_chunk.instructions.len() + 2) as i16)",
-        "((body_chunk.instructions.len() + cond_chunk.instructions.len() + 2) as i16).wrapping_neg()",
+        "crate::trace::negated((body_chunk.instructions.len() + cond_chunk.instructions.len() + 2) as i16)",
     ),
 ];
 

@@ -1,7 +1,7 @@
 //! One call of each function, with everything that must hold afterwards.
 use crate::lent::Lent;
-use oracle::answer::Refusal;
 use oracle::facts;
+use oracle::judge::Refusal;
 use oracle::limits::Asked;
 use oracle::modes;
 use oracle::rng::Rng;

@@ -24,10 +24,12 @@ fn plan(words: &[String]) -> Result<Plan, String> {
         modes: &[0, 1],
         random: 100_000,
         damaged: 20_000,
+        meeting: 4_000,
         no_modes: 4_000,
         fixed: true,
         threads: std::thread::available_parallelism().map_or(1, |n| n.get()),
         announce: false,
+        enough: 20,
         lower: linked::lower(),
         check: linked::check(),
     };
@@ -39,6 +41,7 @@ fn plan(words: &[String]) -> Result<Plan, String> {
             ("--seed", _) => plan.seed = number()?,
             ("--random", _) => plan.random = number()?,
             ("--damaged", _) => plan.damaged = number()?,
+            ("--meeting", _) => plan.meeting = number()?,
             ("--no-modes", _) => plan.no_modes = number()?,
             ("--mode", "0") => plan.modes = &[0],
             ("--mode", "1") => plan.modes = &[1],
@@ -61,10 +64,11 @@ fn report(plan: &Plan) -> ExitCode {
     let names = [("lower", plan.lower.is_some()), ("check", plan.check.is_some())];
     let names: Vec<&str> = names.iter().filter(|(_, is)| *is).map(|(name, _)| *name).collect();
     println!(
-        "seed {}: {} random and {} damaged trees, limits and shapes, against {}",
+        "seed {}: {} random and {} damaged trees, {} where limits meet, limits and shapes, against {}",
         plan.seed,
         plan.random,
         plan.damaged,
+        plan.meeting,
         names.join(" and ")
     );
     if plan.lower.is_some() {

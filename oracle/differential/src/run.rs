@@ -1,4 +1,5 @@
-//! A whole run: random and damaged trees of a seed, the limits and the shapes, in both modes; then calls in modes that are none.
+//! A whole run: random and damaged trees of a seed and those in which limits meet, the limits and the shapes, in both modes; and calls in
+//! modes that are none.
 use crate::calls::{self, Check, Fault, Lower};
 use oracle::limits::work_words;
 use oracle::questions::{self, Question};
@@ -16,6 +17,8 @@ pub struct Plan {
     pub random: u64,
     /// In each mode.
     pub damaged: u64,
+    /// In each mode, the same trees.
+    pub meeting: u64,
     /// Calls in modes that are none.
     pub no_modes: u64,
     /// Whether the limits and the shapes are run too.
@@ -23,6 +26,8 @@ pub struct Plan {
     pub threads: usize,
     /// Whether each case is named before its call, to find one that ends the process.
     pub announce: bool,
+    /// After so many differences the run stops.
+    pub enough: usize,
     pub lower: Option<Lower>,
     pub check: Option<Check>,
 }
@@ -46,9 +51,6 @@ impl Report {
         self.differences.extend(other.differences);
     }
 }
-
-/// After so many differences a run stops.
-const ENOUGH: usize = 20;
 
 /// Lowering recurses; a thread of the run has this much stack.
 const STACK: usize = 256 << 20;
@@ -93,6 +95,7 @@ pub fn run(plan: &Plan) -> Report {
         Row { kind: "shapes", modes, count: fixed.1.len() as u64 },
         Row { kind: "modes", modes: &[0], count: no_modes },
         Row { kind: "damaged", modes, count: plan.damaged },
+        Row { kind: "meeting", modes, count: plan.meeting },
         Row { kind: "random", modes, count: plan.random },
     ];
     let total = rows.iter().map(Row::total).sum::<u64>() as usize;
@@ -101,14 +104,15 @@ pub fn run(plan: &Plan) -> Report {
         "shapes" => fixed.1[t.k as usize].clone().in_mode(t.mode),
         "modes" => questions::no_mode(plan.seed, t.k),
         "damaged" => questions::damaged(plan.seed, t.k, t.mode),
+        "meeting" => questions::meeting(plan.seed, t.k, t.mode),
         _ => questions::random(plan.seed, t.k, t.mode),
     };
-    let (next, whole) = (AtomicUsize::new(0), Mutex::new(Report::default()));
+    let (next, found, whole) = (AtomicUsize::new(0), AtomicUsize::new(0), Mutex::new(Report::default()));
     let work = || {
         let mut report = Report::default();
         loop {
             let n = next.fetch_add(1, Ordering::Relaxed);
-            if n >= total || report.differences.len() >= ENOUGH {
+            if n >= total || found.load(Ordering::Relaxed) >= plan.enough {
                 break;
             }
             let t = turn(&rows, n as u64);
@@ -116,7 +120,9 @@ pub fn run(plan: &Plan) -> Report {
                 println!("{} {} of mode {}", t.kind, t.k, t.mode);
             }
             let mut rng = Rng::for_case(plan.seed ^ 0x6E6F_6973_65, n as u64);
+            let before = report.differences.len();
             ask(plan, &t, question(&t), &mut rng, &mut report);
+            found.fetch_add(report.differences.len() - before, Ordering::Relaxed);
         }
         whole.lock().unwrap().add(report);
     };

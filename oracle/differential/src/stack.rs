@@ -45,6 +45,7 @@ impl Stack {
 
     fn enter<F: FnMut()>(&mut self, call: &mut F) {
         let top = self.0.as_mut_ptr_range().end as usize & !15;
+        // the caller's stack is kept in a register that a call leaves alone
         unsafe {
             asm!(
                 "mov r12, rsp",

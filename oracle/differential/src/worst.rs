@@ -5,12 +5,16 @@ use differential::linked;
 use differential::stack::{Stack, Took};
 use oracle::judge::work_for;
 use oracle::rng::Rng;
-use oracle::trees::order::post;
-use oracle::trees::worst::{worst, Worst};
+use oracle::trees::costly::Worst;
+use oracle::trees::worst::worst;
 use std::process::ExitCode;
 
-/// Seconds of the processor that a call may take.
+/// Seconds of the processor that a call may take: the least of so many calls, since other work on the machine only adds to them.
 const LIMIT: f64 = 2.0;
+const CALLS: usize = 3;
+
+/// A tree whose first call takes no more than this is called once.
+const SURE: f64 = 1.5;
 
 fn main() -> ExitCode {
     let Some(lower) = linked::lower() else {
@@ -22,9 +26,12 @@ fn main() -> ExitCode {
     let trees = worst();
     for w in &trees {
         let (mut took, mut verdict) = call(lower, w, &mut stack, &mut rng);
-        if in_time(&took).is_err() {
-            // once more: the machine may have been busy
-            (took, verdict) = call(lower, w, &mut stack, &mut rng);
+        for _ in 1..CALLS {
+            if took.seconds > Some(SURE) {
+                let (again, said) = call(lower, w, &mut stack, &mut rng);
+                took.seconds = took.seconds.zip(again.seconds).map(|(one, other)| one.min(other));
+                verdict = verdict.and(said);
+            }
         }
         let verdict = verdict.and(in_time(&took)).and(in_stack(&took));
         let words = verdict.as_ref().map_or_else(|fault| format!("  WRONG: {fault}"), |()| String::new());
@@ -57,7 +64,7 @@ fn in_stack(took: &Took) -> Result<(), String> {
 
 /// The call, on noise; then the number, the words and the bytes that must be zero, the guards.
 fn call(function: Lower, w: &Worst, stack: &mut Stack, rng: &mut Rng) -> (Took, Result<(), String>) {
-    let tree = Lent::holding(rng, &post(&w.tree));
+    let tree = Lent::holding(rng, &w.file());
     let mut work: Lent<u32> = Lent::noise(rng, work_for(w.tree.size()) as usize);
     let mut out: Lent<u8> = Lent::noise(rng, w.room);
     let mut answer: Lent<u64> = Lent::noise(rng, 3);

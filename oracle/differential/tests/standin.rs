@@ -1,21 +1,23 @@
 //! The runner finds nothing wrong with a right library, and finds each of these wrong ones.
 use differential::calls::{Check, Lower};
 use differential::run::{run, Plan, Report};
+use files::tree::fields;
 use standin::{yengrazul_check, yengrazul_lower};
-use std::slice::from_raw_parts_mut;
+use std::slice::{from_raw_parts, from_raw_parts_mut};
 
-fn runs(lower: Option<Lower>, check: Option<Check>, random: u64, fixed: bool) -> Report {
-    run(&plan(lower, check, random, fixed))
+fn runs(lower: Option<Lower>, check: Option<Check>, random: u64, meeting: u64, fixed: bool) -> Report {
+    run(&plan(lower, check, random, meeting, fixed))
 }
 
-fn plan(lower: Option<Lower>, check: Option<Check>, random: u64, fixed: bool) -> Plan {
-    let (modes, no_modes) = (&[0, 1], random / 4);
-    Plan { seed: 5, modes, random, damaged: random, no_modes, fixed, threads: 2, announce: false, lower, check }
+/// A run of two threads in both modes; the counts are of random and damaged trees, each, and of those in which limits meet.
+fn plan(lower: Option<Lower>, check: Option<Check>, random: u64, meeting: u64, fixed: bool) -> Plan {
+    let (seed, modes, no_modes, threads, announce, enough) = (5, &[0, 1], random / 4, 2, false, 1);
+    Plan { seed, modes, random, damaged: random, meeting, no_modes, fixed, threads, announce, enough, lower, check }
 }
 
 #[test]
 fn a_right_library() {
-    let report = runs(Some(yengrazul_lower), Some(yengrazul_check), 1500, true);
+    let report = runs(Some(yengrazul_lower), Some(yengrazul_check), 1500, 200, true);
     assert_eq!(report.differences, Vec::<String>::new());
     assert!(report.total() > 18_000, "{}", report.total());
     assert!((0..=18).chain([21]).all(|n| report.by_number[n] > 0), "{:?}", report.by_number);
@@ -24,8 +26,8 @@ fn a_right_library() {
 #[test]
 fn one_mode_alone() {
     for modes in [&[0], &[1]] {
-        let report = run(&Plan { modes, no_modes: 7, ..plan(Some(yengrazul_lower), None, 300, false) });
-        assert_eq!((report.total(), report.by_number[21], report.differences.len()), (607, 7, 0));
+        let report = run(&Plan { modes, no_modes: 7, ..plan(Some(yengrazul_lower), None, 300, 20, false) });
+        assert_eq!((report.total(), report.by_number[21], report.differences.len()), (627, 7, 0));
     }
 }
 
@@ -56,7 +58,7 @@ macro_rules! wrong {
                 let ($out, $answer) = (from_raw_parts_mut(o, on), from_raw_parts_mut(a, 3));
                 $harm
             }
-            let report = runs(Some(wrong), None, 400, false);
+            let report = runs(Some(wrong), None, 400, 0, false);
             assert!(!report.differences.is_empty());
         }
     };
@@ -122,7 +124,7 @@ fn nothing_done() {
         _: *mut u64,
     ) {
     }
-    assert!(!runs(Some(nothing), None, 10, false).differences.is_empty());
+    assert!(!runs(Some(nothing), None, 10, 0, false).differences.is_empty());
 }
 
 #[test]
@@ -135,6 +137,75 @@ fn a_wrong_check() {
         *a.add(2) = 0;
     }
     for wrong in [one_more as Check, no_count] {
-        assert!(!runs(None, Some(wrong), 2000, false).differences.is_empty());
+        assert!(!runs(None, Some(wrong), 2000, 0, false).differences.is_empty());
+    }
+}
+
+/// A wrong library: where `FIRST` is due and `THEN` meets it in one step, it says `THEN`; at nodes of tag `TAG` alone, if that is not 0.
+unsafe extern "C" fn turned<const FIRST: u8, const THEN: u8, const TAG: u8>(
+    t: *const u8,
+    tn: usize,
+    w: *mut u32,
+    wn: usize,
+    o: *mut u8,
+    on: usize,
+    mode: u64,
+    a: *mut u64,
+) {
+    yengrazul_lower(t, tn, w, wn, o, on, mode, a);
+    let answer = from_raw_parts_mut(a, 3);
+    if answer[0] == u64::from(FIRST) {
+        let nodes = fields(from_raw_parts(t, tn)).expect("a refused tree is whole");
+        let there = TAG == 0 || nodes[answer[1] as usize].tag == TAG;
+        if there && traced::met(&nodes, mode).is_some_and(|(_, then)| then == THEN) {
+            answer[0] = THEN.into();
+        }
+    }
+}
+
+#[test]
+fn two_refusals_in_one_step_turned_around() {
+    let wrong: [(&str, Lower); 16] = [
+        ("the constant before the register at a number", turned::<7, 14, 0x01>),
+        ("the constant before the register at a text", turned::<7, 14, 0x02>),
+        ("the constant before the register at another literal", turned::<7, 14, 0x03>),
+        ("the constant before the register at a variable", turned::<7, 14, 0x04>),
+        ("the constant before the registers at a for-in", turned::<7, 14, 0x15>),
+        ("the constant before the registers at a class", turned::<7, 14, 0x1D>),
+        ("the register before the capture", turned::<8, 7, 0>),
+        ("the register before an unknown name", turned::<9, 7, 0>),
+        ("the constant before an unknown name", turned::<9, 14, 0>),
+        ("the constant before a known global", turned::<10, 14, 0>),
+        ("12 before 13", turned::<13, 12, 0>),
+        ("the register before the constant at a let", turned::<14, 7, 0x11>),
+        ("the name's constant before the prototype", turned::<15, 14, 0>),
+        ("a function opened before its value's register", turned::<7, 16, 0>),
+        ("a function's registers before it is opened", turned::<16, 7, 0>),
+        ("15 before 17", turned::<17, 15, 0>),
+    ];
+    for (name, lower) in wrong {
+        assert!(!runs(Some(lower), None, 0, 3000, false).differences.is_empty(), "{name}");
+    }
+}
+
+/// A wrong library in one mode alone.
+unsafe extern "C" fn wrong_in<const MODE: u64>(
+    t: *const u8,
+    tn: usize,
+    w: *mut u32,
+    wn: usize,
+    o: *mut u8,
+    on: usize,
+    mode: u64,
+    a: *mut u64,
+) {
+    yengrazul_lower(t, tn, w, wn, o, on, mode, a);
+    *a ^= u64::from(mode == MODE);
+}
+
+#[test]
+fn trees_in_which_limits_meet_are_asked_in_both_modes() {
+    for lower in [wrong_in::<0> as Lower, wrong_in::<1>] {
+        assert!(!runs(Some(lower), None, 0, 10, false).differences.is_empty());
     }
 }

@@ -1,12 +1,5 @@
 //! The whole answer: 21 by the mode, 1 to 6 by the judge, 7 to 17 and the image by the traced source, 18 by the image's length.
-use crate::judge;
-
-/// A number of 01's table or 21 of 02's, with its place.
-#[derive(Clone, Copy, Debug, PartialEq)]
-pub struct Refusal {
-    pub number: u8,
-    pub place: u64,
-}
+use crate::judge::{self, Refusal};
 
 /// Number, place and length as the caller gets them.
 #[derive(Clone, Copy, Debug, PartialEq)]

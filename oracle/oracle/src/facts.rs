@@ -1,6 +1,10 @@
-//! Demand 3 in plain Rust: what holds at every instruction of an accepted image, reached or not.
+//! Demand 3 in plain Rust: what holds at every instruction of an accepted image, reached or not; and 01's two rules on how
+//! each prototype ends.
 use files::image::{Capture, Constant, Image, Instruction, Prototype};
 use files::listing::{line, OPCODES};
+
+/// 17: how many instructions a prototype may have, its last Return counted.
+const LONGEST: usize = 32_767;
 
 /// All facts, or the first that fails, in words.
 pub fn check(image: &Image) -> Result<(), String> {
@@ -20,8 +24,12 @@ pub fn check_bytes(bytes: &[u8]) -> Result<(), String> {
 
 fn check_prototype(image: &Image, k: usize) -> Result<(), String> {
     let p = &image.prototypes[k];
-    if p.instructions.last().map(name) != Some("Return") {
-        return Err("the last instruction is no Return".into());
+    if p.instructions.len() > LONGEST {
+        return Err(format!("{} instructions, over {LONGEST}", p.instructions.len()));
+    }
+    match p.instructions.last() {
+        Some(i) if (name(i), i.a, i.b, i.c) == ("Return", 0, 0, 0) => {}
+        _ => return Err("the last instruction is not Return 0 0 0".into()),
     }
     let here = Here { prototype: p, earlier: &image.prototypes[..k], constants: &image.constants };
     for (at, i) in p.instructions.iter().enumerate() {

@@ -1,10 +1,16 @@
 //! Refusals 1 to 6 of document 01, read straight from its words.
-use crate::answer::Refusal;
 use files::tree::{fields, Field};
 use files::NONE;
 
 pub const MOST_FIELDS: usize = 32_768;
 pub const DEEPEST: u32 = 128;
+
+/// A number of 01's table or 21 of 02's, with its place.
+#[derive(Clone, Copy, Debug, PartialEq)]
+pub struct Refusal {
+    pub number: u8,
+    pub place: u64,
+}
 
 /// The fields of a tree that none of 1 to 6 refuses.
 pub fn check(tree: &[u8], work_words: u64) -> Result<Vec<Field<'_>>, Refusal> {
@@ -58,6 +64,17 @@ fn shape(nodes: &[Field]) -> Result<Vec<Vec<usize>>, Refusal> {
         }
     }
     Ok(all)
+}
+
+/// How many functions are open at once in a checked tree, main counted.
+pub fn open_functions(nodes: &[Field]) -> usize {
+    let children = shape(nodes).expect("a checked tree");
+    let mut open = vec![1; nodes.len()];
+    for (i, node) in nodes.iter().enumerate().rev() {
+        open[i] += usize::from(matches!(node.tag, 0x09 | 0x1C));
+        children[i].iter().for_each(|child| open[*child] = open[i]);
+    }
+    open.into_iter().max().unwrap_or(1)
 }
 
 /// 4: a node other than the last is a child not exactly once.

@@ -123,11 +123,13 @@ fn generate(kind: &str, o: &Options) -> Done {
         "random" => of_seed(questions::random),
         "small" => of_seed(questions::small),
         "damaged" => of_seed(questions::damaged),
+        "meeting" => of_seed(questions::meeting),
         "limits" => in_mode(questions::limits()),
         "shapes" => in_mode(questions::shapes()),
         "modes" if o.mode.is_none() => (0..o.count).map(|k| questions::no_mode(o.seed, k)).collect(),
         other => {
-            return Err(format!("no kind {other}: random, small, damaged, limits, shapes, or modes without --mode"))
+            let kinds = "random, small, damaged, meeting, limits, shapes, or modes without --mode";
+            return Err(format!("no kind {other}: {kinds}"));
         }
     };
     let mut asked = questions.into_iter().map(Question::ask);

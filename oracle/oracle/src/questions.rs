@@ -3,7 +3,7 @@ use crate::limits::{self, ask_in, Asked, Room, Work};
 use crate::rng::Rng;
 use crate::trees::build::Node;
 use crate::trees::order::{file, Order};
-use crate::trees::{crowd, damage, random};
+use crate::trees::{crowd, damage, meet, random};
 
 /// A mode and a file, and what is lent with it.
 #[derive(Clone)]
@@ -28,6 +28,14 @@ impl Question {
 pub fn random(seed: u64, k: u64, mode: u64) -> Question {
     let mut rng = Rng::for_case(seed, k);
     let program = crowd::any(&mut rng, mode == 1);
+    let tree = numbered(&mut rng, &program);
+    lent(&mut rng, tree).in_mode(mode)
+}
+
+/// A program in which several limits are near at once, the same in both modes.
+pub fn meeting(seed: u64, k: u64, mode: u64) -> Question {
+    let mut rng = Rng::for_case(seed, k);
+    let program = meet::any(&mut rng);
     let tree = numbered(&mut rng, &program);
     lent(&mut rng, tree).in_mode(mode)
 }

@@ -117,3 +117,26 @@ fn broken_prototypes() {
         assert!(check(&broken).is_err());
     }
 }
+
+/// Each way in which the last instruction can miss `Return 0 0 0`, and no other fault with it.
+#[test]
+fn the_last_instruction_is_return_0_0_0() {
+    let last = |i: Instruction| {
+        let mut image = image(vec![]);
+        *image.prototypes[1].instructions.last_mut().unwrap() = i;
+        check(&image)
+    };
+    assert_eq!(last(i("Return", 0, 0, 0)), Ok(()));
+    for wrong in [i("Return", 0, 2, 0), i("Return", 1, 0, 0), i("Return", 0, 0, 1), i("Jmp", 0, 0, 0)] {
+        let fault = last(wrong).expect_err("a fault");
+        assert!(fault.contains("the last instruction is not Return 0 0 0"), "{wrong:?}: {fault}");
+    }
+}
+
+#[test]
+fn no_prototype_is_over_32_767_instructions() {
+    let of = |n: usize| check(&image(vec![i("Move", 0, 0, 0); n - 1]));
+    assert_eq!(of(32_767), Ok(()));
+    let fault = of(32_768).expect_err("a fault");
+    assert!(fault.contains("32768 instructions, over 32767"), "{fault}");
+}

@@ -35,7 +35,7 @@ pub fn lower(fields: &[Field], mode: u64) -> Result<Image, Refusal> {
     let run = || {
         trace::set_mode_1(mode == 1);
         let program = read::program(fields);
-        let _visit = trace::Visit::of(fields.len() - 1);
+        let _visit = trace::Visit::first(fields.len() - 1);
         let mut compiler = Compiler {
             constants: Default::default(),
             contexts: vec![],
@@ -50,4 +50,19 @@ pub fn lower(fields: &[Field], mode: u64) -> Result<Image, Refusal> {
         Ok(refusal) => *refusal,
         Err(other) => resume_unwind(other),
     })
+}
+
+/// How the source ends in a mode on a checked tree that one of 11 and 14 to 17 refuses, none of which it knows: with an image, or by
+/// another refusal, where 17 stands for the negation that stops a loop of exactly 32,768. Nothing where it makes too much.
+pub fn follow(fields: &[Field], mode: u64) -> Option<Result<Image, Refusal>> {
+    let end = trace::past(&[11, 14, 15, 16, 17], || lower(fields, mode));
+    (!matches!(end, Err(Refusal { number: trace::GIVEN_UP, .. }))).then_some(end)
+}
+
+/// The refusal of a checked tree, with the number that the same node meets in the same step where its own is passed over.
+pub fn met(fields: &[Field], mode: u64) -> Option<(Refusal, u8)> {
+    let first = lower(fields, mode).err()?;
+    let then = trace::past_in_a_step(first.number, || lower(fields, mode)).err()?;
+    let same = (then.node, then.visits) == (first.node, first.visits) && then.number != trace::GIVEN_UP;
+    same.then_some((first, then.number))
 }

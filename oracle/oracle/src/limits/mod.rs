@@ -12,8 +12,8 @@ mod registers;
 mod rules;
 mod shapes;
 
-use crate::answer::{image, in_room, Answer, Refusal};
-use crate::judge::{work_for, MOST_FIELDS};
+use crate::answer::{image, in_room, Answer};
+use crate::judge::{work_for, Refusal, MOST_FIELDS};
 use crate::trees::build::Node;
 use crate::trees::order::post;
 use crate::trees::rule::Rule;

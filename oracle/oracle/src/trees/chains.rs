@@ -1,6 +1,6 @@
 //! Trees as deep as may be, by each kind of node: what a call needs of the stack.
 use super::build::*;
-use super::worst::{a, full, minuses, nested, of, one, refused, times, with_a, Worst, A, M};
+use super::costly::*;
 
 pub fn chains() -> Vec<Worst> {
     [expressions(), statements(), functions()].into_iter().flatten().collect()

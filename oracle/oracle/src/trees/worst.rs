@@ -1,109 +1,11 @@
 //! Trees that cost much: each aims at something that is done more than once for a node, an instruction or a local.
 use super::build::*;
 use super::chains::chains;
-
-/// As many nodes as a file may have.
-pub const MOST: usize = 32_768;
-
-/// A tree with what it is called, the bytes of output that are lent, and the number that is due: 0 where it is accepted.
-pub struct Worst {
-    pub name: &'static str,
-    pub tree: Node,
-    pub room: usize,
-    pub due: u8,
-}
-
-pub(super) const M: u16 = 7;
-pub(super) const A: Pair = (20, M);
-
-pub(super) fn a() -> Node {
-    variable(A)
-}
-
-pub(super) fn of(name: &'static str, tree: Node) -> Worst {
-    Worst { name, tree, room: 400_000, due: 0 }
-}
-
-/// With an output for the code of up to 193 functions.
-fn large(name: &'static str, tree: Node) -> Worst {
-    Worst { room: 48_000_000, ..of(name, tree) }
-}
-
-pub(super) fn refused(due: u8, worst: Worst) -> Worst {
-    Worst { due, ..worst }
-}
-
-/// A program of these statements, filled up to the most nodes with empty blocks.
-pub(super) fn full(body: Vec<Node>) -> Node {
-    filled(MOST, body)
-}
-
-fn filled(nodes: usize, mut body: Vec<Node>) -> Node {
-    let size = 1 + body.iter().map(Node::size).sum::<usize>();
-    assert!(size <= nodes, "{size} nodes");
-    body.extend((size..nodes).map(|_| block(vec![])));
-    program(body)
-}
-
-fn alone(x: Node) -> Node {
-    full(vec![expression(x)])
-}
-
-/// In a block of main where a is a local.
-pub(super) fn with_a(body: Vec<Node>) -> Node {
-    full(vec![block([vec![let_(A, Some(number(1.0)))], body].concat())])
-}
-
-pub(super) fn times(n: usize, node: impl Fn() -> Node) -> Vec<Node> {
-    (0..n).map(|_| node()).collect()
-}
-
-/// A row within statements within each other, so many deep.
-pub(super) fn nested(deep: usize, body: Vec<Node>, around: &dyn Fn(Vec<Node>) -> Node) -> Vec<Node> {
-    (0..deep).fold(body, |body, _| vec![around(body)])
-}
-
-/// A row as one statement.
-pub(super) fn one(mut body: Vec<Node>) -> Node {
-    match body.len() {
-        1 => body.remove(0),
-        _ => block(body),
-    }
-}
-
-fn returns(n: usize) -> Vec<Node> {
-    times(n, || return_(M, None))
-}
-
-/// Three instructions of two nodes each, and no register.
-fn ifs(n: usize) -> Vec<Node> {
-    times(n, || if_(M, a(), vec![], vec![], vec![]))
-}
-
-/// `and` over so many uses of a name: three instructions of two nodes each, and no register where it is a local.
-fn ands(name: Pair, leaves: usize) -> Node {
-    match leaves {
-        1 => variable(name),
-        n => logical(2, M, ands(name, n / 2), ands(name, n - n / 2)),
-    }
-}
-
-pub(super) fn minuses(n: usize, x: Node) -> Node {
-    (0..n).fold(x, |x, _| binary(8, M, number(3.0), x))
-}
-
-/// A function that is lowered 64 times: all that main's registers allow of one. 65 prototypes.
-fn sixty_four(body: Vec<Node>) -> Node {
-    minuses(6, function(&[A], body))
-}
-
-/// A function that is lowered 128 times, in one that is lowered 64 times. 193 prototypes.
-fn in_two(outer: Vec<Node>, inner: Vec<Node>) -> Node {
-    alone(sixty_four([outer, vec![expression(minuses(1, function(&[A], inner)))]].concat()))
-}
+use super::costly::*;
+use super::spines::spines;
 
 pub fn worst() -> Vec<Worst> {
-    [rows(), chains(), again(), names(), scans()].into_iter().flatten().collect()
+    [rows(), chains(), again(), names(), scans(), spines()].into_iter().flatten().collect()
 }
 
 /// Much of one kind, each lowered once.
