@@ -1,9 +1,18 @@
-/* Lowers a tree file to an image file (documents 01 and 02). Link target/staticlib/liblower.a, which `rt staticlib lower` writes (x86-64, Linux). */
+/*
+ * Lowers a tree file to an image file; docs/FORMATS.md says what both hold. Link target/staticlib/liblower.a, which `rt staticlib lower` writes
+ * (x86-64, Linux), or what `pkg-config --libs yengrazul` says of an installed package.
+ */
 #ifndef YENGRAZUL_H
 #define YENGRAZUL_H
 
 #include <stddef.h>
 #include <stdint.h>
+
+/* The version of the project, as a text and as numbers to compare. */
+#define YENGRAZUL_VERSION "0.1.0"
+#define YENGRAZUL_VERSION_MAJOR 0
+#define YENGRAZUL_VERSION_MINOR 1
+#define YENGRAZUL_VERSION_PATCH 0
 
 #ifdef __cplusplus
 extern "C" {

@@ -1,10 +1,12 @@
 //! Links liblower.a, which `rt staticlib lower` writes to target/staticlib of the project; YENGRAZUL_LIB may name another folder.
-use std::path::Path;
+use std::path::PathBuf;
 
 fn main() {
     println!("cargo::rerun-if-changed=build.rs");
     println!("cargo::rerun-if-env-changed=YENGRAZUL_LIB");
-    let root = Path::new(env!("CARGO_MANIFEST_DIR")).join("..");
+    // asked when this runs: compiled in, it would be the folder of the checkout that first filled a shared target folder
+    let here = PathBuf::from(std::env::var_os("CARGO_MANIFEST_DIR").expect("cargo names the folder"));
+    let root = here.join("..");
     // a relative folder is meant from the project's root
     let folder = root.join(std::env::var_os("YENGRAZUL_LIB").unwrap_or("target/staticlib".into()));
     let archive = folder.join("liblower.a");

@@ -1,16 +1,14 @@
 //! The proved lowering beside the Rust's, in nanoseconds a node: one process, both built for release, interleaved.
 mod machine;
 mod measure;
+mod noise;
 mod page;
 mod plot;
 mod scripts;
 
-use measure::measure;
+use measure::{measure, Row};
 use scripts::{bundle, SIZES};
 use std::path::Path;
-
-/// Fewer rounds are a try, of which nothing is written down.
-const ENOUGH: usize = 31;
 
 /// The Rust's visitors go as deep as the tree, and want some stack.
 const STACK: usize = 256 << 20;
@@ -22,10 +20,11 @@ fn main() {
     let run = std::thread::Builder::new().stack_size(STACK).spawn(move || measure(&SIZES.map(bundle), rounds));
     let rows = run.expect("a thread").join().expect("the run ends");
     print!("{}", page::table(&rows));
-    if rounds >= ENOUGH {
+    let verdict = noise::verdict(rows.iter().flat_map(Row::spreads), rounds);
+    std::process::exit(verdict.settle(|| {
         let docs = Path::new(env!("CARGO_MANIFEST_DIR")).join("../docs");
         std::fs::write(docs.join("BENCHMARK.md"), page::page(&rows, rounds, date))
             .expect("docs/BENCHMARK.md is written");
         std::fs::write(docs.join("benchmark.svg"), plot::plot(&rows)).expect("docs/benchmark.svg is written");
-    }
+    }));
 }

@@ -1,4 +1,5 @@
 //! The clock: each call by itself, summed over the scripts of a size, in rounds that go over all sizes and all programs.
+use crate::noise::spread;
 use crate::scripts::Script;
 use std::hint::black_box;
 use std::time::Instant;
@@ -22,6 +23,8 @@ extern "C" {
 pub struct Times {
     pub median: f64,
     pub least: f64,
+    /// How far the rounds are apart.
+    pub spread: f64,
 }
 
 /// One size.
@@ -39,6 +42,12 @@ impl Row {
     /// How many times as long the Rust takes as the whole call.
     pub fn ratio(&self) -> f64 {
         self.rust.median / self.whole.median
+    }
+
+    /// What was measured, in words, and its spread.
+    pub fn spreads(&self) -> [(String, f64); 3] {
+        let named = [("the whole call", self.whole), ("the check alone", self.check), ("the Rust", self.rust)];
+        named.map(|(name, times)| (format!("{name} at {} nodes", self.nodes), times.spread))
     }
 }
 
@@ -73,7 +82,7 @@ fn row(bundle: &[Script], times: [Vec<f64>; 4]) -> Row {
 
 fn summary(mut times: Vec<f64>, nodes: f64) -> Times {
     times.sort_by(f64::total_cmp);
-    Times { median: times[times.len() / 2] / nodes, least: times[0] / nodes }
+    Times { median: times[times.len() / 2] / nodes, least: times[0] / nodes, spread: spread(&times) }
 }
 
 /// As many words as a call needs, no more: all of them are cleared.

@@ -1,6 +1,7 @@
 //! The table, and the page that docs/ keeps.
 use crate::machine::{processor, says};
 use crate::measure::{Row, Times};
+use crate::noise::MOST;
 
 /// A row for each size, and how much a node of the largest costs more than one of the smallest.
 pub fn table(rows: &[Row]) -> String {
@@ -40,7 +41,7 @@ fn with_commas(n: usize) -> String {
 /// docs/BENCHMARK.md.
 pub fn page(rows: &[Row], rounds: usize, date: &str) -> String {
     let (processor, rustc, kit) = (processor(), says("rustc", "--version"), says("rt", "version"));
-    let table = table(rows);
+    let (table, most) = (table(rows), 100.0 * MOST);
     format!(
         "# Benchmark
 
@@ -61,7 +62,7 @@ How it is measured. One process lowers generated scripts: functions with ordinar
 the Rust's, byte for byte. For each size there are as many different scripts as make about 30,000 nodes in all, and a round goes over all of them: a small
 script that is repeated is learnt by the branch predictor and looks faster than it is. Each round goes over all sizes, and in each over all
 programs, so that a disturbance meets all. The work area has 12,288 words and 16 for each node, the output 64 bytes more than the image. Growth is from the
-smallest size to the largest.
+smallest size to the largest. Nothing is written where three quarters of the rounds reach more than {most:.0} % above the quickest.
 "
     )
 }

@@ -17,8 +17,10 @@
 //! # Ok::<(), yengrazul::Refusal>(())
 //! ```
 //!
+//! What tree and image files hold: `docs/FORMATS.md` of the project.
+//!
 //! To build it, `rt staticlib lower` must have written `target/staticlib/liblower.a` in the project; `YENGRAZUL_LIB` may name
-//! another folder that holds `liblower.a`.
+//! another folder that holds `liblower.a`, as `lib/yengrazul` of an installed package.
 #![deny(missing_docs, unsafe_op_in_unsafe_fn)]
 
 mod lowerer;
@@ -28,6 +30,9 @@ mod refusal;
 pub use lowerer::{Lowerer, LARGEST_IMAGE, MOST_NODES, STACK_BYTES};
 pub use mode::Mode;
 pub use refusal::{Cause, Refusal};
+
+/// The version of the project; the header and the commands have the same.
+pub const VERSION: &str = env!("CARGO_PKG_VERSION");
 
 /// The image of a tree file in [`Mode::Zero`], or the refusal. Any bytes may be asked about.
 ///

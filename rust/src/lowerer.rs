@@ -103,7 +103,8 @@ impl Lowerer {
 
 /// The length of the image, or the refusal. The caller's thread has the stack that a call takes.
 unsafe fn call(tree: &[u8], work: &mut [u32], out: &mut [u8], mode: u64) -> Result<usize, Refusal> {
-    let mut answer = [0u64; 3];
+    // an answer that is not written is none
+    let mut answer = [u64::MAX; 3];
     unsafe {
         yengrazul_lower(
             tree.as_ptr(),
@@ -116,10 +117,14 @@ unsafe fn call(tree: &[u8], work: &mut [u32], out: &mut [u8], mode: u64) -> Resu
             &mut answer,
         );
     }
-    let [number, node, length] = answer;
-    match Cause::from_number(number) {
-        Some(cause) => Err(Refusal { cause, node }),
-        None => Ok(length as usize),
+    told(answer, out.len())
+}
+
+/// Number, place and length as a result. 0 alone is an image, and only where its length can be one.
+fn told([number, node, length]: [u64; 3], room: usize) -> Result<usize, Refusal> {
+    match usize::try_from(length) {
+        Ok(length) if number == 0 && 0 < length && length <= room => Ok(length),
+        _ => Err(Refusal { cause: Cause::from_number(number).unwrap_or(Cause::Unknown(number)), node }),
     }
 }
 
@@ -158,6 +163,19 @@ mod tests {
             let image = told.as_ref().map_or(0, |image| image.as_bytes().len());
             assert!(lowerer.out[image..4096 + 16 * nodes].iter().all(|byte| *byte == 0));
             assert_eq!(told.ok(), (tree.len() == 3 && mode < 2).then(|| due.clone()));
+        }
+    }
+
+    #[test]
+    fn zero_alone_is_an_image() {
+        let unknown = |number, node| Err(Refusal { cause: Cause::Unknown(number), node });
+        assert_eq!(told([0, 0, 22], 22), Ok(22));
+        assert_eq!(told([0, 0, 23], 22), unknown(0, 0));
+        assert_eq!(told([0, 0, 0], 22), unknown(0, 0));
+        assert_eq!(told([99, 5, 22], 22), unknown(99, 5));
+        assert_eq!(told([u64::MAX; 3], 22), unknown(u64::MAX, u64::MAX));
+        for cause in Cause::ALL {
+            assert_eq!(told([cause.number(), 3, 22], 22), Err(Refusal { cause, node: 3 }));
         }
     }
 

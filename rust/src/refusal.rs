@@ -4,21 +4,33 @@ use std::fmt::{Display, Formatter};
 
 macro_rules! causes {
     ($($number:literal $variant:ident $name:literal $text:literal,)*) => {
-        /// Why a tree was refused; the numbers and names are those of documents 01 and 02.
+        /// Why there is no image; the numbers and names are those of documents 01 and 02. Later versions know more of them.
         #[derive(Clone, Copy, Debug, PartialEq, Eq, PartialOrd, Ord, Hash)]
-        #[repr(u8)]
+        #[non_exhaustive]
         pub enum Cause {
-            $(#[doc = concat!($number, ": ", $text, ".")] $variant = $number,)*
+            $(#[doc = concat!($number, ": ", $text, ".")] $variant,)*
+            /// The library answered what this crate does not know: another number, or 0 and no image that fits the buffer. Whatever it
+            /// means, there is no image.
+            Unknown(u64),
         }
 
         impl Cause {
-            /// All of them, by their numbers.
-            pub const ALL: [Cause; 19] = [$(Cause::$variant),*];
+            /// All that this crate knows, by their numbers.
+            pub const ALL: [Cause; [$($number),*].len()] = [$(Cause::$variant),*];
+
+            /// The number in its document, or the unknown one.
+            pub fn number(self) -> u64 {
+                match self {
+                    $(Cause::$variant => $number,)*
+                    Cause::Unknown(number) => number,
+                }
+            }
 
             /// The name in its document.
             pub fn name(self) -> &'static str {
                 match self {
                     $(Cause::$variant => $name,)*
+                    Cause::Unknown(_) => "Unknown",
                 }
             }
 
@@ -26,9 +38,20 @@ macro_rules! causes {
             pub fn text(self) -> &'static str {
                 match self {
                     $(Cause::$variant => $text,)*
+                    Cause::Unknown(_) => "the library answers what this crate does not know; they are of different versions",
                 }
             }
         }
+
+        // Every cause by its name: a caller's match needs an arm for the others (the first compiles), or a new cause would break it.
+        #[cfg(doctest)]
+        #[doc = concat!(
+            "```\nlet _ = |cause| match cause {\n", $("yengrazul::Cause::", stringify!($variant), " => 0,\n",)*
+            "yengrazul::Cause::Unknown(_) => 1,\n_ => 2,\n};\n```\n",
+            "```compile_fail,E0004\nlet _ = |cause| match cause {\n", $("yengrazul::Cause::", stringify!($variant), " => 0,\n",)*
+            "yengrazul::Cause::Unknown(_) => 1,\n};\n```\n",
+        )]
+        pub struct MatchedByName;
     };
 }
 
@@ -56,12 +79,7 @@ causes! {
 }
 
 impl Cause {
-    /// The number in its document: 1 to 18, and 21.
-    pub fn number(self) -> u64 {
-        self as u64
-    }
-
-    /// The cause that has this number.
+    /// The known cause that has this number.
     pub fn from_number(number: u64) -> Option<Cause> {
         Cause::ALL.into_iter().find(|cause| cause.number() == number)
     }
