@@ -15,7 +15,6 @@ pub fn spines() -> Vec<Worst> {
         spread("5 % logicals 104 deep, 1,024 times", under_ten(104, 50)),
         spread("unaries in 40 loops, 1,024 times", in_loops(40, 62, 0)),
         spread("5 % logicals in 40 loops, 1,024 times", in_loops(40, 62, 50)),
-        spread("5 % logicals in 94 loops, 1,024 times", in_loops(94, 4, 50)),
     ]
 }
 
