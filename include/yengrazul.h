@@ -51,6 +51,25 @@ extern "C" {
 void yengrazul_lower(const uint8_t *tree, size_t tree_len, uint32_t *work, size_t work_len, uint8_t *out, size_t out_len,
                      uint64_t mode, uint64_t answer[3]);
 
+/*
+ * Reads an image back: whether the bytes are an image by document 02's rules (docs/FORMATS.md, "Reading an image back").
+ *
+ *   answer[0]  number: 0 taken, 19 or 20 of enum yengrazul_refusal
+ *   answer[1]  place: fields are counted from 0 in the whole image; of 19, the whole fields before the one that is cut; of 20, the first field that
+ *              cannot follow, or the number of fields where the end comes too soon, else the lowest instruction for which a fact fails (a
+ *              capture's at its Closure); 0 where taken
+ *
+ * Every image that yengrazul_lower writes is taken, in either mode. Any bytes may be asked about. It reads image[0..image_len), writes the two
+ * numbers of answer, which may hold anything before, and touches nothing else; nothing is allocated, the time is linear in the bytes. The caller's
+ * part and threads are as above. In this release it is in libreader.a.
+ *
+ *     uint64_t answer[2];
+ *     yengrazul_read(image, image_len, answer);
+ *     if (answer[0] != YENGRAZUL_ACCEPTED)
+ *         printf("%s, field %" PRIu64 ": %s\n", yengrazul_name(answer[0]), answer[1], yengrazul_cause(answer[0]));
+ */
+void yengrazul_read(const uint8_t *image, size_t image_len, uint64_t answer[2]);
+
 /* The modes. */
 #define YENGRAZUL_MODE_0 ((uint64_t)0)
 #define YENGRAZUL_MODE_1 ((uint64_t)1)
@@ -71,8 +90,8 @@ void yengrazul_check(const uint8_t *tree, size_t tree_len, size_t work_len, uint
 /* No image is longer: 256 prototypes of 255 captures and 32,767 instructions, 1,024 constants. Most are some 8 bytes for each node. */
 #define YENGRAZUL_IMAGE_MOST ((size_t)256 * (13 + 255 * 5 + 32767 * 9) + (size_t)1024 * 11)
 
-/* answer[0], and when it is given. 21 comes before all; 1 to 6 are about the whole input, in that order; 7 to 17 are the first met as the tree
-   is lowered; 18 comes last. */
+/* answer[0], and when it is given. Of a tree: 21 comes before all; 1 to 6 are about the whole input, in that order; 7 to 17 are the first met as
+   the tree is lowered; 18 comes last. Of an image: 19, then 20. */
 enum yengrazul_refusal {
     YENGRAZUL_ACCEPTED = 0,
     YENGRAZUL_FRAME = 1,
@@ -93,6 +112,8 @@ enum yengrazul_refusal {
     YENGRAZUL_NESTING = 16,
     YENGRAZUL_LONG = 17,
     YENGRAZUL_ROOM = 18,
+    YENGRAZUL_IMAGE_FRAME = 19,
+    YENGRAZUL_IMAGE_RULE = 20,
     YENGRAZUL_MODE = 21
 };
 
@@ -100,9 +121,9 @@ enum yengrazul_refusal {
 static inline const char *yengrazul_name(uint64_t number)
 {
     static const char *const names[] = {
-        "Accepted",  "Frame", "Many",  "Shape",  "Tree",      "Depth",      "Work",    "Registers", "Captures", "Undefined",
-        "Redefined", "Stray", "Empty", "Return", "Constants", "Prototypes", "Nesting", "Long",      "Room",     "Unknown",
-        "Unknown",   "Mode",
+        "Accepted",   "Frame", "Many",  "Shape",  "Tree",      "Depth",      "Work",    "Registers", "Captures", "Undefined",
+        "Redefined",  "Stray", "Empty", "Return", "Constants", "Prototypes", "Nesting", "Long",      "Room",     "Image frame",
+        "Image rule", "Mode",
     };
     return number < sizeof names / sizeof *names ? names[number] : "Unknown";
 }
@@ -130,8 +151,8 @@ static inline const char *yengrazul_cause(uint64_t number)
         "eight functions may be open at once, the main one counted",
         "a function may have 32,767 instructions, its last Return counted",
         "the image must fit into the output",
-        "no refusal has this number",
-        "no refusal has this number",
+        "a header or a payload of the image runs past the end, or there is no field at all",
+        "the image's fields must follow as 01 says, and every instruction must keep 02's rules",
         "the mode must be 0 or 1",
     };
     return number < sizeof causes / sizeof *causes ? causes[number] : "no refusal has this number";

@@ -1,4 +1,5 @@
-//! Links liblower.a, which `rt staticlib lower` writes to target/staticlib of the project; YENGRAZUL_LIB may name another folder.
+//! Links libyengrazul.a, or liblower.a and libreader.a where that is missing: `rt staticlib` writes them to target/staticlib of the project;
+//! YENGRAZUL_LIB may name another folder.
 use std::path::PathBuf;
 
 fn main() {
@@ -9,15 +10,20 @@ fn main() {
     let root = here.join("..");
     // a relative folder is meant from the project's root
     let folder = root.join(std::env::var_os("YENGRAZUL_LIB").unwrap_or("target/staticlib".into()));
-    let archive = folder.join("liblower.a");
-    println!("cargo::rerun-if-changed={}", archive.display());
-    if archive.exists() {
-        println!("cargo::rustc-link-search=native={}", folder.display());
-        println!("cargo::rustc-link-lib=static=lower");
-    } else {
-        println!(
-            "cargo::error={} is missing: run `rt staticlib lower` in the project, or set YENGRAZUL_LIB to the folder of liblower.a",
-            archive.display()
-        );
+    let archive = |library: &str| folder.join(format!("lib{library}.a"));
+    for library in ["yengrazul", "lower", "reader"] {
+        println!("cargo::rerun-if-changed={}", archive(library).display());
+    }
+    let libraries: &[&str] = if archive("yengrazul").exists() { &["yengrazul"] } else { &["lower", "reader"] };
+    println!("cargo::rustc-link-search=native={}", folder.display());
+    for library in libraries {
+        if archive(library).exists() {
+            println!("cargo::rustc-link-lib=static={library}");
+        } else {
+            println!(
+                "cargo::error={} is missing: run `rt staticlib {library}` in the project, or set YENGRAZUL_LIB to the folder of lib{library}.a",
+                archive(library).display()
+            );
+        }
     }
 }

@@ -1,11 +1,11 @@
-# The proved program behind bin/lower, which reads this: where it stands, and how it is run. It says nothing but what is refused or failed, and always
-# ends with 0, since a program of Rattle has no other status: bin/lower gives the status by what was said.
+# The proved programs behind bin/lower and bin/list, which read this: where one stands, and how it is run. It always ends with 0, since a program of
+# Rattle has no other status: the command gives the status by what was written.
 
-find_program() {
-    program=$root/libexec/lower_main # in an installed package
+find_program() { # NAME
+    program=$root/libexec/$1 # in an installed package
     if [ ! -x "$program" ]; then
-        program=$root/target/bin/lower_main
-        made bin/lower_main lower_main check lower_main
+        program=$root/target/bin/$1
+        made "bin/$1" "$1" check "$1"
     fi
     # programs are for x86-64; on another processor the kit's emulator runs them, as rt does
     emulator=''
@@ -18,11 +18,10 @@ find_program() {
     esac
 }
 
-# The program on standard input, its image on descriptor 3. Its rooms are arrays on the stack, so the stack may grow as far as the system lets it.
+# The program on standard input, what it writes on descriptor 3, what it says on standard error in $said.
 run_program() { # WORDS..
     said=$(
-        exec 2>/dev/null # the shell's own words on a program that is ended by a signal
-        ulimit -s unlimited || ulimit -s "$(ulimit -H -s)"
+        free_stack
         if [ -n "$copy" ]; then
             { tee -- "$copy" || rm -f -- "$copy"; } | program_itself "$@" 2>&1 >&3 3>&-
         else
@@ -31,6 +30,12 @@ run_program() { # WORDS..
         exit $?
     )
     ended=$?
+}
+
+# Its rooms are arrays on the stack, so the stack may grow as far as the system lets it.
+free_stack() {
+    exec 2>/dev/null # the shell's own words on a program that is ended by a signal
+    ulimit -s unlimited || ulimit -s "$(ulimit -H -s)"
 }
 
 program_itself() { # WORDS..

@@ -19,7 +19,7 @@ fn main() {
     let rounds: usize = rounds.parse().expect("a number of rounds");
     let run = std::thread::Builder::new().stack_size(STACK).spawn(move || measure(&SIZES.map(bundle), rounds));
     let rows = run.expect("a thread").join().expect("the run ends");
-    print!("{}", page::table(&rows));
+    print!("{}\n{}", page::table(&rows), page::reading(&rows));
     let verdict = noise::verdict(rows.iter().flat_map(Row::spreads), rounds);
     std::process::exit(verdict.settle(|| {
         let docs = Path::new(env!("CARGO_MANIFEST_DIR")).join("../docs");

@@ -1,6 +1,7 @@
 //! The clock: each call by itself, summed over the scripts of a size, in rounds that go over all sizes and all programs.
 use crate::noise::spread;
 use crate::scripts::Script;
+use files::tree::first_field;
 use std::hint::black_box;
 use std::time::Instant;
 
@@ -16,9 +17,10 @@ extern "C" {
         answer: *mut u64,
     );
     fn yengrazul_check(tree: *const u8, tree_len: usize, work_len: usize, answer: *mut u64);
+    fn yengrazul_read(image: *const u8, image_len: usize, answer: *mut u64);
 }
 
-/// Nanoseconds a node, over all rounds.
+/// Nanoseconds a node, or a field of an image, over all rounds.
 #[derive(Clone, Copy)]
 pub struct Times {
     pub median: f64,
@@ -36,6 +38,12 @@ pub struct Row {
     pub mode_1: Times,
     pub check: Times,
     pub rust: Times,
+    /// Fields an image.
+    pub fields: usize,
+    /// A field of the image, by the reader.
+    pub read: Times,
+    /// A field of the image, by a loop that only frames.
+    pub framed: Times,
 }
 
 impl Row {
@@ -45,8 +53,13 @@ impl Row {
     }
 
     /// What was measured, in words, and its spread.
-    pub fn spreads(&self) -> [(String, f64); 3] {
-        let named = [("the whole call", self.whole), ("the check alone", self.check), ("the Rust", self.rust)];
+    pub fn spreads(&self) -> [(String, f64); 4] {
+        let named = [
+            ("the whole call", self.whole),
+            ("the check alone", self.check),
+            ("the Rust", self.rust),
+            ("the reader", self.read),
+        ];
         named.map(|(name, times)| (format!("{name} at {} nodes", self.nodes), times.spread))
     }
 }
@@ -62,10 +75,11 @@ pub fn measure(bundles: &[Vec<Script>], rounds: usize) -> Vec<Row> {
     let most = |of: fn(&Script) -> usize| bundles.iter().flatten().map(of).max().expect("a script");
     let mut lent = Lent { work: vec![0; most(words)], out: vec![0; most(room)] };
     bundles.iter().flatten().for_each(|script| same_image(script, &mut lent));
-    let mut times = vec![[const { Vec::new() }; 4]; bundles.len()];
+    let mut times = vec![[const { Vec::new() }; 6]; bundles.len()];
     for round in 0..=rounds {
         for (bundle, times) in bundles.iter().zip(&mut times) {
-            let taken = [rust(bundle), whole(bundle, 0, &mut lent), whole(bundle, 1, &mut lent), check(bundle)];
+            let [zero, one] = [0, 1].map(|mode| whole(bundle, mode, &mut lent));
+            let taken = [rust(bundle), zero, one, check(bundle), read(bundle), framed(bundle)];
             if round > 0 {
                 times.iter_mut().zip(taken).for_each(|(times, taken)| times.push(taken));
             }
@@ -74,10 +88,14 @@ pub fn measure(bundles: &[Vec<Script>], rounds: usize) -> Vec<Row> {
     bundles.iter().zip(times).map(|(bundle, times)| row(bundle, times)).collect()
 }
 
-fn row(bundle: &[Script], times: [Vec<f64>; 4]) -> Row {
+fn row(bundle: &[Script], times: [Vec<f64>; 6]) -> Row {
     let all: usize = bundle.iter().map(|script| script.nodes).sum();
-    let [rust, whole, mode_1, check] = times.map(|times| summary(times, all as f64));
-    Row { nodes: all / bundle.len(), scripts: bundle.len(), whole, mode_1, check, rust }
+    let fields: usize = bundle.iter().map(|script| script.fields).sum();
+    let [rust, whole, mode_1, check, read, framed] = times;
+    let [rust, whole, mode_1, check] = [rust, whole, mode_1, check].map(|times| summary(times, all as f64));
+    let [read, framed] = [read, framed].map(|times| summary(times, fields as f64));
+    let (nodes, scripts, fields) = (all / bundle.len(), bundle.len(), fields / bundle.len());
+    Row { nodes, scripts, whole, mode_1, check, rust, fields, read, framed }
 }
 
 fn summary(mut times: Vec<f64>, nodes: f64) -> Times {
@@ -131,6 +149,35 @@ fn check(bundle: &[Script]) -> f64 {
         let call = || unsafe { yengrazul_check(tree.as_ptr(), tree.len(), words(script), answer.as_mut_ptr()) };
         let taken = nanoseconds(call);
         assert_eq!(answer, [0, 0, script.nodes as u64], "the script is accepted");
+        taken
+    };
+    bundle.iter().map(one).sum()
+}
+
+/// The image read back.
+fn read(bundle: &[Script]) -> f64 {
+    let one = |script: &Script| {
+        let mut answer = [9u64; 2];
+        let image = black_box(&script.image);
+        let taken = nanoseconds(|| unsafe { yengrazul_read(image.as_ptr(), image.len(), answer.as_mut_ptr()) });
+        assert_eq!(answer, [0, 0], "the image is taken");
+        taken
+    };
+    bundle.iter().map(one).sum()
+}
+
+/// A plain loop over the image's fields that looks at nothing but their lengths.
+fn framed(bundle: &[Script]) -> f64 {
+    let one = |script: &Script| {
+        let (mut fields, mut rest) = (0, &black_box(&script.image)[..]);
+        let taken = nanoseconds(|| {
+            while let Some((field, behind)) = first_field(rest) {
+                black_box(field);
+                fields += 1;
+                rest = behind;
+            }
+        });
+        assert_eq!((fields, rest.len()), (script.fields, 0), "whole fields");
         taken
     };
     bundle.iter().map(one).sum()

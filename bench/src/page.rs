@@ -22,6 +22,18 @@ pub fn table(rows: &[Row]) -> String {
     text + &format!("| growth | | {whole} | {mode_1} | {check} | {rust} | |\n")
 }
 
+/// The images of the same scripts, read back.
+pub fn reading(rows: &[Row]) -> String {
+    let mut text =
+        String::from("| fields an image | images | read | framed alone | read / framed |\n|---|---|---|---|---|\n");
+    for row in rows {
+        let [read, framed] = [row.read, row.framed].map(both);
+        let (fields, ratio) = (with_commas(row.fields), row.read.median / row.framed.median);
+        text += &format!("| {fields} | {} | {read} | {framed} | {ratio:.1} |\n", row.scripts);
+    }
+    text
+}
+
 fn both(times: Times) -> String {
     format!("{:.1} ({:.1})", times.median, times.least)
 }
@@ -41,7 +53,7 @@ fn with_commas(n: usize) -> String {
 /// docs/BENCHMARK.md.
 pub fn page(rows: &[Row], rounds: usize, date: &str) -> String {
     let (processor, rustc, kit) = (processor(), says("rustc", "--version"), says("rt", "version"));
-    let (table, most) = (table(rows), 100.0 * MOST);
+    let (table, reading, most) = (table(rows), reading(rows), 100.0 * MOST);
     format!(
         "# Benchmark
 
@@ -57,6 +69,12 @@ Nanoseconds a node: the median of {rounds} rounds, and the least in brackets. Ra
 - Check alone: `yengrazul_check`, refusals 1 to 6.
 - Rust compile: `compile` and `leave_function` of the unchanged source from a ready syntax tree. It reads no bytes, checks nothing, and writes no
   image; what it gives is dropped while the clock stands.
+
+Nanoseconds a field of the images that come of it, read back:
+
+{reading}
+- Read: `yengrazul_read`, the whole judgement. Framed alone: a plain loop in Rust over the fields that looks at nothing but their lengths. The goal
+  is at most three times that.
 
 How it is measured. One process lowers generated scripts: functions with ordinary bodies, always accepted; before the clock starts each image of mode 0 is compared with
 the Rust's, byte for byte. For each size there are as many different scripts as make about 30,000 nodes in all, and a round goes over all of them: a small

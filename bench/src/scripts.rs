@@ -20,6 +20,8 @@ pub struct Script {
     pub nodes: usize,
     /// The Rust's own image.
     pub image: Vec<u8>,
+    /// How many fields it has.
+    pub fields: usize,
     /// The Rust's syntax tree.
     pub program: Vec<Stmt>,
 }
@@ -31,8 +33,9 @@ pub fn bundle(about: usize) -> Vec<Script> {
 
 fn one(seed: u64, about: usize) -> Script {
     let tree = file(&script(&mut Rng::new(seed), about), Order::Post);
-    let fields = fields(&tree).expect("whole fields");
+    let of_tree = fields(&tree).expect("whole fields");
     let (nodes, image, program) =
-        (fields.len(), unchanged::lower(&fields).to_bytes(), unchanged::read::program(&fields));
-    Script { tree, nodes, image, program }
+        (of_tree.len(), unchanged::lower(&of_tree).to_bytes(), unchanged::read::program(&of_tree));
+    let fields = fields(&image).expect("whole fields").len();
+    Script { tree, nodes, image, fields, program }
 }

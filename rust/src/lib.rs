@@ -17,16 +17,21 @@
 //! # Ok::<(), yengrazul::Refusal>(())
 //! ```
 //!
+//! [`Image::read`] takes an image back, whoever wrote it, and gives its prototypes, instructions and constants; it is proved too.
+//!
 //! What tree and image files hold: `docs/FORMATS.md` of the project.
 //!
-//! To build it, `rt staticlib lower` must have written `target/staticlib/liblower.a` in the project; `YENGRAZUL_LIB` may name
-//! another folder that holds `liblower.a`, as `lib/yengrazul` of an installed package.
+//! To build it, `rt staticlib lower` and `rt staticlib reader` must have written `liblower.a` and `libreader.a` to `target/staticlib` of the
+//! project, or one `libyengrazul.a` there has both; `YENGRAZUL_LIB` may name another folder that holds them, as `lib/yengrazul` of an
+//! installed package.
 #![deny(missing_docs, unsafe_op_in_unsafe_fn)]
 
+mod image;
 mod lowerer;
 mod mode;
 mod refusal;
 
+pub use image::{Capture, Captures, Constant, Constants, Image, Instruction, Instructions, Prototype, Prototypes};
 pub use lowerer::{Lowerer, LARGEST_IMAGE, MOST_NODES, STACK_BYTES};
 pub use mode::Mode;
 pub use refusal::{Cause, Refusal};
@@ -53,26 +58,4 @@ pub fn lower(tree: &[u8]) -> Result<Image, Refusal> {
 /// Where the system gives no thread.
 pub fn lower_in(tree: &[u8], mode: impl Into<u64>) -> Result<Image, Refusal> {
     Lowerer::new().mode(mode).lower(tree)
-}
-
-/// An image file: prototypes, the main one last, then constants, as document 01 lays them out.
-#[derive(Clone, Debug, PartialEq, Eq, Hash)]
-pub struct Image(Vec<u8>);
-
-impl Image {
-    /// The bytes of the file.
-    pub fn as_bytes(&self) -> &[u8] {
-        &self.0
-    }
-
-    /// The bytes of the file, owned.
-    pub fn into_bytes(self) -> Vec<u8> {
-        self.0
-    }
-}
-
-impl AsRef<[u8]> for Image {
-    fn as_ref(&self) -> &[u8] {
-        &self.0
-    }
 }

@@ -86,7 +86,7 @@ impl Lowerer {
                 Err(refusal) if refusal.cause == Cause::Room && room < LARGEST_IMAGE => {
                     room = LARGEST_IMAGE.min(4 * room);
                 }
-                _ => return told.map(|length| Image(self.out[..length].to_vec())),
+                _ => return told.map(|length| Image::written(&self.out[..length])),
             }
         }
     }

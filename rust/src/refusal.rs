@@ -55,7 +55,8 @@ macro_rules! causes {
     };
 }
 
-// include/yengrazul.h and crates/lower_main/src/words.rt have the same words; tests/same_words.rs compares them.
+// include/yengrazul.h has the same words, and crates/lower_main/src/words.rt those of the lowering, which never gives 19 and 20;
+// tests/same_words.rs compares them.
 causes! {
     1 Frame "Frame" "a header or a payload runs past the end, or there is no field at all",
     2 Many "Many" "a tree may have 32,768 nodes",
@@ -75,6 +76,8 @@ causes! {
     16 Nesting "Nesting" "eight functions may be open at once, the main one counted",
     17 Long "Long" "a function may have 32,767 instructions, its last Return counted",
     18 Room "Room" "the image must fit into the output",
+    19 ImageFrame "Image frame" "a header or a payload of the image runs past the end, or there is no field at all",
+    20 ImageRule "Image rule" "the image's fields must follow as 01 says, and every instruction must keep 02's rules",
     21 Mode "Mode" "the mode must be 0 or 1",
 }
 
@@ -92,7 +95,7 @@ impl Display for Cause {
     }
 }
 
-/// What a refused tree is told.
+/// What a refused tree or image is told.
 ///
 /// ```
 /// use yengrazul::{Cause, Refusal};
@@ -103,7 +106,8 @@ impl Display for Cause {
 pub struct Refusal {
     /// Why.
     pub cause: Cause,
-    /// Where: nodes are counted from 0, in the order of their fields. Of [`Cause::Frame`], the whole fields before it; of [`Cause::Mode`], 0.
+    /// Where: nodes are counted from 0, in the order of their fields. Of [`Cause::Frame`] and [`Cause::ImageFrame`], the whole fields before it;
+    /// of [`Cause::ImageRule`], the field of the image, or how many there are where the end comes too soon; of [`Cause::Mode`], 0.
     pub node: u64,
 }
 
@@ -111,7 +115,10 @@ impl Display for Refusal {
     fn fmt(&self, f: &mut Formatter) -> std::fmt::Result {
         let (cause, node) = (self.cause, self.node);
         match cause {
-            Cause::Frame => write!(f, "refused {cause} after {node} whole fields: {}", cause.text()),
+            Cause::Frame | Cause::ImageFrame => {
+                write!(f, "refused {cause} after {node} whole fields: {}", cause.text())
+            }
+            Cause::ImageRule => write!(f, "refused {cause} at field {node}: {}", cause.text()),
             Cause::Mode => write!(f, "refused {cause}: {}", cause.text()),
             _ => write!(f, "refused {cause} at node {node}: {}", cause.text()),
         }

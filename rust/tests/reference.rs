@@ -1,25 +1,9 @@
 //! The examples, the reference programs of document 01 among them, each held to its listings there: NAME.listing, and in mode 1 NAME.mode1.listing
 //! where that stands beside it. bin/tree makes the tree, bin/listing lists the image.
-use std::io::Write;
-use std::path::{Path, PathBuf};
-use std::process::{Command, Stdio};
 use yengrazul::{lower, lower_in, Mode};
 
-fn root() -> PathBuf {
-    Path::new(env!("CARGO_MANIFEST_DIR")).join("..")
-}
-
-/// What a program of bin/ makes of bytes.
-fn through(program: &str, bytes: &[u8]) -> Vec<u8> {
-    let mut python = Command::new("python3");
-    let python = python.arg(root().join("bin").join(program)).stdin(Stdio::piped()).stdout(Stdio::piped());
-    let mut child = python.spawn().expect("python3 runs");
-    // both read all before they write
-    child.stdin.take().expect("a pipe").write_all(bytes).expect("the bytes are read");
-    let made = child.wait_with_output().expect("it ends");
-    assert!(made.status.success(), "bin/{program} fails");
-    made.stdout
-}
+mod common;
+use common::{root, through};
 
 /// The listing of the image, or the refusal as a line.
 fn told(tree: &[u8], mode: Mode) -> String {

@@ -124,8 +124,10 @@ int main(void)
     expect(yengrazul_nodes(minus_x, sizeof minus_x - 1) == 4, "nodes", "a field that is cut is none");
     expect(yengrazul_nodes(minus_x, 0) == 0, "nodes", "no bytes have none");
     expect(YENGRAZUL_IMAGE_MOST == 75836160, "sizes", "the longest image");
-    expect(strcmp(yengrazul_name(19), "Unknown") == 0 && strcmp(yengrazul_name(22), "Unknown") == 0, "names", "19 and 22 are none");
-    expect(strcmp(yengrazul_name(21), "Mode") == 0 && strcmp(yengrazul_cause(22), yengrazul_cause(20)) == 0, "names", "21 is Mode, 20 and 22 are none");
+    expect(strcmp(yengrazul_name(22), "Unknown") == 0 && strcmp(yengrazul_cause(22), yengrazul_cause(99)) == 0, "names", "22 is none");
+    expect(strcmp(yengrazul_name(YENGRAZUL_MODE), "Mode") == 0, "names", "21 is Mode");
+    expect(strcmp(yengrazul_name(YENGRAZUL_IMAGE_FRAME), "Image frame") == 0, "names", "19 is Image frame");
+    expect(strcmp(yengrazul_name(YENGRAZUL_IMAGE_RULE), "Image rule") == 0, "names", "20 is Image rule");
 
     call("program 9", minus_x, sizeof minus_x, words, sizeof out, YENGRAZUL_ACCEPTED, 0, minus_x_image, length);
     call("program 9 in just its room", minus_x, sizeof minus_x, words, length, YENGRAZUL_ACCEPTED, 0, minus_x_image, length);

@@ -12,12 +12,13 @@ void _exit(int);
 
 static u8 *shared;
 
-#ifdef CALL_lower
-#define NUMBERS 9
+#define NUMBERS 10 /* which call, then what it is lent */
+
+#if defined CALL_lower || defined CALL_yengrazul
 #define DEEP (4ul << 20)
 void yengrazul_lower(const u8 *, u64, u32 *, u64, u8 *, u64, u64, u64 *);
 
-static void __attribute__((noinline)) lower(const u64 *r)
+static void __attribute__((noinline)) call_lower(const u64 *r)
 {
     yengrazul_lower(shared + r[0], r[1], (u32 *)(shared + r[2]), r[3], shared + r[4], r[5], r[6], (u64 *)(shared + r[7]));
 }
@@ -37,23 +38,37 @@ static u64 __attribute__((noinline)) touched(u8 seed)
     return DEEP - k;
 }
 
-static void ask(const u64 *r)
+static void lower(const u64 *r)
 {
     if (r[8]) paint(0x5A);
-    lower(r);
+    call_lower(r);
     if (r[8]) *(u64 *)(shared + SHARED - sizeof(u64)) = touched(0x5A);
 }
 #endif
 
-#ifdef CALL_tree
-#define NUMBERS 4
+#if defined CALL_tree || defined CALL_yengrazul
 void yengrazul_check(const u8 *, u64, u64, u64 *);
-
-static void ask(const u64 *r)
-{
-    yengrazul_check(shared + r[0], r[1], r[2], (u64 *)(shared + r[3]));
-}
 #endif
+
+#if defined CALL_reader || defined CALL_yengrazul
+void yengrazul_read(const u8 *, u64, u64 *);
+#endif
+
+static void ask(u64 which, const u64 *r)
+{
+    switch (which) {
+#if defined CALL_lower || defined CALL_yengrazul
+    case 0: lower(r); break;
+#endif
+#if defined CALL_tree || defined CALL_yengrazul
+    case 1: yengrazul_check(shared + r[0], r[1], r[2], (u64 *)(shared + r[3])); break;
+#endif
+#if defined CALL_reader || defined CALL_yengrazul
+    case 2: yengrazul_read(shared + r[0], r[1], (u64 *)(shared + r[2])); break;
+#endif
+    default: _exit(3);
+    }
+}
 
 int main(void)
 {
@@ -67,7 +82,7 @@ int main(void)
             if (k <= 0) _exit(k < 0);
             n += k;
         }
-        ask(request);
+        ask(request[0], request + 1);
         if (write(1, "", 1) != 1) _exit(2);
     }
 }

@@ -1,4 +1,4 @@
-"""A copy of the working tree in a temporary folder, with the program that is proved in its target/, and runs of its commands."""
+"""A copy of the working tree in a temporary folder, with the programs that are proved in its target/, and runs of its commands."""
 import os
 import shutil
 import subprocess
@@ -16,7 +16,7 @@ class Copy:
             if name and os.path.isfile(source):
                 os.makedirs(os.path.dirname(target), exist_ok=True)
                 shutil.copy(source, target)
-        for name in ("bin/lower_main", "stamp/lower_main"):
+        for name in ("bin/lower_main", "stamp/lower_main", "bin/list_main", "stamp/list_main"):
             target = os.path.join(self.root, "target", name)
             os.makedirs(os.path.dirname(target), exist_ok=True)
             shutil.copy(os.path.join(ROOT, "target", name), target)

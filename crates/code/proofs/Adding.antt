@@ -96,20 +96,20 @@ module _ {w : List ℕ} {p : Scope} {s : Step} {x : ℕ} (first node params : �
       sym (opened ps (adding first node params) ∙ rw (dropped-code, taken-code, n, le-ltb 32767 (s .code - first + 1) (omega arith), ne-eqb (length ps) 256 (rw e at ne), sym e))
 
   abbrev bytes : List ℕ
-  bytes = proto-bytes (proto-of w (p .nodes) (p .depth) first (s .code - first) params ∷ [])
+  bytes = proto-bytes 0x43 (proto-of w (p .nodes) (p .depth) first (s .code - first) params ∷ [])
 
   -- written where it fits
   pub added-image : {o o' : List ℕ} {end : ℕ} → Placed o x bytes o' end → (ps : List Proto) → Image o s ps → Image o' (added-step s first end) (ps ++ proto-of w (p .nodes) (p .depth) first (s .code - first) params ∷ [])
   added-image {o} {o'} {end} placed ps i = by-written (was-written o s ps on i)
     where
-      all : proto-bytes (ps ++ proto-of w (p .nodes) (p .depth) first (s .code - first) params ∷ []) ≡ proto-bytes ps ++ bytes
+      all : proto-bytes 0x43 (ps ++ proto-of w (p .nodes) (p .depth) first (s .code - first) params ∷ []) ≡ proto-bytes 0x43 ps ++ bytes
       all = protos-append ps (proto-of w (p .nodes) (p .depth) first (s .code - first) params ∷ [])
 
       by-written : Written o x (s .functions) ps → Written o' end (s .functions + 1) (ps ++ proto-of w (p .nodes) (p .depth) first (s .code - first) params ∷ [])
       by-written h =
           record {
             counted = omega (arith, h .counted, length-append ps (proto-of w (p .nodes) (p .depth) first (s .code - first) params ∷ []));
-            sized = omega (arith, placed .ends, h .sized, length-append (proto-bytes ps) bytes) ∙ sym (ap length all);
+            sized = omega (arith, placed .ends, h .sized, length-append (proto-bytes 0x43 ps) bytes) ∙ sym (ap length all);
             bytes = λ fits.
                 let z = placed .fits (omega (arith, placed .same)) in
                 ap (λ k. take k o') (placed .ends) ∙ spliced-take z ∙ ap (λ l. l ++ bytes) (h .bytes (omega (arith, z .fits))) ∙ sym all;
@@ -176,7 +176,7 @@ module _ {w o : List ℕ} {p : Scope} {s : Step} {x : ℕ} (first node params : 
   pub adds-many : s .code - first ≤ 32766 → s .functions ≡ 256 → Adds first w o p s o (refused-step s Prototypes node) node params
   adds-many h e = adds-refused Prototypes (λ ps i. many-runs first node params fine on le h ps (sym (was-written o s ps on i .counted) ∙ e))
 
-  pub adds-done : {o' : List ℕ} {end : ℕ} → s .code - first ≤ 32766 → ¬ (s .functions ≡ 256) → Placed o x (proto-bytes (proto-of w (p .nodes) (p .depth) first (s .code - first) params ∷ [])) o' end
+  pub adds-done : {o' : List ℕ} {end : ℕ} → s .code - first ≤ 32766 → ¬ (s .functions ≡ 256) → Placed o x (proto-bytes 0x43 (proto-of w (p .nodes) (p .depth) first (s .code - first) params ∷ [])) o' end
       → Adds first w o p s o' (added-step s first end) node params
   adds-done {o'} {end} h ne placed =
       record {

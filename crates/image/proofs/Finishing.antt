@@ -41,22 +41,22 @@ with-room room o last end bytes r e h f = rw (le-ltb room (length bytes) (omega 
 
 module _ (w o : List ℕ) (s : Step) (last : ℕ) {written : ℕ} (e : s .outcome ≡ Accepted written) where
   -- the image: the prototypes, then the constants
-  image-is : (p : Scope) (ps : List Proto) → image (state-of w p s ps) ≡ proto-bytes ps ++ pool w s
+  image-is : (p : Scope) (ps : List Proto) → image (state-of w p s ps) ≡ proto-bytes 0x43 ps ++ pool w s
   unfolding image state-of
   image-is p ps = refl
 
-  ended-is : (p : Scope) (ps : List Proto) → ended (length o) last (run w p s ps) ≡ fitted (length o) last (proto-bytes ps ++ pool w s)
+  ended-is : (p : Scope) (ps : List Proto) → ended (length o) last (run w p s ps) ≡ fitted (length o) last (proto-bytes 0x43 ps ++ pool w s)
   unfolding config-of
   ended-is p ps = ap (ended (length o) last) (run-going w p s ps written e) ∙ ap (fitted (length o) last) (image-is p ps)
 
   held : (ps : List Proto) → Image o s ps → Written o written (s .functions) ps
   held ps i = rw e at i
 
-  size : (ps : List Proto) → Image o s ps → length (proto-bytes ps ++ pool w s) ≡ written + length (pool w s)
-  size ps i = omega (arith, length-append (proto-bytes ps) (pool w s), held ps i .sized)
+  size : (ps : List Proto) → Image o s ps → length (proto-bytes 0x43 ps ++ pool w s) ≡ written + length (pool w s)
+  size ps i = omega (arith, length-append (proto-bytes 0x43 ps) (pool w s), held ps i .sized)
 
   pub ends-full : length o < written + length (pool w s) → Finishes w o s last o (Refused Room last)
-  ends-full h = record { same = refl; ends = λ p ps i. rw (ended-is p ps) (no-room o last (proto-bytes ps ++ pool w s) (omega (arith, size ps i))) }
+  ends-full h = record { same = refl; ends = λ p ps i. rw (ended-is p ps) (no-room o last (proto-bytes 0x43 ps ++ pool w s) (omega (arith, size ps i))) }
 
   pub ends-whole : {o' : List ℕ} {end : ℕ} → end ≡ written + length (pool w s) → Spliced o written (pool w s) o' → Finishes w o s last o' (Accepted end)
   ends-whole {o'} {end} n x =
@@ -64,7 +64,7 @@ module _ (w o : List ℕ) (s : Step) (last : ℕ) {written : ℕ} (e : s .outcom
       record {
         same = l;
         ends = λ p ps i. rw (ended-is p ps)
-            (with-room (length o) o' last end (proto-bytes ps ++ pool w s) (sym l) (n ∙ sym (size ps i)) (omega (arith, x .fits))
+            (with-room (length o) o' last end (proto-bytes 0x43 ps ++ pool w s) (sym l) (n ∙ sym (size ps i)) (omega (arith, x .fits))
             (ap (λ k. take k o') n ∙ spliced-take x ∙ ap (λ b. b ++ pool w s) (held ps i .bytes (omega (arith, x .fits)))));
       }
 

@@ -100,7 +100,7 @@ fn put_captures(work: &[u32], out: &mut [u8], at: usize, j: usize, count: usize)
 // Tag 43: an instruction by its packed word and its mark.
 fn put_inst(out: &mut [u8], at: usize, x: u32, mark: u32)
     requires { ⌜ at + 9 ≤ length (now out) ⌝ }
-    ensures { λ _. ⌜ Spliced (now (out .entry)) at (inst-bytes (unpacked x mark ∷ [])) (now (out .exit)) ⌝ }
+    ensures { λ _. ⌜ Spliced (now (out .entry)) at (inst-bytes 0x43 (unpacked x mark ∷ [])) (now (out .exit)) ⌝ }
 {
     out[at] = 0x43;
     out[at + 1] = 0;
@@ -116,7 +116,7 @@ fn put_inst(out: &mut [u8], at: usize, x: u32, mark: u32)
 // The pending code from `first` on.
 fn put_code(work: &[u32], out: &mut [u8], at: usize, nodes: usize, first: usize, count: usize)
     requires { ⌜ (top nodes ≤ length (now work)) × (2 * (first + count) ≤ top nodes) × (nodes ≤ 32768) × (at + 9 * count ≤ length (now out)) ⌝ }
-    ensures { λ _. ⌜ Spliced (now (out .entry)) at (inst-bytes (tab (λ i. inst-at (now (work .entry)) nodes (first + i)) count)) (now (out .exit)) ⌝ }
+    ensures { λ _. ⌜ Spliced (now (out .entry)) at (inst-bytes 0x43 (tab (λ i. inst-at (now (work .entry)) nodes (first + i)) count)) (now (out .exit)) ⌝ }
 {
     let top = TOP + 10 * nodes;
     let mut i: usize = 0;
@@ -139,7 +139,7 @@ fn put_prototype(
     params: u32,
 )
     requires { ⌜ (top nodes ≤ length (now work)) × (2 * (first + count) ≤ top nodes) × (nodes ≤ 32768) × (j ≤ 7) × (count < 32767) × (at + (22 + 5 * held (now work) j + 9 * count) ≤ length (now out)) ⌝ }
-    ensures { λ _. ⌜ Spliced (now (out .entry)) at (proto-bytes (proto-of (now (work .entry)) nodes j first count params ∷ [])) (now (out .exit)) ⌝ }
+    ensures { λ _. ⌜ Spliced (now (out .entry)) at (proto-bytes 0x43 (proto-of (now (work .entry)) nodes j first count params ∷ [])) (now (out .exit)) ⌝ }
 {
     let name = work[NAMES + 8 * j];
     let registers = work[REGISTERS + 8 * j] % 256;
@@ -164,7 +164,7 @@ pub fn place_prototype(
     params: u32,
 ) -> usize
     requires { ⌜ (top nodes ≤ length (now work)) × (2 * (first + count) ≤ top nodes) × (nodes ≤ 32768) × (j ≤ 7) × (count < 32767) × (at < 4294967296) ⌝ }
-    ensures { λ r. ⌜ Placed (now (out .entry)) at (proto-bytes (proto-of (now (work .entry)) nodes j first count params ∷ [])) (now (out .exit)) r ⌝ }
+    ensures { λ r. ⌜ Placed (now (out .entry)) at (proto-bytes 0x43 (proto-of (now (work .entry)) nodes j first count params ∷ [])) (now (out .exit)) r ⌝ }
 {
     let held = (work[HELD + 8 * j] % 256) as usize;
     let end = at + (22 + 5 * held + 9 * count);

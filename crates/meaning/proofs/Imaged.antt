@@ -16,7 +16,7 @@ use Rattle.meaning.specs.Image.{image}
 use Rattle.meaning.specs.Answer.{cause-number, Finished, imaged, stopped, lowered, finished-after, finished, outcome, answer}
 use Rattle.meaning.specs.Safety.{Lowered}
 use Rattle.meaning.specs.declared.Cause.{Cause}
-use Rattle.meaning.specs.declared.Cause.the-variants.{Frame, Many, Shape, Tree, Depth, Work, Registers, Captures, Undefined, Redefined, Stray, Empty, Returned, Constants, Prototypes, Nesting, Long, Room, Mode}
+use Rattle.meaning.specs.declared.Cause.the-variants.{Frame, Many, Shape, Tree, Depth, Work, Registers, Captures, Undefined, Redefined, Stray, Empty, Returned, Constants, Prototypes, Nesting, Long, Room, ImageFrame, ImageRule, Mode}
 use Rattle.meaning.specs.declared.Outcome.{Outcome}
 use Rattle.meaning.specs.declared.Outcome.the-variants.{Accepted, Refused}
 
@@ -41,6 +41,8 @@ cause-positive Prototypes = omega arith
 cause-positive Nesting = omega arith
 cause-positive Long = omega arith
 cause-positive Room = omega arith
+cause-positive ImageFrame = omega arith
+cause-positive ImageRule = omega arith
 cause-positive Mode = omega arith
 
 -- accepted is 0, and nothing else is

@@ -2,6 +2,7 @@
 pub mod Computing
 pub mod Starred
 pub mod Examples
+pub mod ImageRows
 pub mod Lists
 pub mod FieldLaws
 pub mod Kids
@@ -16,4 +17,6 @@ pub mod Keeps
 pub mod Grows
 pub mod Imaged
 pub mod Safe
+pub mod Ranges
+pub mod Images
 pub mod Quick

@@ -12,7 +12,7 @@ use Rattle.meaning.specs.Lower.{lower-program}
 use Rattle.meaning.specs.Image.{image}
 use Rattle.meaning.specs.declared.Answer.{Answer}
 use Rattle.meaning.specs.declared.Cause.{Cause}
-use Rattle.meaning.specs.declared.Cause.the-variants.{Frame, Many, Shape, Tree, Depth, Work, Registers, Captures, Undefined, Redefined, Stray, Empty, Returned, Constants, Prototypes, Nesting, Long, Room, Mode}
+use Rattle.meaning.specs.declared.Cause.the-variants.{Frame, Many, Shape, Tree, Depth, Work, Registers, Captures, Undefined, Redefined, Stray, Empty, Returned, Constants, Prototypes, Nesting, Long, Room, ImageFrame, ImageRule, Mode}
 use Rattle.meaning.specs.declared.Outcome.{Outcome}
 use Rattle.meaning.specs.declared.Outcome.the-variants.{Accepted, Refused}
 
@@ -36,6 +36,8 @@ cause-number Prototypes = 15
 cause-number Nesting = 16
 cause-number Long = 17
 cause-number Room = 18
+cause-number ImageFrame = 19
+cause-number ImageRule = 20
 cause-number Mode = 21
 
 -- what a lowering ends with: an image, or a cause with its place

@@ -1,10 +1,12 @@
--- 01, "Image file".
+-- 01, "Image file": the bytes of an image. `tag` is that of instructions.
 use Prim.Native.Nat.{ℕ, _/_, _%_}
-use mathlib.Core.Bool.{Bool, true, false}
+use mathlib.Core.Bool.{Bool, true, false, cond}
 use mathlib.Core.List.{List, [], _∷_, _++_}
 use lib.ListN.{length}
+use lib.Dec.{eqb}
 use Rattle.meaning.specs.Constant.{Constant, number, text, other}
 use Rattle.meaning.specs.State.{Capture, Proto, State}
+use Rattle.meaning.specs.Images.{Image, image-of-state}
 use Rattle.meaning.specs.declared.Instruction.{Instruction}
 
 -- two bytes, high first
@@ -25,17 +27,21 @@ abbrev pub capture-bytes : List Capture → List ℕ
 capture-bytes [] = []
 capture-bytes (c ∷ cs) = field 0x42 (flag (c .is-local) ∷ c .index ∷ []) ++ capture-bytes cs
 
--- tag 43
-abbrev pub inst-bytes : List Instruction → List ℕ
-inst-bytes [] = []
-inst-bytes (i ∷ is) = field 0x43 (i .opcode ∷ i .a ∷ i .b ∷ i .c ∷ word (i .mark)) ++ inst-bytes is
+-- a mark: two bytes, with 47 four
+abbrev pub mark-bytes : (tag mark : ℕ) → List ℕ
+mark-bytes tag m = cond (eqb tag 0x47) (word (m / 65536) ++ word m) (word m)
+
+-- tag 43 or 47
+abbrev pub inst-bytes : (tag : ℕ) → List Instruction → List ℕ
+inst-bytes tag [] = []
+inst-bytes tag (i ∷ is) = field tag (i .opcode ∷ i .a ∷ i .b ∷ i .c ∷ mark-bytes tag (i .mark)) ++ inst-bytes tag is
 
 -- tag 41, then its captures and its instructions
-abbrev pub proto-bytes : List Proto → List ℕ
-proto-bytes [] = []
-proto-bytes (p ∷ ps) =
+abbrev pub proto-bytes : (tag : ℕ) → List Proto → List ℕ
+proto-bytes tag [] = []
+proto-bytes tag (p ∷ ps) =
     field 0x41 (word (p .name) ++ (word (p .params) ++ (word (p .registers) ++ (word (length (p .captures)) ++ word (length (p .code))))))
-    ++ (capture-bytes (p .captures) ++ (inst-bytes (p .code) ++ proto-bytes ps))
+    ++ (capture-bytes (p .captures) ++ (inst-bytes tag (p .code) ++ proto-bytes tag ps))
 
 -- a number's eight bytes
 abbrev pub number-bytes : ℕ → List ℕ
@@ -49,5 +55,9 @@ constant-bytes (text n ∷ cs) = field 0x45 (word n) ++ constant-bytes cs
 constant-bytes (other w ∷ cs) = field 0x46 (word w) ++ constant-bytes cs
 
 -- "Prototypes by index, the main one last, then constants"
+abbrev pub written : (tag : ℕ) → Image → List ℕ
+written tag im = proto-bytes tag (im .prototypes) ++ constant-bytes (im .constants)
+
+-- what the lowering writes
 unfoldable pub image : State → List ℕ
-image s = proto-bytes (s .prototypes) ++ constant-bytes (s .constants)
+image s = written 0x43 (image-of-state s)

@@ -1,4 +1,4 @@
--- The definition of the lowering: bytes in, answer and output out. A reader goes through the files in this order.
+-- The definition of the lowering: bytes in, answer and output out; then of reading an image back. A reader goes through the files in this order.
 pub mod Base
 pub mod Fields
 pub mod Grammar
@@ -16,7 +16,11 @@ pub mod Expressions
 pub mod Functions
 pub mod Statements
 pub mod Lower
+pub mod Images
 pub mod Image
 pub mod Answer
 pub mod Steps
 pub mod Safety
+pub mod Follow
+pub mod Rules
+pub mod Reader

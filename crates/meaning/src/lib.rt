@@ -11,7 +11,7 @@ pub enum Literal {
     Other(u16),
 }
 
-// The causes of refusal, in the order of their numbers, 1 to 18 and 21.
+// The causes of refusal, in the order of their numbers, 1 to 21.
 pub enum Cause {
     Frame,
     Many,
@@ -31,10 +31,12 @@ pub enum Cause {
     Nesting,
     Long,
     Room,
+    ImageFrame,
+    ImageRule,
     Mode,
 }
 
-// Accepted with a length (of the image; of a check, the number of nodes), or refused with a cause and its place.
+// Accepted with a length (of the image; of a check, the number of nodes; of a reading, the number of fields), or refused with a cause and its place.
 pub enum Outcome {
     Accepted(usize),
     Refused(Cause, usize),
@@ -54,4 +56,12 @@ pub struct Instruction {
     pub b: u8,
     pub c: u8,
     pub mark: u32,
+}
+
+// What an image still has to bring: captures and instructions of the prototype in hand that are to come; and how many prototypes and constants it has brought.
+pub struct Due {
+    pub captures: usize,
+    pub code: usize,
+    pub prototypes: usize,
+    pub constants: usize,
 }

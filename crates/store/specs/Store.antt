@@ -122,8 +122,8 @@ while-going (Refused cause node) P = Unit {0}
 -- so many bytes and so many functions are those of the prototypes ps, which stand at the front of the output where they fit
 pub record Written (o : List ℕ) (written functions : ℕ) (ps : List Proto) : Type 0 where
   pub counted : functions ≡ length ps
-  pub sized : written ≡ length (proto-bytes ps)
-  pub bytes : written ≤ length o → take written o ≡ proto-bytes ps
+  pub sized : written ≡ length (proto-bytes 0x43 ps)
+  pub bytes : written ≤ length o → take written o ≡ proto-bytes 0x43 ps
 
 -- the same while nothing is refused; of a refused step's output nothing is said
 abbrev pub image-by : Outcome → List ℕ → ℕ → List Proto → Type 0

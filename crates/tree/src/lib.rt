@@ -1,5 +1,4 @@
 // Tree files: fields, shapes, owners, and refusals 1 to 6 (document 01, "Tree file" and "Outcome").
-mod fields;
 mod owners;
 mod rows;
 mod shape;

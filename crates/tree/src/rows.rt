@@ -5,7 +5,7 @@
 //     DONE      times the row of the word after it
 //     ENDS      the payload may end before this word
 // specs/Rows.antt has the same table, and proofs/Table.antt proves that it says what 01's grammar says.
-use crate::fields::wide;
+use fields::wide;
 ghost use mathlib.Core.Path.{_≡_};
 ghost use Prim.Native.Nat.{_-_, _<_};
 ghost use mathlib.Core.Bool.{cond};

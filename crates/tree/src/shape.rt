@@ -1,9 +1,5 @@
 // One walk over the fields: how many there are, refusal 3, and on the way who has whom as a child. The scratch has a word for each node below the one in hand: its tag, and 256 times the
 // node that has it as a child plus one, 0 where none has, 65,535 where it is a child more than once.
-use crate::fields::is_whole;
-use crate::fields::payload;
-use crate::fields::span_of;
-use crate::fields::word;
 use crate::rows::LIMITS;
 use crate::rows::ROWS;
 use crate::rows::STARTS;
@@ -12,6 +8,10 @@ use crate::rows::is_inside;
 use crate::rows::place_after;
 use crate::rows::start_of;
 use crate::rows::wide32;
+use fields::is_whole;
+use fields::payload;
+use fields::span_of;
+use fields::word;
 ghost use mathlib.Core.Path.{_≡_};
 ghost use mathlib.Core.Bool.{cond};
 ghost use Prim.Native.Nat.{_<_, _≤_};

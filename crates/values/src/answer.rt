@@ -28,6 +28,8 @@ pub fn cause_number(c: Cause) -> u64
         Cause::Nesting => 16,
         Cause::Long => 17,
         Cause::Room => 18,
+        Cause::ImageFrame => 19,
+        Cause::ImageRule => 20,
         Cause::Mode => 21,
     }
 }

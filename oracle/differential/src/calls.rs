@@ -4,6 +4,7 @@ use oracle::facts;
 use oracle::judge::Refusal;
 use oracle::limits::Asked;
 use oracle::modes;
+use oracle::reading;
 use oracle::rng::Rng;
 
 /// `yengrazul_lower`: tree, work area, output, the mode, and the answer's three numbers.
@@ -11,6 +12,9 @@ pub type Lower = unsafe extern "C" fn(*const u8, usize, *mut u32, usize, *mut u8
 
 /// `yengrazul_check`: tree, how many words the work area has, and the answer's three numbers.
 pub type Check = unsafe extern "C" fn(*const u8, usize, usize, *mut u64);
+
+/// `yengrazul_read`: an image, and the answer's two numbers.
+pub type Read = unsafe extern "C" fn(*const u8, usize, *mut u64);
 
 /// What a call got wrong, in words.
 pub type Fault = String;
@@ -75,7 +79,24 @@ pub fn check(function: Check, tree: &[u8], work: u64, due: Result<usize, Refusal
     holds(lent.slice() == tree, "the tree was written to")
 }
 
-fn same_numbers(got: &[u64], due: [u64; 3]) -> Result<(), Fault> {
+/// Any bytes against the second reader.
+pub fn read(function: Read, image: &[u8], due: [u64; 2], rng: &mut Rng) -> Result<(), Fault> {
+    let lent = Lent::holding(rng, image);
+    let mut answer: Lent<u64> = Lent::noise(rng, 2);
+    unsafe { function(lent.slice().as_ptr(), image.len(), answer.slice_mut().as_mut_ptr()) };
+    same_numbers(answer.slice(), due)?;
+    guarded([lent.is_guarded(), answer.is_guarded()])?;
+    holds(lent.slice() == image, "the image was written to")
+}
+
+/// What the lowering writes is taken, by the library and by the second reader.
+pub fn read_back(function: Read, image: &[u8], rng: &mut Rng) -> Result<(), Fault> {
+    let due = reading::numbers(image);
+    holds(due == [0, 0], "the second reader does not take the image")?;
+    read(function, image, due, rng).map_err(|fault| format!("the image read back: {fault}"))
+}
+
+fn same_numbers<const N: usize>(got: &[u64], due: [u64; N]) -> Result<(), Fault> {
     if got == due {
         Ok(())
     } else {

@@ -1,5 +1,5 @@
 //! The functions of the static libraries that were linked.
-use crate::calls::{Check, Lower};
+use crate::calls::{Check, Lower, Read};
 
 #[cfg(has_lower)]
 extern "C" {
@@ -20,6 +20,11 @@ extern "C" {
     fn yengrazul_check(tree: *const u8, tree_len: usize, work_len: usize, answer: *mut u64);
 }
 
+#[cfg(has_read)]
+extern "C" {
+    fn yengrazul_read(image: *const u8, image_len: usize, answer: *mut u64);
+}
+
 pub fn lower() -> Option<Lower> {
     #[cfg(has_lower)]
     return Some(yengrazul_lower);
@@ -31,6 +36,13 @@ pub fn check() -> Option<Check> {
     #[cfg(has_check)]
     return Some(yengrazul_check);
     #[cfg(not(has_check))]
+    None
+}
+
+pub fn read() -> Option<Read> {
+    #[cfg(has_read)]
+    return Some(yengrazul_read);
+    #[cfg(not(has_read))]
     None
 }
 

@@ -6,8 +6,8 @@ use std::process::ExitCode;
 fn main() -> ExitCode {
     let words: Vec<String> = std::env::args().skip(1).collect();
     match plan(&words) {
-        Ok(plan) if plan.lower.is_none() && plan.check.is_none() => {
-            eprintln!("differential: no library is linked: set YENGRAZUL_LIB to the folder of liblower.a or libtree.a");
+        Ok(plan) if plan.lower.is_none() && plan.check.is_none() && plan.read.is_none() => {
+            eprintln!("differential: no library is linked: set YENGRAZUL_LIB to the folder of liblower.a, libtree.a or libreader.a");
             ExitCode::from(2)
         }
         Ok(plan) => report(&plan),
@@ -26,12 +26,14 @@ fn plan(words: &[String]) -> Result<Plan, String> {
         damaged: 20_000,
         meeting: 4_000,
         no_modes: 4_000,
+        images: 150_000,
         fixed: true,
         threads: std::thread::available_parallelism().map_or(1, |n| n.get()),
         announce: false,
         enough: 20,
         lower: linked::lower(),
         check: linked::check(),
+        read: linked::read(),
     };
     let mut words = words.iter();
     while let Some(word) = words.next() {
@@ -47,8 +49,10 @@ fn plan(words: &[String]) -> Result<Plan, String> {
             ("--mode", "1") => plan.modes = &[1],
             ("--threads", _) => plan.threads = number()? as usize,
             ("--announce", "yes") => plan.announce = true,
-            ("--only", "lower") => plan.check = None,
-            ("--only", "check") => plan.lower = None,
+            ("--images", _) => plan.images = number()?,
+            ("--only", "lower") => (plan.check, plan.images) = (None, 0),
+            ("--only", "check") => (plan.lower, plan.read) = (None, None),
+            ("--only", "read") => (plan.lower, plan.check) = (None, None),
             _ => return Err(format!("no option {word} {value}")),
         }
     }
@@ -61,18 +65,18 @@ fn fresh_seed() -> u64 {
 }
 
 fn report(plan: &Plan) -> ExitCode {
-    let names = [("lower", plan.lower.is_some()), ("check", plan.check.is_some())];
+    let names = [("lower", plan.lower.is_some()), ("check", plan.check.is_some()), ("read", plan.read.is_some())];
     let names: Vec<&str> = names.iter().filter(|(_, is)| *is).map(|(name, _)| *name).collect();
-    println!(
-        "seed {}: {} random and {} damaged trees, {} where limits meet, limits and shapes, against {}",
-        plan.seed,
-        plan.random,
-        plan.damaged,
-        plan.meeting,
-        names.join(" and ")
-    );
+    println!("seed {}, against {}", plan.seed, names.join(" and "));
+    if plan.lower.is_some() || plan.check.is_some() {
+        let Plan { random, damaged, meeting, .. } = plan;
+        println!("{random} random and {damaged} damaged trees, {meeting} where limits meet, limits and shapes");
+    }
     if plan.lower.is_some() {
         println!("each in modes {:?}, and {} calls in modes that are none", plan.modes, plan.no_modes);
+    }
+    if plan.read.is_some() && plan.images > 0 {
+        println!("{} random and damaged images, and those at the rules' limits and edited byte by byte", plan.images);
     }
     let report = run(plan);
     for (number, n) in report.by_number.iter().enumerate().filter(|(_, n)| **n > 0) {
@@ -81,7 +85,7 @@ fn report(plan: &Plan) -> ExitCode {
     for difference in &report.differences {
         println!("DIFFERS: {difference}");
     }
-    println!("{} trees, {} differences", report.total(), report.differences.len());
+    println!("{} files, {} differences", report.total(), report.differences.len());
     if report.differences.is_empty() {
         ExitCode::SUCCESS
     } else {

@@ -1,10 +1,10 @@
-//! A whole run: random and damaged trees of a seed and those in which limits meet, the limits and the shapes, in both modes; and calls in
-//! modes that are none.
-use crate::calls::{self, Check, Fault, Lower};
+//! A whole run: random and damaged trees of a seed and those in which limits meet, the limits and the shapes, in both modes; calls in
+//! modes that are none; and images for the reader.
+use crate::calls::{self, Check, Fault, Lower, Read};
 use oracle::limits::work_words;
 use oracle::questions::{self, Question};
 use oracle::rng::Rng;
-use oracle::{export, judge};
+use oracle::{export, images, judge, reading};
 use std::sync::atomic::{AtomicUsize, Ordering};
 use std::sync::Mutex;
 
@@ -21,7 +21,9 @@ pub struct Plan {
     pub meeting: u64,
     /// Calls in modes that are none.
     pub no_modes: u64,
-    /// Whether the limits and the shapes are run too.
+    /// Random and damaged images for the reader; where there are none, the fixed ones are not asked either.
+    pub images: u64,
+    /// Whether the limits, the shapes and the images made by hand are run too.
     pub fixed: bool,
     pub threads: usize,
     /// Whether each case is named before its call, to find one that ends the process.
@@ -30,11 +32,13 @@ pub struct Plan {
     pub enough: usize,
     pub lower: Option<Lower>,
     pub check: Option<Check>,
+    /// It also reads back what `lower` writes.
+    pub read: Option<Read>,
 }
 
 #[derive(Default)]
 pub struct Report {
-    /// How many trees were asked about, by the number that was due.
+    /// How many trees and images were asked about, by the number that was due.
     pub by_number: [u64; 22],
     pub differences: Vec<String>,
 }
@@ -42,6 +46,11 @@ pub struct Report {
 impl Report {
     pub fn total(&self) -> u64 {
         self.by_number.iter().sum()
+    }
+
+    fn differs(&mut self, plan: &Plan, turn: &Turn, what: &str, file: &[u8], fault: Fault) {
+        let (kind, k, seed, file) = (turn.kind, turn.k, plan.seed, short(file));
+        self.differences.push(format!("{what}, {kind} {k} of seed {seed}: {fault}; file {file}"));
     }
 
     fn add(&mut self, other: Report) {
@@ -86,27 +95,77 @@ fn turn(rows: &[Row], mut n: u64) -> Turn {
     unreachable!("a turn behind the last")
 }
 
+/// What is the same in every run, made once.
+#[derive(Default)]
+struct Fixed {
+    limits: Vec<Question>,
+    shapes: Vec<Question>,
+    images: Vec<Vec<u8>>,
+}
+
+/// What a turn asks about.
+enum Asks {
+    Tree(Question),
+    Image(Vec<u8>),
+}
+
+impl Fixed {
+    fn of(plan: &Plan) -> Fixed {
+        let (trees, images) = (plan.fixed && plan.asks_trees(), plan.fixed && plan.asks_images());
+        Fixed {
+            limits: if trees { questions::limits() } else { vec![] },
+            shapes: if trees { questions::shapes() } else { vec![] },
+            images: if images { images::fixed() } else { vec![] },
+        }
+    }
+
+    fn asks(&self, plan: &Plan, t: &Turn) -> Asks {
+        Asks::Tree(match t.kind {
+            "limits" => self.limits[t.k as usize].clone().in_mode(t.mode),
+            "shapes" => self.shapes[t.k as usize].clone().in_mode(t.mode),
+            "modes" => questions::no_mode(plan.seed, t.k),
+            "damaged" => questions::damaged(plan.seed, t.k, t.mode),
+            "meeting" => questions::meeting(plan.seed, t.k, t.mode),
+            "random" => questions::random(plan.seed, t.k, t.mode),
+            "fixed images" => return Asks::Image(self.images[t.k as usize].clone()),
+            _ => return Asks::Image(images::random::any(plan.seed, t.k)),
+        })
+    }
+}
+
+impl Plan {
+    fn asks_trees(&self) -> bool {
+        self.lower.is_some() || self.check.is_some()
+    }
+
+    fn asks_images(&self) -> bool {
+        self.read.is_some() && self.images > 0
+    }
+
+    /// The kinds of questions in their order.
+    fn rows(&self, fixed: &Fixed) -> [Row; 8] {
+        // the check knows no mode, the reader no tree
+        let (modes, no_modes): (&[u64], u64) =
+            if self.lower.is_some() { (self.modes, self.no_modes) } else { (&[0], 0) };
+        let modes = if self.asks_trees() { modes } else { &[] };
+        let images = if self.asks_images() { self.images } else { 0 };
+        [
+            Row { kind: "limits", modes, count: fixed.limits.len() as u64 },
+            Row { kind: "shapes", modes, count: fixed.shapes.len() as u64 },
+            Row { kind: "modes", modes: &[0], count: no_modes },
+            Row { kind: "damaged", modes, count: self.damaged },
+            Row { kind: "meeting", modes, count: self.meeting },
+            Row { kind: "random", modes, count: self.random },
+            Row { kind: "fixed images", modes: &[0], count: fixed.images.len() as u64 },
+            Row { kind: "images", modes: &[0], count: images },
+        ]
+    }
+}
+
 pub fn run(plan: &Plan) -> Report {
-    let fixed = if plan.fixed { (questions::limits(), questions::shapes()) } else { (vec![], vec![]) };
-    // the check knows no mode
-    let (modes, no_modes): (&[u64], u64) = if plan.lower.is_some() { (plan.modes, plan.no_modes) } else { (&[0], 0) };
-    let rows = [
-        Row { kind: "limits", modes, count: fixed.0.len() as u64 },
-        Row { kind: "shapes", modes, count: fixed.1.len() as u64 },
-        Row { kind: "modes", modes: &[0], count: no_modes },
-        Row { kind: "damaged", modes, count: plan.damaged },
-        Row { kind: "meeting", modes, count: plan.meeting },
-        Row { kind: "random", modes, count: plan.random },
-    ];
+    let fixed = Fixed::of(plan);
+    let rows = plan.rows(&fixed);
     let total = rows.iter().map(Row::total).sum::<u64>() as usize;
-    let question = |t: &Turn| match t.kind {
-        "limits" => fixed.0[t.k as usize].clone().in_mode(t.mode),
-        "shapes" => fixed.1[t.k as usize].clone().in_mode(t.mode),
-        "modes" => questions::no_mode(plan.seed, t.k),
-        "damaged" => questions::damaged(plan.seed, t.k, t.mode),
-        "meeting" => questions::meeting(plan.seed, t.k, t.mode),
-        _ => questions::random(plan.seed, t.k, t.mode),
-    };
     let (next, found, whole) = (AtomicUsize::new(0), AtomicUsize::new(0), Mutex::new(Report::default()));
     let work = || {
         let mut report = Report::default();
@@ -121,7 +180,10 @@ pub fn run(plan: &Plan) -> Report {
             }
             let mut rng = Rng::for_case(plan.seed ^ 0x6E6F_6973_65, n as u64);
             let before = report.differences.len();
-            ask(plan, &t, question(&t), &mut rng, &mut report);
+            match fixed.asks(plan, &t) {
+                Asks::Tree(question) => ask(plan, &t, question, &mut rng, &mut report),
+                Asks::Image(image) => ask_reader(plan, &t, &image, &mut rng, &mut report),
+            }
             found.fetch_add(report.differences.len() - before, Ordering::Relaxed);
         }
         whole.lock().unwrap().add(report);
@@ -135,33 +197,28 @@ pub fn run(plan: &Plan) -> Report {
 }
 
 fn ask(plan: &Plan, turn: &Turn, question: Question, rng: &mut Rng, report: &mut Report) {
-    let mut fail = |what: &str, tree: &[u8], fault: Fault| {
-        report.differences.push(format!(
-            "{what}, {} {} of seed {}: {fault}; tree {}",
-            turn.kind,
-            turn.k,
-            plan.seed,
-            short(tree)
-        ));
-    };
     let mut number = None;
     if let Some(function) = plan.check {
         let work = work_words(&question.tree, question.work);
         let due = judge::check(&question.tree, work).map(|nodes| nodes.len());
         number = Some(due.map_or_else(|r| r.number, |_| 0));
         if let Err(fault) = calls::check(function, &question.tree, work, due, rng) {
-            fail("check", &question.tree, fault);
+            report.differs(plan, turn, "check", &question.tree, fault);
         }
     }
     if let Some(function) = plan.lower {
         let asked = question.ask();
         number = Some(asked.answer.number);
-        let right = calls::lower(function, &asked, rng);
-        let right =
-            if turn.kind == "random" { right.and_then(|()| calls::both_modes(function, &asked)) } else { right };
+        let mut right = calls::lower(function, &asked, rng);
+        if turn.kind == "random" {
+            right = right.and_then(|()| calls::both_modes(function, &asked));
+        }
+        if let Some(read) = plan.read.filter(|_| asked.answer.number == 0) {
+            right = right.and_then(|()| calls::read_back(read, &asked.image, rng));
+        }
         if let Err(fault) = right {
             let lent = format!("mode {}, work {}, room {}", asked.mode, asked.work, asked.room);
-            fail("lower", &asked.tree, format!("{lent}: {fault}"));
+            report.differs(plan, turn, "lower", &asked.tree, format!("{lent}: {fault}"));
         }
     }
     if let Some(number) = number {
@@ -169,11 +226,19 @@ fn ask(plan: &Plan, turn: &Turn, question: Question, rng: &mut Rng, report: &mut
     }
 }
 
-/// A tree for a line of text; a long one is made again from its seed.
-fn short(tree: &[u8]) -> String {
-    if tree.len() > 1000 {
-        format!("of {} bytes", tree.len())
+fn ask_reader(plan: &Plan, turn: &Turn, image: &[u8], rng: &mut Rng, report: &mut Report) {
+    let due = reading::numbers(image);
+    if let Some(Err(fault)) = plan.read.map(|function| calls::read(function, image, due, rng)) {
+        report.differs(plan, turn, "read", image, fault);
+    }
+    report.by_number[due[0] as usize] += 1;
+}
+
+/// A file for a line of text; a long one is made again from its seed.
+fn short(file: &[u8]) -> String {
+    if file.len() > 1000 {
+        format!("of {} bytes", file.len())
     } else {
-        export::hex(tree)
+        export::hex(file)
     }
 }

@@ -43,14 +43,15 @@ fn name(i: &Instruction) -> &'static str {
 }
 
 /// A prototype with what its instructions may name.
-struct Here<'i> {
-    prototype: &'i Prototype,
-    earlier: &'i [Prototype],
-    constants: &'i [Constant],
+pub struct Here<'i> {
+    pub prototype: &'i Prototype,
+    pub earlier: &'i [Prototype],
+    pub constants: &'i [Constant],
 }
 
 impl Here<'_> {
-    fn check(&self, at: usize, i: &Instruction) -> Result<(), String> {
+    /// The facts of the instruction at an index, or the first that fails, in words.
+    pub fn check(&self, at: usize, i: &Instruction) -> Result<(), String> {
         if name(i) == "?" {
             return Err("no opcode".into());
         }
@@ -105,7 +106,7 @@ fn within(what: &str, n: isize, count: usize) -> Result<(), String> {
 }
 
 /// 01, "Allowed steps".
-fn targets(at: usize, i: &Instruction) -> Vec<isize> {
+pub fn targets(at: usize, i: &Instruction) -> Vec<isize> {
     let at = at as isize;
     match name(i) {
         "Return" => vec![],

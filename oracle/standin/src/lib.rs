@@ -1,5 +1,5 @@
-//! The oracle behind the C interface of the lowering: what a right library does, to try the runner on.
-use oracle::{answer, judge};
+//! The oracle behind the C interface of the lowering and the reader: what a right library does, to try the runner on.
+use oracle::{answer, judge, reading};
 use std::slice::{from_raw_parts, from_raw_parts_mut};
 
 /// # Safety
@@ -33,4 +33,12 @@ pub unsafe extern "C" fn yengrazul_check(tree: *const u8, tree_len: usize, work_
         Ok(nodes) => [0, 0, nodes.len() as u64],
         Err(refusal) => [refusal.number.into(), refusal.place, 0],
     });
+}
+
+/// # Safety
+/// The pointer and length are of a slice, and `answer` is of two numbers.
+#[no_mangle]
+pub unsafe extern "C" fn yengrazul_read(image: *const u8, image_len: usize, answer: *mut u64) {
+    let (image, answer) = (from_raw_parts(image, image_len), from_raw_parts_mut(answer, 2));
+    answer.copy_from_slice(&reading::numbers(image));
 }

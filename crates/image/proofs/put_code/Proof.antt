@@ -15,7 +15,7 @@ use Rattle.image.proofs.put_code.Statement.{statement}
 use Rattle.image.proofs.put_code.Tie as tie
 
 abbrev Inv-loop : tie.InvT-loop
-Inv-loop work out₀ at nodes first count top i₀ out i = (i ≤ count) × Spliced out₀ at (inst-bytes (tab (λ k. inst-at work nodes (first + k)) i)) out
+Inv-loop work out₀ at nodes first count top i₀ out i = (i ≤ count) × Spliced out₀ at (inst-bytes 0x43 (tab (λ k. inst-at work nodes (first + k)) i)) out
 
 abbrev μ-loop : tie.MeasureT-loop
 μ-loop work out₀ at nodes first count top i₀ out i = count - i
@@ -24,7 +24,7 @@ loop-holds : tie.Need-loop-holds Inv-loop μ-loop
 loop-holds c =
     let start = c .before .before in
     let a = start .args in
-    (omega arith, spliced-as (sym (ap inst-bytes (tab-none (λ k. inst-at (now (a .work)) (a .nodes) (a .first + k))))) (spliced-none (now (a .out)) (a .at) (omega (arith, start .pre .3))))
+    (omega arith, spliced-as (sym (ap (inst-bytes 0x43) (tab-none (λ k. inst-at (now (a .work)) (a .nodes) (a .first + k))))) (spliced-none (now (a .out)) (a .at) (omega (arith, start .pre .3))))
 
 shared-slice-read-put-inst-2 : tie.Need-shared-slice-read-put-inst-2 Inv-loop μ-loop
 shared-slice-read-put-inst-2 c =

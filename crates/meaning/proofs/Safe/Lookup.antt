@@ -30,7 +30,7 @@ in-block-below : (n name : ℕ) (ls : List Local) (o : Option ℕ) → All (λ (
 in-block-below n name [] o h k = k
 in-block-below n name (l ∷ ls) o h k = cond-either (Maybe n) (eqb name (l .name)) {x = some (l .register)} (h .0) (in-block-below n name ls o (h .1) k)
 
-local-below : (n name : ℕ) (bs : List (List Local)) → Locals n bs → Maybe n (local-of name bs)
+pub local-below : (n name : ℕ) (bs : List (List Local)) → Locals n bs → Maybe n (local-of name bs)
 local-below n name [] h = tt
 local-below n name (b ∷ bs) h = in-block-below n name b (local-of name bs) (h .0) (local-below n name bs (h .1))
 

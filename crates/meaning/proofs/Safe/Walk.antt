@@ -157,7 +157,7 @@ pub walk-stands : (cs : List Constant) (earlier : List Proto) (p : Proto) (step 
 walk-stands cs earlier p step σ more stays o here = inside-stands cs earlier p step σ more (some 0) (first-inside cs earlier p σ)
 walk-stands cs earlier p step σ more stays o (and-on {j} w s) = inside-stands cs earlier p step σ more o (stays j o s)
 
-step-from : (code : List Instruction) (i : ℕ) (o : Option ℕ) → Step code i o → i < length code
+pub step-from : (code : List Instruction) (i : ℕ) (o : Option ℕ) → Step code i o → i < length code
 step-from code i o (next l j r) = l
 step-from code i o (jump l e) = l
 step-from code i o (skip l e) = l

@@ -113,7 +113,8 @@ fn replace_word(rng: &mut Rng, payload: &mut [u8], own: usize, n: usize) {
     payload[at..at + 2].copy_from_slice(&word.to_be_bytes());
 }
 
-fn hurt_bytes(rng: &mut Rng, bytes: &mut Vec<u8>) {
+/// One damage to the bytes of any file.
+pub fn hurt_bytes(rng: &mut Rng, bytes: &mut Vec<u8>) {
     if bytes.is_empty() {
         bytes.push(rng.word() as u8);
         return;

@@ -1,0 +1,3 @@
+-- What the program needs of a number's digits and of an image that was taken.
+pub mod Digits
+pub mod Taken

@@ -1,0 +1,58 @@
+// A line is built in a text of 160 bytes: each word, and what follows it, a blank or the line's end.
+use crate::names;
+use meaning::Instruction;
+ghost use mathlib.Core.Path.{_≡_};
+ghost use Prim.Native.Nat.{_+_, _<_, _≤_};
+ghost use lib.ListN.{length};
+
+// Puts a word at a place, and a byte behind it; answers the place behind both.
+pub(crate) fn word(text: &mut [u8], at: usize, word: &[u8], after: u8) -> usize
+    requires { ⌜ at + length (now word) < length (now text) ⌝ }
+    ensures { λ r. ⌜ r ≡ at + length (now (word .entry)) + 1 ⌝ }
+{
+    let mut i: usize = 0;
+    while i < word.len() {
+        text[at + i] = word[i];
+        i += 1;
+    }
+    text[at + i] = after;
+    at + i + 1
+}
+
+// The same of a number in decimal.
+pub(crate) fn number(text: &mut [u8], at: usize, n: u64, after: u8) -> usize
+    requires { ⌜ at + 20 < length (now text) ⌝ }
+    ensures { λ r. ⌜ r ≤ at + 21 ⌝ }
+{
+    let mut digits = [0u8; 20];
+    let k = io::decimal(n, &mut digits);
+    word(text, at, &digits[..k], after)
+}
+
+// Prototype, index, name, a, b, c, mark; false where the line could not be written.
+pub(crate) fn instruction(text: &mut [u8], prototype: u64, index: u64, inst: Instruction) -> bool
+    requires { ⌜ 160 ≤ length (now text) ⌝ }
+{
+    let mut at = number(text, 0, prototype, b' ');
+    at = number(text, at, index, b' ');
+    at = names::name(text, at, inst.opcode);
+    at = operands(text, at, inst);
+    written(text, at)
+}
+
+fn operands(text: &mut [u8], at: usize, inst: Instruction) -> usize
+    requires { ⌜ at + 84 ≤ length (now text) ⌝ }
+    ensures { λ r. ⌜ r ≤ at + 84 ⌝ }
+{
+    let b = number(text, at, inst.a as u64, b' ');
+    let c = number(text, b, inst.b as u64, b' ');
+    let mark = number(text, c, inst.c as u64, b' ');
+    number(text, mark, inst.mark as u64, b'\n')
+}
+
+// Writes what stands before a place.
+pub(crate) fn written(text: &[u8], end: usize) -> bool
+    requires { ⌜ end ≤ length (now text) ⌝ }
+{
+    io::write_all(1, &text[0..end])
+}

@@ -1,0 +1,13 @@
+-- Laws that the functions' proofs cite, and that a caller may (Answered: what an accepted image has).
+pub mod Glances
+pub mod Tested
+pub mod Scanned
+pub mod Blocks
+pub mod Locates
+pub mod Marking
+pub mod Tables
+pub mod Naming
+pub mod Firsts
+pub mod Ruling
+pub mod Answered
+pub mod Determined

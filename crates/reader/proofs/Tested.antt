@@ -1,0 +1,250 @@
+-- The tests of numbers say what Rules says.
+use mathlib.Core.Path.{_≡_, refl, sym, ap, ap₂, _∙_}
+use mathlib.Core.Bool.{Bool, true, false, not, _&&_, _||_, cond}
+use mathlib.Core.Option.{some}
+use mathlib.Core.Logic.{⊎-elim}
+use mathlib.Core.List.{List, [], _∷_, _++_}
+use Prim.Native.Nat.{ℕ, zero, suc, _+_, _-_, max, _<_, _≤_}
+use native.Mathlib.Omega.{arith}
+use lib.ListN.{length}
+use lib.Dec.{eqb, leb, ltb}
+use borrow.Author.Tests.{eqb-true, ltb-true, leb-true, lt-ltb, le-ltb, le-leb, lt-leb}
+use Rattle.meaning.specs.Opcode.{bx, Move, LoadK, GetUpval, Closure, Jmp, Test, Add, Sub, Div, Mod, Mul, Pow, Lt, Gt, Lte, Gte, Eq, Neq, Not, Neg, Call, Return, Class, ClassMeth, ClassStMeth, Addi, GetIter, GetIterk, GetIteri, Length, RegisterTryCatch, DeregisterTryCatch}
+use Rattle.meaning.specs.State.{Capture, Proto, among}
+use Rattle.meaning.specs.Steps.{target}
+use Rattle.meaning.specs.Safety.{from, met, name-due}
+use Rattle.meaning.specs.declared.Instruction.{Instruction}
+use Rattle.meaning.proofs.Lists.{false-true, lt-or-le, same, same-is, all-to, all-below}
+use Rattle.meaning.specs.Constant.{Constant}
+use Rattle.meaning.specs.Rules.{opcodes-written, all, passes-at, inside, leads, let-pass, if-opcode, capture-fits, is-text, lawful}
+use Rattle.reader.specs.Tests.{written-seen, steps-seen, three-seen, two-seen, none-seen, registers-seen, operands-seen, local-need, outer-need}
+
+-- ---- booleans
+
+and-true : (x : Bool) → x && true ≡ x
+and-true true = refl
+and-true false = refl
+
+or-false : (x : Bool) → x || false ≡ x
+or-false true = refl
+or-false false = refl
+
+-- two tests with the same meaning
+both : (a b : Bool) → (a ≡ true → b ≡ true) → (b ≡ true → a ≡ true) → a ≡ b
+both true b f g = sym (f refl)
+both false true f g = g refl
+both false false f g = refl
+
+-- ---- the opcode
+
+pub written-is : (o : ℕ) → o < 256 → among o opcodes-written ≡ written-seen o
+unfolding same all-to
+written-is o h = same-is _ _ (all-below (λ (o : ℕ). same (among o opcodes-written) (written-seen o)) 256 o refl h)
+
+-- ---- steps
+
+less-is : (a b c d : ℕ) → (a < b → c < d) → (c < d → a < b) → ltb a b ≡ ltb c d
+less-is a b c d f g = both (ltb a b) (ltb c d) (λ e. lt-ltb c d (f (ltb-true a b e))) (λ e. lt-ltb a b (g (ltb-true c d e)))
+
+far : (m n : ℕ) → 65536 ≤ m → ltb (m - 65536) n ≡ ltb m (n + 65536)
+far m n h = less-is (m - 65536) n m (n + 65536) (λ k. omega arith) (λ k. omega arith)
+
+module _ (i n : ℕ) (x : Instruction) where
+  to-is : inside n (target i (bx x)) ≡ ((ltb (bx x) 32768 && ltb (i + bx x) n) || (leb 32768 (bx x) && (leb 65536 (i + bx x) && ltb (i + bx x) (n + 65536))))
+  to-is = ⊎-elim
+      (λ (h : bx x < 32768). rw (lt-ltb (bx x) 32768 h, lt-leb 32768 (bx x) h) (sym (or-false _)))
+      (λ (h : 32768 ≤ bx x). rw (le-ltb (bx x) 32768 h, le-leb 32768 (bx x) h) (⊎-elim
+      (λ (k : i + bx x < 65536). rw (lt-leb 65536 (i + bx x) k) refl)
+      (λ (k : 65536 ≤ i + bx x). rw (le-leb 65536 (i + bx x) k) (far (i + bx x) n k))
+      (lt-or-le (i + bx x) 65536)))
+      (lt-or-le (bx x) 32768)
+
+  pub steps-is : all (inside n) (leads i x) ≡ steps-seen (x .opcode) (bx x) i n
+  unfolding all leads
+  steps-is = go (eqb (x .opcode) Jmp) (eqb (x .opcode) Return) (eqb (x .opcode) Test) refl (eqb (x .opcode) RegisterTryCatch) refl
+    where
+      go : (j r t : Bool) → eqb (x .opcode) Test ≡ t → (h : Bool) → eqb (x .opcode) RegisterTryCatch ≡ h
+          → all (inside n) (cond j (target i (bx x) ∷ []) (cond r [] (some (i + 1) ∷ cond t (some (i + 2) ∷ []) (cond h (some (i + bx x) ∷ []) []))))
+          ≡ ((j && ((ltb (bx x) 32768 && ltb (i + bx x) n) || (leb 32768 (bx x) && (leb 65536 (i + bx x) && ltb (i + bx x) (n + 65536)))))
+          || (not j && (r || (ltb (i + 1) n && ((not t || ltb (i + 2) n) && (not h || ltb (i + bx x) n))))))
+      go true r t p h q = and-true _ ∙ to-is ∙ sym (or-false _)
+      go false true t p h q = refl
+      go false false true p true q = absurd (let e = eqb-true (x .opcode) Test p in let f = eqb-true (x .opcode) RegisterTryCatch q in omega arith)
+      go false false true p false q = refl
+      go false false false p true q = ap (λ (b : Bool). ltb (i + 1) n && b) (and-true _)
+      go false false false p false q = refl
+
+-- ---- registers
+
+-- no opcode is in two rows
+apart : (o : ℕ) → o < 256 → (not (three-seen o) || not (two-seen o || (none-seen o || (eqb o 20 || eqb o 19)))) ≡ true
+unfolding all-to
+apart o h = all-below (λ (o : ℕ). not (three-seen o) || not (two-seen o || (none-seen o || (eqb o 20 || eqb o 19)))) 256 o refl h
+
+apart-two : (o : ℕ) → o < 256 → (not (two-seen o) || not (none-seen o || (eqb o 20 || eqb o 19))) ≡ true
+unfolding all-to
+apart-two o h = all-below (λ (o : ℕ). not (two-seen o) || not (none-seen o || (eqb o 20 || eqb o 19))) 256 o refl h
+
+-- the rows, by the tests
+abbrev threes : List ℕ
+threes = Add ∷ Sub ∷ Div ∷ Mod ∷ Mul ∷ Pow ∷ Lt ∷ Gt ∷ Lte ∷ Gte ∷ Eq ∷ Neq ∷ Class ∷ ClassMeth ∷ ClassStMeth ∷ GetIter ∷ GetIterk ∷ []
+
+abbrev twos : List ℕ
+twos = Move ∷ Test ∷ Not ∷ Neg ∷ Addi ∷ GetIteri ∷ Length ∷ []
+
+abbrev nones : List ℕ
+nones = Jmp ∷ RegisterTryCatch ∷ DeregisterTryCatch ∷ []
+
+three-is : (o : ℕ) → o < 256 → among o threes ≡ three-seen o
+unfolding same all-to
+three-is o h = same-is _ _ (all-below (λ (o : ℕ). same (among o threes) (three-seen o)) 256 o refl h)
+
+two-is : (o : ℕ) → o < 256 → among o twos ≡ two-seen o
+unfolding same all-to
+two-is o h = same-is _ _ (all-below (λ (o : ℕ). same (among o twos) (two-seen o)) 256 o refl h)
+
+none-is : (o : ℕ) → o < 256 → among o nones ≡ none-seen o
+unfolding same all-to
+none-is o h = same-is _ _ (all-below (λ (o : ℕ). same (among o nones) (none-seen o)) 256 o refl h)
+
+all-from : (n r k : ℕ) → r ≤ n → all (λ (m : ℕ). ltb m n) (from r k) ≡ leb (r + k) n
+unfolding all
+all-from n r zero h = sym (le-leb (r + 0) n (omega arith))
+all-from n r (suc k) h = ⊎-elim
+    (λ (q : r < n). rw (lt-ltb r n q) (all-from n (suc r) k q ∙ leb-same (suc r + k) (r + suc k) n (omega arith)))
+    (λ (q : n ≤ r). rw (le-ltb r n q) (sym (lt-leb (r + suc k) n (omega arith))))
+    (lt-or-le r n)
+  where
+    leb-same : (a b n : ℕ) → a ≡ b → leb a n ≡ leb b n
+    leb-same a b n e = ap (λ (x : ℕ). leb x n) e
+
+all-append : (p : ℕ → Bool) (a b : List ℕ) → all p (a ++ b) ≡ (all p a && all p b)
+unfolding all
+all-append p [] b = refl
+all-append p (x ∷ a) b = ap (λ (t : Bool). p x && t) (all-append p a b) ∙ assoc (p x) (all p a) (all p b)
+  where
+    assoc : (x y z : Bool) → x && (y && z) ≡ (x && y) && z
+    assoc true y z = refl
+    assoc false y z = refl
+
+-- a Call's: where a is below n
+call-is : (a b c n : ℕ) → a < n → all (λ (m : ℕ). ltb m n) (from (a + 1) (b - 1) ++ (c - 1) ∷ []) ≡ (leb (a + b) n && leb c n)
+unfolding all
+call-is a b c n h = all-append (λ (m : ℕ). ltb m n) (from (a + 1) (b - 1)) ((c - 1) ∷ []) ∙ ap₂ (λ (x y : Bool). x && y)
+    (all-from n (a + 1) (b - 1) (omega arith) ∙ both (leb (a + 1 + (b - 1)) n) (leb (a + b) n) (λ e. le-leb (a + b) n (omega (arith, leb-true (a + 1 + (b - 1)) n e))) (λ e. le-leb (a + 1 + (b - 1)) n (omega (arith, leb-true (a + b) n e))))
+    (and-true _ ∙ both (ltb (c - 1) n) (leb c n) (λ e. le-leb c n (omega (arith, ltb-true (c - 1) n e))) (λ e. lt-ltb (c - 1) n (omega (arith, leb-true c n e))))
+
+module _ (x : Instruction) (n : ℕ) (small : x .opcode < 256) where
+  abbrev below : List ℕ → Bool
+  below l = all (λ (m : ℕ). ltb m n) l
+
+  abbrev rest-met : Bool → Bool → List ℕ
+  rest-met r k = cond (r || false) (cond (eqb (x .b) 0) [] (x .a ∷ [])) (cond (k || false) (x .a ∷ (from (x .a + 1) (x .b - 1) ++ (x .c - 1) ∷ [])) (x .a ∷ []))
+
+  rest-is : (r k : Bool) → (r && k) ≡ false → below (rest-met r k) ≡ ((r && eqb (x .b) 0) || (ltb (x .a) n && (not k || (leb (x .a + x .b) n && leb (x .c) n))))
+  unfolding all
+  rest-is true true e = absurd (false-true (sym e))
+  rest-is true false e = zero-b (eqb (x .b) 0)
+    where
+      zero-b : (b : Bool) → below (cond b [] (x .a ∷ [])) ≡ (b || (ltb (x .a) n && true))
+      zero-b true = refl
+      zero-b false = refl
+  rest-is false true e = ⊎-elim
+      (λ (h : x .a < n). rw (lt-ltb (x .a) n h) (call-is (x .a) (x .b) (x .c) n h))
+      (λ (h : n ≤ x .a). rw (le-ltb (x .a) n h) refl)
+      (lt-or-le (x .a) n)
+  rest-is false false e = refl
+
+  pub registers-is : below (met x) ≡ registers-seen (x .opcode) (x .a) (x .b) (x .c) n
+  unfolding all
+  registers-is =
+      rw (three-is (x .opcode) small, two-is (x .opcode) small, none-is (x .opcode) small)
+      (go (three-seen (x .opcode)) (two-seen (x .opcode)) (none-seen (x .opcode)) (eqb (x .opcode) 20) refl (eqb (x .opcode) 19) refl (apart (x .opcode) small) (apart-two (x .opcode) small))
+    where
+      go : (t w z r : Bool) → eqb (x .opcode) 20 ≡ r → (k : Bool) → eqb (x .opcode) 19 ≡ k
+          → (not t || not (w || (z || (r || k)))) ≡ true → (not w || not (z || (r || k))) ≡ true
+          → below (cond t (x .a ∷ x .b ∷ x .c ∷ []) (cond w (x .a ∷ x .b ∷ []) (cond z [] (rest-met r k))))
+          ≡ (z || ((r && eqb (x .b) 0) || (ltb (x .a) n && ((not (t || w) || ltb (x .b) n) && ((not t || ltb (x .c) n) && (not k || (leb (x .a + x .b) n && leb (x .c) n)))))))
+      go true false false false p false q e f = refl
+      go true true z r p k q e f = absurd (false-true e)
+      go true false true r p k q e f = absurd (false-true e)
+      go true false false true p k q e f = absurd (false-true e)
+      go true false false false p true q e f = absurd (false-true e)
+      go false true false false p false q e f = refl
+      go false true true r p k q e f = absurd (false-true f)
+      go false true false true p k q e f = absurd (false-true f)
+      go false true false false p true q e f = absurd (false-true f)
+      go false false true r p k q e f = refl
+      go false false false r p k q e f = rest-is r k (excl r p k q)
+        where
+          excl : (r : Bool) → eqb (x .opcode) 20 ≡ r → (k : Bool) → eqb (x .opcode) 19 ≡ k → (r && k) ≡ false
+          excl true p true q = absurd (let e = eqb-true (x .opcode) 20 p in let f = eqb-true (x .opcode) 19 q in omega arith)
+          excl true p false q = refl
+          excl false p k q = refl
+
+-- ---- captures
+
+max-is : (a b n : ℕ) → (ltb a n && leb b n) ≡ leb (max (a + 1) b) n
+max-is a b n = ⊎-elim
+    (λ (h : a < n). rw (lt-ltb a n h) (both (leb b n) (leb (max (a + 1) b) n) (λ e. le-leb (max (a + 1) b) n (omega (arith, leb-true b n e))) (λ e. le-leb b n (omega (arith, leb-true (max (a + 1) b) n e)))))
+    (λ (h : n ≤ a). rw (le-ltb a n h) (sym (lt-leb (max (a + 1) b) n (omega arith))))
+    (lt-or-le a n)
+
+pub needs-are : (rs ks : ℕ) (cs : List Capture) → all (capture-fits rs ks) cs ≡ (leb (local-need cs) rs && leb (outer-need cs) ks)
+unfolding all local-need outer-need
+needs-are rs ks [] = sym (ap₂ (λ (x y : Bool). x && y) (le-leb 0 rs (omega arith)) (le-leb 0 ks (omega arith)))
+needs-are rs ks (c ∷ cs) = ap (λ (b : Bool). capture-fits rs ks c && b) (needs-are rs ks cs) ∙ go (c .is-local)
+  where
+    front-left : (x y z : Bool) → x && (y && z) ≡ (x && y) && z
+    front-left true y z = refl
+    front-left false y z = refl
+
+    middle : (x y z : Bool) → x && (y && z) ≡ y && (x && z)
+    middle true y z = refl
+    middle false true z = refl
+    middle false false z = refl
+
+    go : (l : Bool) → (ltb (c .index) (cond l rs ks) && (leb (local-need cs) rs && leb (outer-need cs) ks))
+        ≡ (leb (cond l (max (c .index + 1) (local-need cs)) (local-need cs)) rs && leb (cond l (outer-need cs) (max (c .index + 1) (outer-need cs))) ks)
+    go true = front-left (ltb (c .index) rs) (leb (local-need cs) rs) (leb (outer-need cs) ks) ∙ ap (λ (b : Bool). b && leb (outer-need cs) ks) (max-is (c .index) (local-need cs) rs)
+    go false = middle (ltb (c .index) ks) (leb (local-need cs) rs) (leb (outer-need cs) ks) ∙ ap (λ (b : Bool). leb (local-need cs) rs && b) (max-is (c .index) (outer-need cs) ks)
+
+-- ---- an instruction
+
+module _ (ks : List Constant) (earlier : List Proto) (p : Proto) (i : ℕ) (x : Instruction) (small : x .opcode < 256) where
+  abbrev made : Bool
+  made = passes-at (λ q. all (capture-fits (p .registers) (length (p .captures))) (q .captures)) earlier (bx x)
+
+  abbrev named : Bool
+  named = passes-at is-text ks (bx x)
+
+  if-is : (o : ℕ) (b : Bool) → if-opcode x o b ≡ (not (eqb (x .opcode) o) || b)
+  if-is o b = go (eqb (x .opcode) o)
+    where
+      go : (t : Bool) → cond t b true ≡ (not t || b)
+      go true = refl
+      go false = refl
+
+  name-is : cond (among (x .opcode) name-due) named true ≡ (not (eqb (x .opcode) 44 || (eqb (x .opcode) 45 || eqb (x .opcode) 47)) || named)
+  name-is = go (eqb (x .opcode) 44) (eqb (x .opcode) 45) (eqb (x .opcode) 47)
+    where
+      go : (a b c : Bool) → cond (a || (b || (c || false))) named true ≡ (not (a || (b || c)) || named)
+      go true b c = refl
+      go false true c = refl
+      go false false true = refl
+      go false false false = refl
+
+  pub lawful-is : lawful ks earlier p i x
+      ≡ (written-seen (x .opcode)
+      && (steps-seen (x .opcode) (bx x) i (length (p .code))
+      && ((registers-seen (x .opcode) (x .a) (x .b) (x .c) (p .registers) || let-pass p i x)
+      && operands-seen (x .opcode) (x .a) (x .b) (x .c) (bx x) (length (p .captures)) made named (length ks))))
+  unfolding lawful
+  lawful-is =
+      simp (written-is (x .opcode) small, steps-is i (length (p .code)) x, registers-is x (p .registers) small, if-is Jmp (eqb (x .a) 0), if-is Call (ltb 0 (x .b) && ltb 0 (x .c)), if-is GetUpval (ltb (x .b) (length (p .captures))), if-is Closure made, if-is LoadK (ltb (bx x) (length ks)), name-is)
+      (ap (λ (b : Bool). written-seen (x .opcode) && (steps-seen (x .opcode) (bx x) i (length (p .code)) && b)) (swap (not (eqb (x .opcode) Jmp) || eqb (x .a) 0) (registers-seen (x .opcode) (x .a) (x .b) (x .c) (p .registers) || let-pass p i x) _))
+    where
+      swap : (x y z : Bool) → x && (y && z) ≡ y && (x && z)
+      swap true y z = refl
+      swap false true z = refl
+      swap false false z = refl

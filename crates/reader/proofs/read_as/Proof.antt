@@ -1,0 +1,28 @@
+-- Each stage's answer is that of the definition (Answered).
+use borrow.Author.Needs.{needs}
+use mathlib.Core.Path.{_≡_, _∙_}
+use mathlib.Core.Bool.{true}
+use denote.Ref.{now}
+use Rattle.meaning.specs.Check.{framed}
+use Rattle.reader.proofs.Answered.{frame-fails, frame-whole, order-fails, order-holds, facts-tell}
+use Rattle.reader.proofs.read_as.Statement.{statement}
+use Rattle.reader.proofs.read_as.Tie as tie
+
+framed-is : (c : tie.Else1) → framed (now (c .before .before .before .before .before .args .image)) ≡ true
+framed-is c = let f = c .before .before .before .frame in frame-whole _ _ _ (f .ensures .0) (f .ensures .1) (c .if1 .left)
+
+pub read-as-spec : {M : Type 1} → statement M
+read-as-spec =
+    tie.close
+    (tie.spec
+    (λ c κs. tt)
+    (λ c. let f = c .before .before .before .frame in frame-fails _ _ _ (f .ensures .0) (f .ensures .1) (c .if1 .taken) (c .before .before .before .before .before .args .tag))
+    (λ c κs. tt)
+    (λ c. search needs)
+    (λ c κs. let o = c .before .before in record {
+      width = o .before .before .before .before .before .before .pre;
+      order = order-holds _ (framed-is (o .before)) _ _ (o .order .ensures) (c .enum-told .given .1);
+    })
+    (λ c. search needs)
+    (λ c. let e = c .before in let o = e .before .before in c .judged .ensures ∙ facts-tell _ (framed-is (o .before)) _ _ (o .order .ensures) _ (o .before .before .before .before .frame .ensures .0) (e .enum-told .given .1))
+    (λ c. let o = c .before .before .before in order-fails _ (framed-is (o .before)) _ _ (o .order .ensures) _ (c .before .spot .given .1)))

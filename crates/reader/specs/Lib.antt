@@ -1,0 +1,8 @@
+-- What the contracts cite beside the definition of `meaning`: `Used` and `Laid` by public functions, the others by inner ones alone.
+pub mod Used
+pub mod Spots
+pub mod Glance
+pub mod Tests
+pub mod Right
+pub mod Marks
+pub mod Laid

@@ -1,0 +1,205 @@
+// The facts of an instruction (specs/Rules), as tests of numbers (specs/Tests).
+use fields::wide;
+use meaning::Instruction;
+ghost use mathlib.Core.Path.{_≡_};
+ghost use Prim.Native.Nat.{ℕ, max, _+_, _*_, _<_, _≤_};
+ghost use lib.ListN.{length};
+ghost use Rattle.meaning.specs.Base.{lowest};
+ghost use Rattle.meaning.specs.Steps.{inst-at};
+ghost use Rattle.meaning.specs.Opcode.{bx};
+ghost use Rattle.reader.specs.Laid.{code-in, captures-in};
+ghost use Rattle.reader.specs.Tests.{written-seen, steps-seen, registers-seen, operands-seen, closure-seen, text-seen, lawful-seen, seen-test, local-need, outer-need};
+
+// The number that b and c hold.
+fn bx(x: Instruction) -> usize
+    ensures { λ r. ⌜ (r ≡ bx x) × (r < 65536) ⌝ }
+{
+    wide(x.b) * 256 + wide(x.c)
+}
+
+// The opcode is one that this lowering writes.
+fn is_written(o: u8) -> bool
+    ensures { λ r. ⌜ r ≡ written-seen o ⌝ }
+{
+    (o <= 20)
+        | ((o == 22)
+            | ((o == 23)
+                | (((31 <= o) & (o <= 33))
+                    | ((o == 36) | (((38 <= o) & (o <= 41)) | ((44 <= o) & (o <= 50)))))))
+}
+
+// No step of an instruction at index i, with w in b and c, leads out of n instructions.
+fn stays(o: u8, w: usize, i: usize, n: usize) -> bool
+    requires { ⌜ (w < 65536) × (i < 65536) × (n < 65536) ⌝ }
+    ensures { λ r. ⌜ r ≡ steps-seen o w i n ⌝ }
+{
+    ((o == 3)
+        & (((w < 32768) & (i + w < n)) | ((32768 <= w) & ((65536 <= i + w) & (i + w < n + 65536)))))
+        | (!(o == 3)
+            & ((o == 20)
+                | ((i + 1 < n) & ((!(o == 4) | (i + 2 < n)) & (!(o == 48) | (i + w < n))))))
+}
+
+// Every register met is below n.
+fn meets(o: u8, a: usize, b: usize, c: usize, n: usize) -> bool
+    requires { ⌜ (a < 256) × (b < 256) ⌝ }
+    ensures { λ r. ⌜ r ≡ registers-seen o a b c n ⌝ }
+{
+    let three = ((5 <= o) & (o <= 16)) | (((31 <= o) & (o <= 33)) | ((o == 38) | (o == 39)));
+    let two = (o == 0)
+        | ((o == 4) | ((o == 17) | ((o == 18) | ((o == 36) | ((o == 40) | (o == 41))))));
+    let none = (o == 3) | ((o == 48) | (o == 49));
+    none
+        | (((o == 20) & (b == 0))
+            | ((a < n)
+                & ((!(three | two) | (b < n))
+                    & ((!three | (c < n)) & (!(o == 19) | ((a + b <= n) & (c <= n)))))))
+}
+
+// What the opcode asks of its operands.
+fn operates(
+    o: u8,
+    a: usize,
+    b: usize,
+    c: usize,
+    w: usize,
+    captures: usize,
+    closure: bool,
+    text: bool,
+    constants: usize,
+) -> bool
+    ensures { λ r. ⌜ r ≡ operands-seen o a b c w captures closure text constants ⌝ }
+{
+    (!(o == 3) | (a == 0))
+        & ((!(o == 19) | ((0 < b) & (0 < c)))
+            & ((!(o == 22) | (b < captures))
+                & ((!(o == 23) | closure)
+                    & ((!(o == 1) | (w < constants))
+                        & (!((o == 44) | ((o == 45) | (o == 47))) | text)))))
+}
+
+// What an instruction's facts ask of what is around it: the registers and captures of its prototype, how many prototypes and constants there are.
+pub struct Around {
+    pub registers: usize,
+    pub captures: usize,
+    pub prototypes: usize,
+    pub constants: usize,
+}
+
+// One of the prototypes, whose captures need no more than its creator has.
+fn makes(v: Around, locals: &[usize; 256], outers: &[usize; 256], w: usize) -> bool
+    requires { ⌜ v .prototypes ≤ 256 ⌝ }
+    ensures { λ r. ⌜ r ≡ closure-seen v (now (locals .entry)) (now (outers .entry)) w ⌝ }
+{
+    if w < v.prototypes {
+        return (locals[w] <= v.registers) & (outers[w] <= v.captures);
+    }
+    false
+}
+
+// One of the constants, and a text.
+fn names(v: Around, texts: &[u8; 1024], w: usize) -> bool
+    requires { ⌜ v .constants ≤ 1024 ⌝ }
+    ensures { λ r. ⌜ r ≡ text-seen v (now (texts .entry)) w ⌝ }
+{
+    if w < v.constants {
+        return texts[w] == 1;
+    }
+    false
+}
+
+// The facts of an instruction at index i of n.
+fn is_lawful(
+    v: Around,
+    i: usize,
+    n: usize,
+    o: u8,
+    a: usize,
+    b: usize,
+    c: usize,
+    w: usize,
+    closure: bool,
+    text: bool,
+    entered: bool,
+) -> bool
+    requires { ⌜ (w < 65536) × (i < 65536) × (n < 65536) × (a < 256) × (b < 256) ⌝ }
+    ensures { λ r. ⌜ r ≡ lawful-seen v i n o a b c w closure text entered ⌝ }
+{
+    let pass = ((o == 20) & (a == 0)) & ((v.registers == 0) & ((0 < i) & !entered));
+    is_written(o)
+        & (stays(o, w, i, n)
+            & ((meets(o, a, b, c, v.registers) | pass)
+                & operates(o, a, b, c, w, v.captures, closure, text, v.constants)))
+}
+
+// The lowest of n instructions whose facts fail, or n. They lie from `at` on, each in `span` bytes.
+pub(crate) fn first_unlawful(
+    t: &[u8],
+    tag: u8,
+    span: usize,
+    at: usize,
+    n: usize,
+    v: Around,
+    locals: &[usize; 256],
+    outers: &[usize; 256],
+    texts: &[u8; 1024],
+    marks: &[u8],
+) -> usize
+    requires { ⌜ (n < 65536) × (7 ≤ span) × (at + n * span ≤ length (now t)) × (v .prototypes ≤ 256) × (v .constants ≤ 1024) × (n ≤ length (now marks)) ⌝ }
+    ensures { λ r. ⌜ r ≡ lowest (λ (i : ℕ). seen-test v (now (locals .entry)) (now (outers .entry)) (now (texts .entry)) (now (marks .entry)) n i (inst-at (code-in (now (t .entry)) tag span at n) i)) n ⌝ }
+{
+    let mut i: usize = 0;
+    while i < n {
+        let base = at + i * span;
+        let o = t[base + 3];
+        let a = wide(t[base + 4]);
+        let b = wide(t[base + 5]);
+        let c = wide(t[base + 6]);
+        let w = b * 256 + c;
+        let closure = makes(v, locals, outers, w);
+        let text = names(v, texts, w);
+        if !is_lawful(v, i, n, o, a, b, c, w, closure, text, marks[i] == 1) {
+            return i;
+        }
+        i = i + 1;
+    }
+    n
+}
+
+// What the captures of a prototype need of its creator: so many registers, so many captures.
+pub struct Needs {
+    pub locals: usize,
+    pub outers: usize,
+}
+
+fn larger(a: usize, b: usize) -> usize
+    ensures { λ r. ⌜ r ≡ max a b ⌝ }
+{
+    if a < b {
+        return b;
+    }
+    a
+}
+
+// Of n captures from `at` on.
+pub(crate) fn needs_of(t: &[u8], at: usize, n: usize) -> Needs
+    requires { ⌜ at + n * 5 ≤ length (now t) ⌝ }
+    ensures { λ r. ⌜ (r .locals ≡ local-need (captures-in (now (t .entry)) at n)) × (r .outers ≡ outer-need (captures-in (now (t .entry)) at n)) ⌝ }
+{
+    let mut i = n;
+    let mut locals: usize = 0;
+    let mut outers: usize = 0;
+    while 0 < i {
+        i = i - 1;
+        let index = wide(t[at + i * 5 + 4]) + 1;
+        if t[at + i * 5 + 3] == 1 {
+            locals = larger(index, locals);
+        } else {
+            outers = larger(index, outers);
+        }
+    }
+    Needs {
+        locals: locals,
+        outers: outers,
+    }
+}

@@ -1,0 +1,107 @@
+// Images read back (document 02, E1): frame, order and counts, then the facts of demand 3 at every instruction.
+mod facts;
+mod locate;
+mod marks;
+mod order;
+mod rules;
+mod texts;
+
+use meaning::Cause;
+use meaning::Instruction;
+use meaning::Outcome;
+use order::Spot;
+ghost use mathlib.Core.Path.{_≡_};
+ghost use mathlib.Core.Logic.{_⊎_};
+ghost use Prim.Native.Nat.{_<_, _≤_};
+ghost use lib.ListN.{length};
+ghost use Rattle.meaning.specs.Fields.{fields, word-at};
+ghost use Rattle.meaning.specs.Answer.{answer};
+ghost use Rattle.meaning.specs.Images.{Image, image-of};
+ghost use Rattle.meaning.specs.Steps.{inst-at};
+ghost use Rattle.meaning.specs.Reader.{broken, ruled, read-as, read-outcome};
+ghost use Rattle.reader.specs.Used.{told};
+ghost use Rattle.reader.specs.Spots.{spot-of};
+ghost use Rattle.reader.specs.Laid.{proto-in, proto-span, part-from, Ordered, Located};
+
+// What the facts tell: 20 at the first that fails, or the number of fields.
+fn ruled(spot: Spot, count: usize) -> Outcome
+    ensures { λ r. ⌜ ((im : Image) → r ≡ read-outcome count (ruled im (spot-of spot))) ⌝ }
+{
+    match spot {
+        Spot::Nowhere => Outcome::Accepted(count),
+        Spot::At(place) => Outcome::Refused(Cause::ImageRule, place),
+    }
+}
+
+// The facts of an image in order, which has `count` fields. The tables stand on the stack, small ones for a short image, so that few bytes are made.
+fn judged(image: &[u8], tag: u8, count: usize) -> Outcome
+    requires { ⌜ Ordered (now image) tag ⌝ }
+    ensures { λ r. ⌜ r ≡ read-outcome count (ruled (image-of tag (fields (now (image .entry)))) (broken (image-of tag (fields (now (image .entry)))))) ⌝ }
+{
+    let size = 3 + order::inst_size(tag);
+    let mut texts = [0u8; 1024];
+    let constants = texts::texts_of(image, tag, size, &mut texts);
+    if image.len() <= 36864 {
+        let mut few = [0u8; 4096];
+        return ruled(
+            rules::first_broken(image, tag, size, constants, &texts, &mut few),
+            count,
+        );
+    }
+    let mut marks = [0u8; 65536];
+    ruled(
+        rules::first_broken(image, tag, size, constants, &texts, &mut marks),
+        count,
+    )
+}
+
+// 19 Image frame, then 20 Image rule: the first field that cannot follow, or the field count; else the lowest whose fact fails.
+fn read_as(image: &[u8], tag: u8) -> Outcome
+    requires { ⌜ (tag ≡ 0x43) ⊎ (tag ≡ 0x47) ⌝ }
+    ensures { λ r. ⌜ r ≡ read-outcome (length (fields (now (image .entry)))) (read-as tag (now (image .entry))) ⌝ }
+{
+    let framed = order::frame(image);
+    if (framed.count == 0) | (framed.after != 0) {
+        return Outcome::Refused(Cause::ImageFrame, framed.count);
+    }
+    let spot = order::order(image, tag);
+    match spot {
+        Spot::Nowhere => judged(image, tag, framed.count),
+        Spot::At(place) => Outcome::Refused(Cause::ImageRule, place),
+    }
+}
+
+// An image is taken, with the number of its fields, or refused.
+pub fn read(image: &[u8]) -> Outcome
+    ensures { λ r. ⌜ r ≡ read-outcome (length (fields (now (image .entry)))) (read-as 0x43 (now (image .entry))) ⌝ }
+{
+    read_as(image, 0x43)
+}
+
+// For C and Rust: number and place.
+#[no_mangle]
+pub extern "C" fn yengrazul_read(image: &[u8], out: &mut [u64; 2])
+    ensures { λ _. ⌜ now (out .exit) ≡ told (answer (read-outcome (length (fields (now (image .entry)))) (read-as 0x43 (now (image .entry))))) ⌝ }
+{
+    let a = values::answer_of(read(image));
+    *out = [a.number, a.place];
+}
+
+// The part of an image in order from prototype q on; where there are not so many, that behind the last, which is the constants.
+pub fn prototype<'a>(image: &'a [u8], tag: u8, q: usize) -> &'a [u8]
+    requires { ⌜ Ordered (now image) tag ⌝ }
+    ensures { λ r. ⌜ Located (image-of tag (fields (now (image .entry)))) tag q (now r) × (now r ≡ part-from tag (now (image .entry)) q) ⌝ }
+{
+    let size = 3 + order::inst_size(tag);
+    locate::prototype(image, tag, size, q)
+}
+
+// Instruction i of the prototype whose header stands at the front.
+pub fn instruction(part: &[u8], tag: u8, i: usize) -> Instruction
+    requires { ⌜ (proto-span (now part) tag ≤ length (now part)) × (i < word-at (now part) 11) ⌝ }
+    ensures { λ r. ⌜ r ≡ inst-at (proto-in (now (part .entry)) tag .code) i ⌝ }
+{
+    let size = 3 + order::inst_size(tag);
+    let at = 13 + fields::word(part, 9) * 5 + i * size;
+    locate::inst_at(part, tag, at + 3)
+}
