@@ -16,7 +16,7 @@ use Rattle.meaning.specs.Image.{image}
 use Rattle.meaning.specs.Answer.{cause-number, Finished, imaged, stopped, lowered, finished-after, finished, outcome, answer}
 use Rattle.meaning.specs.Safety.{Lowered}
 use Rattle.meaning.specs.declared.Cause.{Cause}
-use Rattle.meaning.specs.declared.Cause.the-variants.{Frame, Many, Shape, Tree, Depth, Work, Registers, Captures, Undefined, Redefined, Stray, Empty, Returned, Constants, Prototypes, Nesting, Long, Room, ImageFrame, ImageRule, Mode}
+use Rattle.meaning.specs.declared.Cause.the-variants.{Frame, Many, Shape, Tree, Depth, Work, Registers, Captures, Undefined, Redefined, Stray, Empty, Returned, Constants, Prototypes, Nesting, Long, Room, ImageFrame, ImageRule, Mode, Prototype, Decision, Order, ListRoom, Retired, Visits}
 use Rattle.meaning.specs.declared.Outcome.{Outcome}
 use Rattle.meaning.specs.declared.Outcome.the-variants.{Accepted, Refused}
 
@@ -44,6 +44,12 @@ cause-positive Room = omega arith
 cause-positive ImageFrame = omega arith
 cause-positive ImageRule = omega arith
 cause-positive Mode = omega arith
+cause-positive Prototype = omega arith
+cause-positive Decision = omega arith
+cause-positive Order = omega arith
+cause-positive ListRoom = omega arith
+cause-positive Retired = omega arith
+cause-positive Visits = omega arith
 
 -- accepted is 0, and nothing else is
 pub number-zero : (f : Finished) → answer (outcome f) .number ≡ 0 ↔ ((bytes : List ℕ) × (f ≡ imaged bytes))

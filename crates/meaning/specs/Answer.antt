@@ -12,7 +12,7 @@ use Rattle.meaning.specs.Lower.{lower-program}
 use Rattle.meaning.specs.Image.{image}
 use Rattle.meaning.specs.declared.Answer.{Answer}
 use Rattle.meaning.specs.declared.Cause.{Cause}
-use Rattle.meaning.specs.declared.Cause.the-variants.{Frame, Many, Shape, Tree, Depth, Work, Registers, Captures, Undefined, Redefined, Stray, Empty, Returned, Constants, Prototypes, Nesting, Long, Room, ImageFrame, ImageRule, Mode}
+use Rattle.meaning.specs.declared.Cause.the-variants.{Frame, Many, Shape, Tree, Depth, Work, Registers, Captures, Undefined, Redefined, Stray, Empty, Returned, Constants, Prototypes, Nesting, Long, Room, ImageFrame, ImageRule, Mode, Prototype, Decision, Order, ListRoom, Retired, Visits}
 use Rattle.meaning.specs.declared.Outcome.{Outcome}
 use Rattle.meaning.specs.declared.Outcome.the-variants.{Accepted, Refused}
 
@@ -39,6 +39,12 @@ cause-number Room = 18
 cause-number ImageFrame = 19
 cause-number ImageRule = 20
 cause-number Mode = 21
+cause-number Prototype = 22
+cause-number Decision = 23
+cause-number Order = 25
+cause-number ListRoom = 26
+cause-number Retired = 27
+cause-number Visits = 29
 
 -- what a lowering ends with: an image, or a cause with its place
 pub data Finished : Type 0 where

@@ -11,7 +11,7 @@ pub enum Literal {
     Other(u16),
 }
 
-// The causes of refusal, in the order of their numbers, 1 to 21.
+// The causes of refusal, in the order of their numbers: 1 to 23, 25 to 27, 29.
 pub enum Cause {
     Frame,
     Many,
@@ -34,6 +34,12 @@ pub enum Cause {
     ImageFrame,
     ImageRule,
     Mode,
+    Prototype,
+    Decision,
+    Order,
+    ListRoom,
+    Retired,
+    Visits,
 }
 
 // Accepted with a length (of the image; of a check, the number of nodes; of a reading, the number of fields), or refused with a cause and its place.

@@ -31,6 +31,12 @@ pub fn cause_number(c: Cause) -> u64
         Cause::ImageFrame => 19,
         Cause::ImageRule => 20,
         Cause::Mode => 21,
+        Cause::Prototype => 22,
+        Cause::Decision => 23,
+        Cause::Order => 25,
+        Cause::ListRoom => 26,
+        Cause::Retired => 27,
+        Cause::Visits => 29,
     }
 }
 
