@@ -1,5 +1,4 @@
-//! Links libyengrazul.a, or liblower.a, libtree.a and libreader.a where that is missing: `rt staticlib` writes them to the project's
-//! target/staticlib; YENGRAZUL_LIB may name another folder.
+//! Links libyengrazul.a: `rt staticlib yengrazul` writes it to the project's target/staticlib; YENGRAZUL_LIB may name another folder.
 use std::path::PathBuf;
 
 fn main() {
@@ -10,16 +9,11 @@ fn main() {
     let root = here.join("..");
     // a relative folder is meant from the project's root
     let folder = root.join(std::env::var_os("YENGRAZUL_LIB").unwrap_or("target/staticlib".into()));
+    let archive = folder.join("libyengrazul.a");
+    println!("cargo::rerun-if-changed={}", archive.display());
     println!("cargo::rustc-link-search=native={}", folder.display());
-    let one = folder.join("libyengrazul.a");
-    println!("cargo::rerun-if-changed={}", one.display());
-    let libraries: &[&str] = if one.exists() { &["yengrazul"] } else { &["lower", "tree", "reader"] };
-    for library in libraries {
-        let archive = folder.join(format!("lib{library}.a"));
-        println!("cargo::rerun-if-changed={}", archive.display());
-        println!("cargo::rustc-link-lib=static={library}");
-        if !archive.exists() {
-            println!("cargo::error={} is missing: run `rt staticlib {library}`", archive.display());
-        }
+    println!("cargo::rustc-link-lib=static=yengrazul");
+    if !archive.exists() {
+        println!("cargo::error={} is missing: run `rt staticlib yengrazul`", archive.display());
     }
 }

@@ -1,6 +1,6 @@
 /*
- * Lowers a tree file to an image file; docs/FORMATS.md says what both hold. Link target/staticlib/liblower.a, which `rt staticlib lower` writes
- * (x86-64, Linux), or what `pkg-config --libs yengrazul` says of an installed package.
+ * Lowers a tree file to an image file; docs/FORMATS.md says what both hold. Link target/staticlib/libyengrazul.a, which
+ * `rt staticlib yengrazul` writes (x86-64, Linux), or what `pkg-config --libs yengrazul` says of an installed package.
  */
 #ifndef YENGRAZUL_H
 #define YENGRAZUL_H
@@ -61,7 +61,7 @@ void yengrazul_lower(const uint8_t *tree, size_t tree_len, uint32_t *work, size_
  *
  * Every image that yengrazul_lower writes is taken, in either mode. Any bytes may be asked about. It reads image[0..image_len), writes the two
  * numbers of answer, which may hold anything before, and touches nothing else; nothing is allocated, the time is linear in the bytes. The caller's
- * part and threads are as above. In this release it is in libreader.a.
+ * part and threads are as above.
  *
  *     uint64_t answer[2];
  *     yengrazul_read(image, image_len, answer);
@@ -74,8 +74,7 @@ void yengrazul_read(const uint8_t *image, size_t image_len, uint64_t answer[2]);
 #define YENGRAZUL_MODE_0 ((uint64_t)0)
 #define YENGRAZUL_MODE_1 ((uint64_t)1)
 
-/* Refusals 1 to 6 alone, which no mode changes, for a work area of work_len words; where there is none the length is the number of nodes.
-   This one is in libtree.a. */
+/* Refusals 1 to 6 alone, which no mode changes, for a work area of work_len words; where there is none the length is the number of nodes. */
 void yengrazul_check(const uint8_t *tree, size_t tree_len, size_t work_len, uint64_t answer[3]);
 
 /* STACK_BYTES: tests/parts/45-worst measures what the worst trees take, and that it is less. */

@@ -1,5 +1,4 @@
-//! Links libyengrazul.a, or liblower.a and libreader.a where that is missing: `rt staticlib` writes them to target/staticlib of the project;
-//! YENGRAZUL_LIB may name another folder.
+//! Links libyengrazul.a: `rt staticlib yengrazul` writes it to target/staticlib of the project; YENGRAZUL_LIB may name another folder.
 use std::path::PathBuf;
 
 fn main() {
@@ -10,20 +9,14 @@ fn main() {
     let root = here.join("..");
     // a relative folder is meant from the project's root
     let folder = root.join(std::env::var_os("YENGRAZUL_LIB").unwrap_or("target/staticlib".into()));
-    let archive = |library: &str| folder.join(format!("lib{library}.a"));
-    for library in ["yengrazul", "lower", "reader"] {
-        println!("cargo::rerun-if-changed={}", archive(library).display());
-    }
-    let libraries: &[&str] = if archive("yengrazul").exists() { &["yengrazul"] } else { &["lower", "reader"] };
+    let archive = folder.join("libyengrazul.a");
+    println!("cargo::rerun-if-changed={}", archive.display());
     println!("cargo::rustc-link-search=native={}", folder.display());
-    for library in libraries {
-        if archive(library).exists() {
-            println!("cargo::rustc-link-lib=static={library}");
-        } else {
-            println!(
-                "cargo::error={} is missing: run `rt staticlib {library}` in the project, or set YENGRAZUL_LIB to the folder of lib{library}.a",
-                archive(library).display()
-            );
-        }
+    println!("cargo::rustc-link-lib=static=yengrazul");
+    if !archive.exists() {
+        println!(
+            "cargo::error={} is missing: run `rt staticlib yengrazul` in the project, or set YENGRAZUL_LIB to its folder",
+            archive.display()
+        );
     }
 }

@@ -21,9 +21,8 @@
 //!
 //! What tree and image files hold: `docs/FORMATS.md` of the project.
 //!
-//! To build it, `rt staticlib lower` and `rt staticlib reader` must have written `liblower.a` and `libreader.a` to `target/staticlib` of the
-//! project, or one `libyengrazul.a` there has both; `YENGRAZUL_LIB` may name another folder that holds them, as `lib/yengrazul` of an
-//! installed package.
+//! To build it, `rt staticlib yengrazul` must have written `libyengrazul.a` to `target/staticlib` of the project;
+//! `YENGRAZUL_LIB` may name another folder that holds it, as `lib/yengrazul` of an installed package.
 #![deny(missing_docs, unsafe_op_in_unsafe_fn)]
 
 mod image;

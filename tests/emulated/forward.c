@@ -1,7 +1,7 @@
 /*
  * The exported calls on a machine whose processor is not the archive's (x86-64). Each call is made by a child process: the archive itself,
  * linked into serve.c and run by the kit's emulator. What is lent is copied into memory that both share, between guards, and back afterwards.
- * tests/staticlib compiles this into an archive that links here; CALL_lower, CALL_tree or CALL_reader names the call, CALL_yengrazul has all.
+ * tests/staticlib compiles this into an archive that links here. A new call has its number, its function here, and its case in serve.c.
  */
 #define _GNU_SOURCE
 #include <fcntl.h>
@@ -93,17 +93,25 @@ static void fetch(struct lent l, void *bytes)
     if (bytes && l.size) memcpy(bytes, child.shared + l.at, l.size);
 }
 
-#define NUMBERS 10 /* which call, then what it is lent; serve.c knows the same */
+/* What was lent to be read is as it was. */
+static void keep(struct lent l, const void *bytes)
+{
+    fetch(l, NULL);
+    if (l.size && memcmp(bytes, child.shared + l.at, l.size)) fail("what was lent to be read was written to");
+}
+
+/* A request: which call, whether its stack is looked at, then what it is lent; serve.c knows the same. */
+#define NUMBERS 16
 enum { LOWER, CHECK, READ };
 
-static void call(const uint64_t request[NUMBERS])
+static void ask(const uint64_t request[NUMBERS])
 {
     char done;
     size_t size = NUMBERS * sizeof *request;
     if (write(child.asked, request, size) != (ssize_t)size || read(child.told, &done, 1) != 1) fail("the child has ended");
 }
+#define ASK(call, ...) ask((uint64_t[NUMBERS]){call, getenv("YENGRAZUL_STACK") != NULL, __VA_ARGS__})
 
-#if defined CALL_lower || defined CALL_yengrazul
 /* Bytes of stack that the last call of this thread touched, where YENGRAZUL_STACK is set in the environment. */
 uint64_t yengrazul_emulated_stack(void)
 {
@@ -117,36 +125,25 @@ void yengrazul_lower(const uint8_t *tree, size_t tree_len, uint32_t *work, size_
 {
     if (!child.shared) start();
     uint64_t end = 0;
-    struct lent t = lay(&end, tree, tree_len), w = lay(&end, work, 4 * (uint64_t)work_len), o = lay(&end, out, out_len), a = lay(&end, answer, 24);
-    uint64_t request[NUMBERS] = {LOWER, t.at, tree_len, w.at, work_len, o.at, out_len, mode, a.at, getenv("YENGRAZUL_STACK") != NULL};
-    call(request);
-    if (tree_len && memcmp(tree, child.shared + t.at, tree_len)) fail("the tree was written to");
-    fetch(t, NULL), fetch(w, work), fetch(o, out), fetch(a, answer);
+    struct lent t = lay(&end, tree, tree_len), w = lay(&end, work, 4 * (uint64_t)work_len), o = lay(&end, out, out_len), a = lay(&end, answer, 8 * 3);
+    ASK(LOWER, t.at, tree_len, w.at, work_len, o.at, out_len, mode, a.at);
+    keep(t, tree), fetch(w, work), fetch(o, out), fetch(a, answer);
 }
-#endif
 
-#if defined CALL_tree || defined CALL_yengrazul
 void yengrazul_check(const uint8_t *tree, size_t tree_len, size_t work_len, uint64_t answer[3])
 {
     if (!child.shared) start();
     uint64_t end = 0;
-    struct lent t = lay(&end, tree, tree_len), a = lay(&end, answer, 24);
-    uint64_t request[NUMBERS] = {CHECK, t.at, tree_len, work_len, a.at};
-    call(request);
-    if (tree_len && memcmp(tree, child.shared + t.at, tree_len)) fail("the tree was written to");
-    fetch(t, NULL), fetch(a, answer);
+    struct lent t = lay(&end, tree, tree_len), a = lay(&end, answer, 8 * 3);
+    ASK(CHECK, t.at, tree_len, work_len, a.at);
+    keep(t, tree), fetch(a, answer);
 }
-#endif
 
-#if defined CALL_reader || defined CALL_yengrazul
 void yengrazul_read(const uint8_t *image, size_t image_len, uint64_t answer[2])
 {
     if (!child.shared) start();
     uint64_t end = 0;
-    struct lent i = lay(&end, image, image_len), a = lay(&end, answer, 16);
-    uint64_t request[NUMBERS] = {READ, i.at, image_len, a.at};
-    call(request);
-    if (image_len && memcmp(image, child.shared + i.at, image_len)) fail("the image was written to");
-    fetch(i, NULL), fetch(a, answer);
+    struct lent i = lay(&end, image, image_len), a = lay(&end, answer, 8 * 2);
+    ASK(READ, i.at, image_len, a.at);
+    keep(i, image), fetch(a, answer);
 }
-#endif

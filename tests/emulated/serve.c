@@ -12,15 +12,25 @@ void _exit(int);
 
 static u8 *shared;
 
-#define NUMBERS 10 /* which call, then what it is lent */
-
-#if defined CALL_lower || defined CALL_yengrazul
+/* A request: which call, whether its stack is looked at, then what it is lent. */
+#define NUMBERS 16
 #define DEEP (4ul << 20)
-void yengrazul_lower(const u8 *, u64, u32 *, u64, u8 *, u64, u64, u64 *);
+#define BYTES(k) (shared + r[k])
+#define WORDS(k) ((u32 *)(shared + r[k]))
+#define TOLD(k) ((u64 *)(shared + r[k]))
 
-static void __attribute__((noinline)) call_lower(const u64 *r)
+void yengrazul_lower(const u8 *, u64, u32 *, u64, u8 *, u64, u64, u64 *);
+void yengrazul_check(const u8 *, u64, u64, u64 *);
+void yengrazul_read(const u8 *, u64, u64 *);
+
+static void __attribute__((noinline)) call(u64 which, const u64 *r)
 {
-    yengrazul_lower(shared + r[0], r[1], (u32 *)(shared + r[2]), r[3], shared + r[4], r[5], r[6], (u64 *)(shared + r[7]));
+    switch (which) {
+    case 0: yengrazul_lower(BYTES(0), r[1], WORDS(2), r[3], BYTES(4), r[5], r[6], TOLD(7)); break;
+    case 1: yengrazul_check(BYTES(0), r[1], r[2], TOLD(3)); break;
+    case 2: yengrazul_read(BYTES(0), r[1], TOLD(2)); break;
+    default: _exit(3);
+    }
 }
 
 /* The stack below is painted, then looked at: how much of it a call has touched. */
@@ -38,36 +48,11 @@ static u64 __attribute__((noinline)) touched(u8 seed)
     return DEEP - k;
 }
 
-static void lower(const u64 *r)
+static void answer(const u64 *request)
 {
-    if (r[8]) paint(0x5A);
-    call_lower(r);
-    if (r[8]) *(u64 *)(shared + SHARED - sizeof(u64)) = touched(0x5A);
-}
-#endif
-
-#if defined CALL_tree || defined CALL_yengrazul
-void yengrazul_check(const u8 *, u64, u64, u64 *);
-#endif
-
-#if defined CALL_reader || defined CALL_yengrazul
-void yengrazul_read(const u8 *, u64, u64 *);
-#endif
-
-static void ask(u64 which, const u64 *r)
-{
-    switch (which) {
-#if defined CALL_lower || defined CALL_yengrazul
-    case 0: lower(r); break;
-#endif
-#if defined CALL_tree || defined CALL_yengrazul
-    case 1: yengrazul_check(shared + r[0], r[1], r[2], (u64 *)(shared + r[3])); break;
-#endif
-#if defined CALL_reader || defined CALL_yengrazul
-    case 2: yengrazul_read(shared + r[0], r[1], (u64 *)(shared + r[2])); break;
-#endif
-    default: _exit(3);
-    }
+    if (request[1]) paint(0x5A);
+    call(request[0], request + 2);
+    if (request[1]) *(u64 *)(shared + SHARED - sizeof(u64)) = touched(0x5A);
 }
 
 int main(void)
@@ -82,7 +67,7 @@ int main(void)
             if (k <= 0) _exit(k < 0);
             n += k;
         }
-        ask(request[0], request + 1);
+        answer(request);
         if (write(1, "", 1) != 1) _exit(2);
     }
 }

@@ -3,14 +3,8 @@
 use mathlib.Core.Path.{_≡_, sym, _∙_}
 use denote.Ref.{now}
 use Rattle.lower.proofs.lower.Reads as lower
-use Rattle.lower.proofs.yengrazul_lower.Reads as yengrazul-lower
 
 -- the answer, the work area, the output
 pub lower-determined : (κs : _) (args : _) (r r' : _) (s s' : _) → lower.Post κs args r s → lower.Post κs args r' s'
     → (r ≡ r') × (now (s .1 .0) ≡ now (s' .1 .0)) × (now (s .1 .1 .0) ≡ now (s' .1 .1 .0))
 lower-determined κs args r r' s s' p q = (p .0 ∙ sym (q .0), p .1 .0 ∙ sym (q .1 .0), p .1 .1 ∙ sym (q .1 .1))
-
--- the three numbers, the work area, the output
-pub yengrazul-lower-determined : (κs : _) (args : _) (r r' : _) (s s' : _) → yengrazul-lower.Post κs args r s → yengrazul-lower.Post κs args r' s'
-    → (now (s .1 .1 .1 .1 .0) ≡ now (s' .1 .1 .1 .1 .0)) × (now (s .1 .0) ≡ now (s' .1 .0)) × (now (s .1 .1 .0) ≡ now (s' .1 .1 .0))
-yengrazul-lower-determined κs args r r' s s' p q = (p .0 ∙ sym (q .0), p .1 .0 ∙ sym (q .1 .0), p .1 .1 ∙ sym (q .1 .1))

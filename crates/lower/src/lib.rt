@@ -12,7 +12,6 @@ ghost use lib.ListN.{length, take, replicate};
 ghost use Rattle.meaning.specs.Check.{checked};
 ghost use Rattle.meaning.specs.declared.Outcome.the-variants.{Accepted};
 ghost use Rattle.meaning.specs.Answer.{finished, outcome, answer as answer-to, output, work-area};
-ghost use Rattle.tree.specs.Used.{told};
 ghost use Rattle.store.specs.Store.{first-step};
 ghost use Rattle.image.specs.Finish.{Ending};
 ghost use Rattle.lower.specs.Open.{Opened};
@@ -94,21 +93,4 @@ pub fn lower(tree: &[u8], work: &mut [u32], out: &mut [u8], mode: u64) -> Answer
     clear_words(work);
     clear_bytes(out, answer.length as usize);
     answer
-}
-
-// The same for C and Rust: number, place and length.
-#[no_mangle]
-pub extern "C" fn yengrazul_lower(
-    tree: &[u8],
-    work: &mut [u32],
-    out: &mut [u8],
-    mode: u64,
-    answer: &mut [u64; 3],
-)
-    ensures answered { λ _. ⌜ now (answer .exit) ≡ told (answer-to (outcome (finished mode (now (tree .entry)) (length (now (work .entry))) (length (now (out .entry)))))) ⌝ }
-    ensures cleared { λ _. ⌜ now (work .exit) ≡ work-area (length (now (work .entry))) ⌝ }
-    ensures written { λ _. ⌜ now (out .exit) ≡ output (length (now (out .entry))) (finished mode (now (tree .entry)) (length (now (work .entry))) (length (now (out .entry)))) ⌝ }
-{
-    let a = lower(tree, work, out, mode);
-    *answer = [a.number, a.place, a.length];
 }

@@ -3,16 +3,11 @@
 use mathlib.Core.Path.{_≡_, sym, _∙_}
 use denote.Ref.{now}
 use Rattle.reader.proofs.read.Reads as read
-use Rattle.reader.proofs.yengrazul_read.Reads as yengrazul-read
 use Rattle.reader.proofs.prototype.Reads as prototype
 use Rattle.reader.proofs.instruction.Reads as instruction
 
 pub read-determined : (κs : _) (args : _) (r r' : _) (s s' : _) → read.Post κs args r s → read.Post κs args r' s' → r ≡ r'
 read-determined κs args r r' s s' p q = p ∙ sym q
-
--- the two numbers
-pub yengrazul-read-determined : (κs : _) (args : _) (r r' : _) (s s' : _) → yengrazul-read.Post κs args r s → yengrazul-read.Post κs args r' s' → now (s .1 .0) ≡ now (s' .1 .0)
-yengrazul-read-determined κs args r r' s s' p q = p ∙ sym q
 
 -- the bytes that are lent on
 pub prototype-determined : (κs : _) (args : _) (r r' : _) (s s' : _) → prototype.Post κs args r s → prototype.Post κs args r' s' → now r ≡ now r'

@@ -1,5 +1,4 @@
--- What the contracts cite beside the definition of `meaning`: `Used` and `Laid` by public functions, the others by inner ones alone.
-pub mod Used
+-- What the contracts cite beside the definition of `meaning`: `Laid` by public functions, the others by inner ones alone.
 pub mod Spots
 pub mod Glance
 pub mod Tests

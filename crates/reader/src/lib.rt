@@ -15,11 +15,9 @@ ghost use mathlib.Core.Logic.{_⊎_};
 ghost use Prim.Native.Nat.{_<_, _≤_};
 ghost use lib.ListN.{length};
 ghost use Rattle.meaning.specs.Fields.{fields, word-at};
-ghost use Rattle.meaning.specs.Answer.{answer};
 ghost use Rattle.meaning.specs.Images.{Image, image-of};
 ghost use Rattle.meaning.specs.Steps.{inst-at};
 ghost use Rattle.meaning.specs.Reader.{broken, ruled, read-as, read-outcome};
-ghost use Rattle.reader.specs.Used.{told};
 ghost use Rattle.reader.specs.Spots.{spot-of};
 ghost use Rattle.reader.specs.Laid.{proto-in, proto-span, part-from, Ordered, Located};
 
@@ -76,15 +74,6 @@ pub fn read(image: &[u8]) -> Outcome
     ensures { λ r. ⌜ r ≡ read-outcome (length (fields (now (image .entry)))) (read-as 0x43 (now (image .entry))) ⌝ }
 {
     read_as(image, 0x43)
-}
-
-// For C and Rust: number and place.
-#[no_mangle]
-pub extern "C" fn yengrazul_read(image: &[u8], out: &mut [u64; 2])
-    ensures { λ _. ⌜ now (out .exit) ≡ told (answer (read-outcome (length (fields (now (image .entry)))) (read-as 0x43 (now (image .entry))))) ⌝ }
-{
-    let a = values::answer_of(read(image));
-    *out = [a.number, a.place];
 }
 
 // The part of an image in order from prototype q on; where there are not so many, that behind the last, which is the constants.

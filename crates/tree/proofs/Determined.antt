@@ -4,7 +4,6 @@ use mathlib.Core.Path.{_≡_, sym, _∙_}
 use denote.Ref.{now}
 use Rattle.tree.proofs.check_in.Reads as check-in
 use Rattle.tree.proofs.check.Reads as check
-use Rattle.tree.proofs.yengrazul_check.Reads as yengrazul-check
 
 -- the outcome, the scratch
 pub check-in-determined : (κs : _) (args : _) (r r' : _) (s s' : _) → check-in.Post κs args r s → check-in.Post κs args r' s' → (r ≡ r') × (now (s .1 .0) ≡ now (s' .1 .0))
@@ -12,7 +11,3 @@ check-in-determined κs args r r' s s' p q = (p .0 ∙ sym (q .0), p .1 ∙ sym 
 
 pub check-determined : (κs : _) (args : _) (r r' : _) (s s' : _) → check.Post κs args r s → check.Post κs args r' s' → r ≡ r'
 check-determined κs args r r' s s' p q = p ∙ sym q
-
--- the three numbers
-pub yengrazul-check-determined : (κs : _) (args : _) (r r' : _) (s s' : _) → yengrazul-check.Post κs args r s → yengrazul-check.Post κs args r' s' → now (s .1 .1 .0) ≡ now (s' .1 .1 .0)
-yengrazul-check-determined κs args r r' s s' p q = p ∙ sym q

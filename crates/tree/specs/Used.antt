@@ -5,7 +5,6 @@ use mathlib.Core.List.{List, [], _∷_, _++_}
 use lib.ListN.{length, drop, replicate}
 use lib.Dec.{leb}
 use Rattle.meaning.specs.Fields.{fields}
-use Rattle.meaning.specs.declared.Answer.{Answer}
 
 -- n, but 32,768 at most: a tree has no more nodes
 abbrev pub few : ℕ → ℕ
@@ -22,7 +21,3 @@ zeroed n l = replicate n 0 ++ drop n l
 -- the scratch after a check
 unfoldable pub scratch-after : (tree scratch : List ℕ) → List ℕ
 scratch-after tree scratch = zeroed (used tree (length scratch)) scratch
-
--- an answer as the three numbers that a caller from C lends room for
-abbrev pub told : Answer → List ℕ
-told a = a .number ∷ a .place ∷ a .length ∷ []

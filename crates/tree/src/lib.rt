@@ -11,8 +11,7 @@ ghost use Prim.Native.Nat.{_≤_};
 ghost use lib.ListN.{length};
 ghost use Rattle.meaning.specs.Fields.{fields};
 ghost use Rattle.meaning.specs.Check.{checked};
-ghost use Rattle.meaning.specs.Answer.{answer};
-ghost use Rattle.tree.specs.Used.{few, zeroed, scratch-after, told};
+ghost use Rattle.tree.specs.Used.{few, zeroed, scratch-after};
 ghost use Rattle.tree.specs.Scratch.{Beyond, Found};
 
 // n, but 32,768 at most: a tree has no more nodes.
@@ -102,13 +101,4 @@ pub fn check_in(tree: &[u8], scratch: &mut [u32], work_len: usize) -> Outcome
         return check(tree, work_len);
     }
     check_with(tree, scratch, work_len)
-}
-
-// For C and Rust: number, place, and as length the number of nodes.
-#[no_mangle]
-pub extern "C" fn yengrazul_check(tree: &[u8], work_len: usize, out: &mut [u64; 3])
-    ensures { λ _. ⌜ now (out .exit) ≡ told (answer (checked (now (tree .entry)) «work_len»)) ⌝ }
-{
-    let a = values::answer_of(check(tree, work_len));
-    *out = [a.number, a.place, a.length];
 }

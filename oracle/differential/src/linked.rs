@@ -1,7 +1,15 @@
-//! The functions of the static libraries that were linked.
+//! The functions of the static library, where one is linked.
 use crate::calls::{Check, Lower, Read};
 
-#[cfg(has_lower)]
+/// Every exported call.
+#[derive(Clone, Copy)]
+pub struct Library {
+    pub lower: Lower,
+    pub check: Check,
+    pub read: Read,
+}
+
+#[cfg(has_library)]
 extern "C" {
     fn yengrazul_lower(
         tree: *const u8,
@@ -13,49 +21,27 @@ extern "C" {
         mode: u64,
         answer: *mut u64,
     );
-}
-
-#[cfg(has_check)]
-extern "C" {
     fn yengrazul_check(tree: *const u8, tree_len: usize, work_len: usize, answer: *mut u64);
-}
-
-#[cfg(has_read)]
-extern "C" {
     fn yengrazul_read(image: *const u8, image_len: usize, answer: *mut u64);
 }
 
-pub fn lower() -> Option<Lower> {
-    #[cfg(has_lower)]
-    return Some(yengrazul_lower);
-    #[cfg(not(has_lower))]
-    None
-}
-
-pub fn check() -> Option<Check> {
-    #[cfg(has_check)]
-    return Some(yengrazul_check);
-    #[cfg(not(has_check))]
-    None
-}
-
-pub fn read() -> Option<Read> {
-    #[cfg(has_read)]
-    return Some(yengrazul_read);
-    #[cfg(not(has_read))]
+pub fn library() -> Option<Library> {
+    #[cfg(has_library)]
+    return Some(Library { lower: yengrazul_lower, check: yengrazul_check, read: yengrazul_read });
+    #[cfg(not(has_library))]
     None
 }
 
 /// Bytes of stack that the last emulated call of this thread touched.
 #[cfg(not(target_arch = "x86_64"))]
 pub fn emulated_stack() -> usize {
-    #[cfg(has_lower)]
+    #[cfg(has_library)]
     {
         extern "C" {
             fn yengrazul_emulated_stack() -> u64;
         }
         return unsafe { yengrazul_emulated_stack() } as usize;
     }
-    #[cfg(not(has_lower))]
+    #[cfg(not(has_library))]
     0
 }

@@ -1,4 +1,4 @@
-//! The command line of the runner, with the libraries that were linked; README.md says what each word does.
+//! The command line of the runner, with the library that was linked; README.md says what each word does.
 use differential::linked;
 use differential::run::{run, Plan};
 use std::process::ExitCode;
@@ -7,7 +7,7 @@ fn main() -> ExitCode {
     let words: Vec<String> = std::env::args().skip(1).collect();
     match plan(&words) {
         Ok(plan) if plan.lower.is_none() && plan.check.is_none() && plan.read.is_none() => {
-            eprintln!("differential: no library is linked: set YENGRAZUL_LIB to the folder of liblower.a, libtree.a or libreader.a");
+            eprintln!("differential: no library is linked: set YENGRAZUL_LIB to the folder of libyengrazul.a");
             ExitCode::from(2)
         }
         Ok(plan) => report(&plan),
@@ -19,6 +19,7 @@ fn main() -> ExitCode {
 }
 
 fn plan(words: &[String]) -> Result<Plan, String> {
+    let linked = linked::library();
     let mut plan = Plan {
         seed: fresh_seed(),
         modes: &[0, 1],
@@ -31,9 +32,9 @@ fn plan(words: &[String]) -> Result<Plan, String> {
         threads: std::thread::available_parallelism().map_or(1, |n| n.get()),
         announce: false,
         enough: 20,
-        lower: linked::lower(),
-        check: linked::check(),
-        read: linked::read(),
+        lower: linked.map(|library| library.lower),
+        check: linked.map(|library| library.check),
+        read: linked.map(|library| library.read),
     };
     let mut words = words.iter();
     while let Some(word) = words.next() {

@@ -1,7 +1,7 @@
 //! The trees that cost most, each timed through the static library, with the stack that its call needs; README.md says what each word does.
 use differential::calls::Lower;
 use differential::lent::Lent;
-use differential::linked;
+use differential::linked::{self, Library};
 use differential::stack::{Stack, Took};
 use oracle::judge::work_for;
 use oracle::rng::Rng;
@@ -17,8 +17,8 @@ const CALLS: usize = 3;
 const SURE: f64 = 1.5;
 
 fn main() -> ExitCode {
-    let Some(lower) = linked::lower() else {
-        eprintln!("worst: no library is linked: set YENGRAZUL_LIB to the folder of liblower.a");
+    let Some(Library { lower, .. }) = linked::library() else {
+        eprintln!("worst: no library is linked: set YENGRAZUL_LIB to the folder of libyengrazul.a");
         return ExitCode::from(2);
     };
     println!("{:44} {:>6} {:>9} {:>8}", "tree", "nodes", "ms", "stack");

@@ -1,9 +1,9 @@
 -- The three numbers are those of the answer.
 use mathlib.Core.Path.{ap}
-use Rattle.tree.specs.Used.{told}
 use borrow.Author.Needs.{needs}
-use Rattle.lower.proofs.yengrazul_lower.Statement.{statement}
-use Rattle.lower.proofs.yengrazul_lower.Tie as tie
+use Rattle.yengrazul.specs.Told.{told}
+use Rattle.yengrazul.proofs.yengrazul_lower.Statement.{statement}
+use Rattle.yengrazul.proofs.yengrazul_lower.Tie as tie
 
 returns : tie.Need-returns
 returns c =

@@ -1,0 +1,43 @@
+// The calls that C and Rust link, in one archive: exports alone. Each asks the crate that does the work and writes the numbers of its answer.
+ghost use mathlib.Core.Path.{_≡_};
+ghost use lib.ListN.{length, take};
+ghost use Rattle.meaning.specs.Fields.{fields};
+ghost use Rattle.meaning.specs.Check.{checked};
+ghost use Rattle.meaning.specs.Reader.{read-as, read-outcome};
+ghost use Rattle.meaning.specs.Answer.{finished, outcome, answer as answer-to, output, work-area};
+ghost use Rattle.yengrazul.specs.Told.{told};
+
+// `lower`: number, place and length.
+#[no_mangle]
+pub extern "C" fn yengrazul_lower(
+    tree: &[u8],
+    work: &mut [u32],
+    out: &mut [u8],
+    mode: u64,
+    answer: &mut [u64; 3],
+)
+    ensures answered { λ _. ⌜ now (answer .exit) ≡ told (answer-to (outcome (finished mode (now (tree .entry)) (length (now (work .entry))) (length (now (out .entry)))))) ⌝ }
+    ensures cleared { λ _. ⌜ now (work .exit) ≡ work-area (length (now (work .entry))) ⌝ }
+    ensures written { λ _. ⌜ now (out .exit) ≡ output (length (now (out .entry))) (finished mode (now (tree .entry)) (length (now (work .entry))) (length (now (out .entry)))) ⌝ }
+{
+    let lowered = lower::lower(tree, work, out, mode);
+    *answer = [lowered.number, lowered.place, lowered.length];
+}
+
+// `tree::check`: number, place, and as length the number of nodes.
+#[no_mangle]
+pub extern "C" fn yengrazul_check(tree: &[u8], work_len: usize, answer: &mut [u64; 3])
+    ensures { λ _. ⌜ now (answer .exit) ≡ told (answer-to (checked (now (tree .entry)) «work_len»)) ⌝ }
+{
+    let checked = values::answer_of(tree::check(tree, work_len));
+    *answer = [checked.number, checked.place, checked.length];
+}
+
+// `reader::read`: number and place.
+#[no_mangle]
+pub extern "C" fn yengrazul_read(image: &[u8], answer: &mut [u64; 2])
+    ensures { λ _. ⌜ now (answer .exit) ≡ take 2 (told (answer-to (read-outcome (length (fields (now (image .entry)))) (read-as 0x43 (now (image .entry)))))) ⌝ }
+{
+    let read = values::answer_of(reader::read(image));
+    *answer = [read.number, read.place];
+}
