@@ -61,7 +61,7 @@ void yengrazul_lower(const uint8_t *tree, size_t tree_len, uint32_t *work, size_
  *
  * Every image that yengrazul_lower writes is taken, in either mode. Any bytes may be asked about. It reads image[0..image_len), writes the two
  * numbers of answer, which may hold anything before, and touches nothing else; nothing is allocated, the time is linear in the bytes. The caller's
- * part and threads are as above.
+ * part and threads are as above; a call takes less than YENGRAZUL_READ_STACK_BYTES of the calling thread's stack.
  *
  *     uint64_t answer[2];
  *     yengrazul_read(image, image_len, answer);
@@ -77,8 +77,9 @@ void yengrazul_read(const uint8_t *image, size_t image_len, uint64_t answer[2]);
 /* Refusals 1 to 6 alone, which no mode changes, for a work area of work_len words; where there is none the length is the number of nodes. */
 void yengrazul_check(const uint8_t *tree, size_t tree_len, size_t work_len, uint64_t answer[3]);
 
-/* STACK_BYTES: tests/parts/45-worst measures what the worst trees take, and that it is less. */
+/* STACK_BYTES: tests/parts/45-worst measures what the worst trees and images take, and that it is less. */
 #define YENGRAZUL_STACK_BYTES 1048576
+#define YENGRAZUL_READ_STACK_BYTES 131072
 
 /* A tree of more nodes is refused (2). */
 #define YENGRAZUL_NODES_MOST 32768

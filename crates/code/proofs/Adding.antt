@@ -25,8 +25,9 @@ use Rattle.meaning.specs.declared.Outcome.the-variants.{Accepted, Refused}
 use Rattle.forward.specs.Forward.{Config, config, Run, stopped, bind, on, fwd-by}
 use Rattle.image.specs.Output.{Placed, proto-of}
 use Rattle.code.specs.Cuts.{adding, Adds}
-use Rattle.image.proofs.Bytes.{protos-append, proto-size}
-use Rattle.image.proofs.Splicing.{spliced-take}
+use Rattle.writers.proofs.Bytes.{protos-append}
+use Rattle.image.proofs.Bytes.{proto-size}
+use Rattle.writers.proofs.Splicing.{spliced-take}
 
 -- ---- what the definition does with the code from `first` on, of which there are k instructions
 
@@ -103,7 +104,7 @@ module _ {w : List ℕ} {p : Scope} {s : Step} {x : ℕ} (first node params : �
   added-image {o} {o'} {end} placed ps i = by-written (was-written o s ps on i)
     where
       all : proto-bytes 0x43 (ps ++ proto-of w (p .nodes) (p .depth) first (s .code - first) params ∷ []) ≡ proto-bytes 0x43 ps ++ bytes
-      all = protos-append ps (proto-of w (p .nodes) (p .depth) first (s .code - first) params ∷ [])
+      all = protos-append 0x43 ps (proto-of w (p .nodes) (p .depth) first (s .code - first) params ∷ [])
 
       by-written : Written o x (s .functions) ps → Written o' end (s .functions + 1) (ps ++ proto-of w (p .nodes) (p .depth) first (s .code - first) params ∷ [])
       by-written h =

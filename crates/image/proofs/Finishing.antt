@@ -17,9 +17,9 @@ use Rattle.store.specs.Table.{tab}
 use Rattle.store.specs.Layout.{constant-at}
 use Rattle.store.specs.Store.{state-of, config-of, run, written-by, Written, Image, Fine}
 use Rattle.store.proofs.Runs.{run-going, run-stopped}
-use Rattle.image.specs.Output.{Spliced}
+use Rattle.writers.specs.Spliced.{Spliced}
 use Rattle.image.specs.Finish.{ended, Ending, Finishable, Finishes}
-use Rattle.image.proofs.Splicing.{spliced-take, spliced-length}
+use Rattle.writers.proofs.Splicing.{spliced-take, spliced-length}
 
 -- a refusal stays
 ending-stopped : (o : List ℕ) (c : Cause) (k : ℕ) → Ending (stopped c k) o (Refused c k)

@@ -1,5 +1,4 @@
 -- Laws of the bytes of an image.
-pub mod Splicing
 pub mod Bytes
 pub mod ConstantBytes
 pub mod Finishing

@@ -1,19 +1,15 @@
--- The output: bytes written at a place, and the prototype whose bytes they are.
+-- The output: bytes placed where they fit, and the prototype whose bytes they are.
 use Prim.Native.Nat.{ℕ, _+_, _<_, _≤_}
 use mathlib.Core.Path.{_≡_}
 use mathlib.Core.List.{List, [], _∷_, _++_}
-use lib.ListN.{length, take, drop}
+use lib.ListN.{length}
 use Rattle.store.specs.Table.{tab}
 use Rattle.store.specs.Layout.{name-of, registers, held, capture-at, inst-at}
 use Rattle.meaning.specs.Opcode.{inst, Return, no-mark}
 use Rattle.meaning.specs.State.{Proto}
+use Rattle.writers.specs.Spliced.{Spliced}
 
--- the bytes stand at `at`, all others are as they were
-pub record Spliced (o : List ℕ) (at : ℕ) (bytes o' : List ℕ) : Type 0 where
-  pub fits : at + length bytes ≤ length o
-  pub is : o' ≡ take at o ++ (bytes ++ drop (at + length bytes) o)
-
--- the same where they fit, else nothing; where they end
+-- the bytes stand at `at` where they fit, else nothing; where they end
 pub record Placed (o : List ℕ) (at : ℕ) (bytes o' : List ℕ) (end : ℕ) : Type 0 where
   pub ends : end ≡ at + length bytes
   pub same : length o' ≡ length o

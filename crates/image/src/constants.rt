@@ -1,54 +1,18 @@
 // The constants, which stand after the prototypes, and the end of the image: 18 Room where it does not fit.
-use crate::put_word;
 use meaning::Cause;
 use meaning::Outcome;
 use store::Step;
-ghost use Prim.Native.Nat.{ℕ, _+_, _*_, _/_, _<_, _≤_};
+use writers::Constant;
+ghost use Prim.Native.Nat.{ℕ, _+_, _*_, _<_, _≤_};
 ghost use mathlib.Core.Path.{_≡_};
-ghost use mathlib.Core.List.{[], _∷_, _++_};
+ghost use mathlib.Core.List.{[], _∷_};
 ghost use lib.ListN.{length};
-ghost use Rattle.meaning.specs.Image.{word, field, number-bytes, constant-bytes};
+ghost use Rattle.meaning.specs.Image.{constant-bytes};
 ghost use Rattle.store.specs.Table.{tab};
 ghost use Rattle.store.specs.Layout.{constant-by, constant-at};
-ghost use Rattle.image.specs.Output.{Spliced};
+ghost use Rattle.writers.specs.Spliced.{Spliced};
+ghost use Rattle.writers.specs.Values.{constant-of};
 ghost use Rattle.image.specs.Finish.{Finishable, Finishes};
-
-// A field's tag and length.
-fn put_field(out: &mut [u8], at: usize, tag: u8, size: u32)
-    requires { ⌜ at + 3 ≤ length (now out) ⌝ }
-    ensures { λ _. ⌜ Spliced (now (out .entry)) at (tag ∷ word size) (now (out .exit)) ⌝ }
-{
-    out[at] = tag;
-    put_word(out, at + 1, size);
-}
-
-// Four bytes, the highest first.
-fn put_long(out: &mut [u8], at: usize, x: u32)
-    requires { ⌜ at + 4 ≤ length (now out) ⌝ }
-    ensures { λ _. ⌜ Spliced (now (out .entry)) at (word (x / 65536) ++ word x) (now (out .exit)) ⌝ }
-{
-    put_word(out, at, x / 65536);
-    put_word(out, at + 2, x);
-}
-
-// Tag 44: a number by its two words.
-fn put_number(out: &mut [u8], at: usize, high: u32, low: u32)
-    requires { ⌜ at + 11 ≤ length (now out) ⌝ }
-    ensures { λ _. ⌜ Spliced (now (out .entry)) at (field 0x44 (number-bytes (high * 4294967296 + low))) (now (out .exit)) ⌝ }
-{
-    put_field(out, at, 0x44, 8);
-    put_long(out, at + 3, high);
-    put_long(out, at + 7, low);
-}
-
-// Tags 45 and 46: a text, another literal.
-fn put_short(out: &mut [u8], at: usize, tag: u8, n: u32)
-    requires { ⌜ at + 5 ≤ length (now out) ⌝ }
-    ensures { λ _. ⌜ Spliced (now (out .entry)) at (field tag (word n)) (now (out .exit)) ⌝ }
-{
-    put_field(out, at, tag, 2);
-    put_word(out, at + 3, n);
-}
 
 // The bytes of a constant, by its kind.
 fn size_of(kind: u32) -> usize
@@ -58,19 +22,16 @@ fn size_of(kind: u32) -> usize
 }
 
 // A constant by its three words.
-fn put_constant(out: &mut [u8], at: usize, kind: u32, high: u32, low: u32)
-    requires { ⌜ at + length (constant-bytes (constant-by kind high low ∷ [])) ≤ length (now out) ⌝ }
-    ensures { λ _. ⌜ Spliced (now (out .entry)) at (constant-bytes (constant-by kind high low ∷ [])) (now (out .exit)) ⌝ }
+fn constant_by(kind: u32, high: u32, low: u32) -> Constant
+    ensures { λ r. ⌜ constant-of r ≡ constant-by kind high low ⌝ }
 {
     if kind == 1 {
-        put_number(out, at, high, low);
-        return;
+        return Constant::Number(high as u64 * 4294967296 + low as u64);
     }
     if kind == 2 {
-        put_short(out, at, 0x45, low);
-        return;
+        return Constant::Text(low);
     }
-    put_short(out, at, 0x46, low);
+    Constant::Other(low)
 }
 
 // Where `count` constants end that start at `at`.
@@ -95,7 +56,8 @@ fn put_constants(work: &[u32], out: &mut [u8], from: usize, count: usize)
     let mut i: usize = 0;
     while i < count {
         let kind = work[3 * i];
-        put_constant(out, at, kind, work[3 * i + 1], work[3 * i + 2]);
+        let constant = constant_by(kind, work[3 * i + 1], work[3 * i + 2]);
+        writers::put_constant(out, at, constant);
         at += size_of(kind);
         i += 1;
     }

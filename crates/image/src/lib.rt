@@ -1,56 +1,33 @@
-// The bytes of an image (document 01, "Image file"), each part written at its place in the output. Who calls has seen that it fits.
+// The bytes of an image (document 01, "Image file"): what the work area holds, handed to the writers part by part.
 mod constants;
 
 pub use constants::finish;
 ghost use Prim.Native.Nat.{_+_, _*_, _%_, _<_, _≤_};
 ghost use mathlib.Core.Path.{_≡_};
-ghost use mathlib.Core.List.{[], _∷_, _++_};
+ghost use mathlib.Core.List.{[], _∷_};
 ghost use lib.ListN.{length};
-ghost use Rattle.meaning.specs.Image.{word, field, flag, capture-bytes, inst-bytes, proto-bytes};
+ghost use Rattle.meaning.specs.Image.{capture-bytes, inst-bytes, proto-bytes};
 ghost use Rattle.store.specs.Half.{half};
 ghost use Rattle.store.specs.Table.{tab};
 ghost use Rattle.store.specs.Layout.{top, capture-of, capture-at, held, unpacked, inst-at};
-ghost use Rattle.image.specs.Output.{Spliced, Placed, proto-of};
+ghost use Rattle.writers.specs.Spliced.{Spliced};
+ghost use Rattle.writers.specs.Values.{capture-of as captured};
+ghost use Rattle.image.specs.Output.{Placed, proto-of};
 use instruction::OpCode;
+use meaning::Instruction;
 use meaning::NO_MARK;
 use store::CAPTURES;
 use store::HELD;
 use store::NAMES;
 use store::REGISTERS;
 use store::TOP;
+use writers::Capture;
+use writers::Header;
+
+// The tag of instructions.
+const NARROW: u8 = 0x43;
 
 const RETURN: u32 = OpCode::Return as u32;
-
-// A word, high byte first.
-fn put_word(out: &mut [u8], at: usize, n: u32)
-    requires { ⌜ at + 2 ≤ length (now out) ⌝ }
-    ensures { λ _. ⌜ Spliced (now (out .entry)) at (word n) (now (out .exit)) ⌝ }
-{
-    out[at] = (n / 256 % 256) as u8;
-    out[at + 1] = (n % 256) as u8;
-}
-
-// Tag 41.
-fn put_header(
-    out: &mut [u8],
-    at: usize,
-    name: u32,
-    params: u32,
-    registers: u32,
-    captures: u32,
-    code: u32,
-)
-    requires { ⌜ at + 13 ≤ length (now out) ⌝ }
-    ensures { λ _. ⌜ Spliced (now (out .entry)) at (field 0x41 (word name ++ (word params ++ (word registers ++ (word captures ++ word code))))) (now (out .exit)) ⌝ }
-{
-    out[at] = 0x41;
-    put_word(out, at + 1, 10);
-    put_word(out, at + 3, name);
-    put_word(out, at + 5, params);
-    put_word(out, at + 7, registers);
-    put_word(out, at + 9, captures);
-    put_word(out, at + 11, code);
-}
 
 // Capture i of function j, as it is stored.
 fn capture_at(work: &[u32], j: usize, i: usize) -> u32
@@ -66,23 +43,15 @@ fn capture_at(work: &[u32], j: usize, i: usize) -> u32
     }
 }
 
-// 1 for a local, else 0.
-fn flag_of(capture: u32) -> u8
-    ensures { λ r. ⌜ r ≡ flag (capture-of capture .is-local) ⌝ }
+// A capture as it is stored: from 256 on a local.
+fn capture_of(x: u32) -> Capture
+    requires { ⌜ x < 512 ⌝ }
+    ensures { λ r. ⌜ captured r ≡ capture-of x ⌝ }
 {
-    if capture < 256 { 0 } else { 1 }
-}
-
-// Tag 42.
-fn put_capture(out: &mut [u8], at: usize, capture: u32)
-    requires { ⌜ (at + 5 ≤ length (now out)) × (capture < 512) ⌝ }
-    ensures { λ _. ⌜ Spliced (now (out .entry)) at (capture-bytes (capture-of capture ∷ [])) (now (out .exit)) ⌝ }
-{
-    out[at] = 0x42;
-    out[at + 1] = 0;
-    out[at + 2] = 2;
-    out[at + 3] = flag_of(capture);
-    out[at + 4] = (capture % 256) as u8;
+    Capture {
+        local: 256 <= x,
+        index: (x % 256) as u8,
+    }
 }
 
 // The captures of function j.
@@ -92,25 +61,23 @@ fn put_captures(work: &[u32], out: &mut [u8], at: usize, j: usize, count: usize)
 {
     let mut i: usize = 0;
     while i < count {
-        put_capture(out, at + 5 * i, capture_at(work, j, i));
+        let capture = capture_of(capture_at(work, j, i));
+        writers::put_capture(out, at + 5 * i, capture);
         i += 1;
     }
 }
 
-// Tag 43: an instruction by its packed word and its mark.
-fn put_inst(out: &mut [u8], at: usize, x: u32, mark: u32)
-    requires { ⌜ at + 9 ≤ length (now out) ⌝ }
-    ensures { λ _. ⌜ Spliced (now (out .entry)) at (inst-bytes 0x43 (unpacked x mark ∷ [])) (now (out .exit)) ⌝ }
+// An instruction by its packed word and its mark.
+fn unpacked(x: u32, mark: u32) -> Instruction
+    ensures { λ r. ⌜ r ≡ unpacked x mark ⌝ }
 {
-    out[at] = 0x43;
-    out[at + 1] = 0;
-    out[at + 2] = 6;
-    out[at + 3] = (x % 256) as u8;
-    out[at + 4] = (x / 256 % 256) as u8;
-    out[at + 5] = (x / 65536 % 256) as u8;
-    out[at + 6] = (x / 16777216 % 256) as u8;
-    out[at + 7] = (mark / 256 % 256) as u8;
-    out[at + 8] = (mark % 256) as u8;
+    Instruction {
+        opcode: (x % 256) as u8,
+        a: (x / 256 % 256) as u8,
+        b: (x / 65536 % 256) as u8,
+        c: (x / 16777216 % 256) as u8,
+        mark: mark,
+    }
 }
 
 // The pending code from `first` on.
@@ -122,7 +89,8 @@ fn put_code(work: &[u32], out: &mut [u8], at: usize, nodes: usize, first: usize,
     let mut i: usize = 0;
     while i < count {
         let k = 2 * (first + i);
-        put_inst(out, at + 9 * i, work[top - (k + 2)], work[top - (k + 1)]);
+        let x = unpacked(work[top - (k + 2)], work[top - (k + 1)]);
+        writers::put_inst(out, at + 9 * i, NARROW, x);
         i += 1;
     }
 }
@@ -144,12 +112,19 @@ fn put_prototype(
     let name = work[NAMES + 8 * j];
     let registers = work[REGISTERS + 8 * j] % 256;
     let held = work[HELD + 8 * j] % 256;
-    put_header(out, at, name, params, registers, held, (count + 1) as u32);
+    let header = Header {
+        name: name,
+        params: params,
+        registers: registers,
+        captures: held,
+        code: (count + 1) as u32,
+    };
+    writers::put_header(out, at, header);
     let captures = held as usize;
     put_captures(work, out, at + 13, j, captures);
     let code = at + 13 + 5 * captures;
     put_code(work, out, code, nodes, first, count);
-    put_inst(out, code + 9 * count, RETURN, NO_MARK);
+    writers::put_inst(out, code + 9 * count, NARROW, unpacked(RETURN, NO_MARK));
 }
 
 // The same where it fits; in any case where it ends.

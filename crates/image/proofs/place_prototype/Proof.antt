@@ -3,7 +3,7 @@ use mathlib.Core.Path.{refl, sym, ap}
 use Prim.Native.Nat.{_+_}
 use native.Mathlib.Omega.{arith}
 use denote.Ref.{now}
-use Rattle.image.proofs.Splicing.{spliced-length}
+use Rattle.writers.proofs.Splicing.{spliced-length}
 use Rattle.image.proofs.Bytes.{proto-size}
 use borrow.Author.Needs.{needs}
 use Rattle.image.proofs.place_prototype.Statement.{statement}

@@ -1,15 +1,18 @@
 -- `image::put_captures` meets its contract: capture by capture. Assumes nothing.
-use mathlib.Core.Path.{_≡_, sym, ap}
+use mathlib.Core.Path.{_≡_, sym, ap, _∙_}
+use mathlib.Core.List.{[], _∷_}
 use Prim.Native.Nat.{ℕ, _-_, _≤_}
 use native.Mathlib.Omega.{arith}
 use denote.Ref.{now}
-use Rattle.image.proofs.Splicing.{spliced-none, spliced-then, spliced-as, spliced-length}
+use Rattle.writers.proofs.Splicing.{spliced-none, spliced-then, spliced-as, spliced-length}
 use Rattle.store.specs.Table.{tab}
-use Rattle.store.specs.Layout.{capture-at}
+use Rattle.store.specs.Layout.{capture-of, capture-at}
 use Rattle.store.proofs.Tables.{tab-length, tab-none}
 use Rattle.meaning.specs.Image.{capture-bytes}
-use Rattle.image.specs.Output.{Spliced}
-use Rattle.image.proofs.Bytes.{captures-more, captures-size}
+use Rattle.writers.specs.Values.{capture-of as captured}
+use Rattle.writers.specs.Spliced.{Spliced}
+use Rattle.writers.proofs.Bytes.{captures-size}
+use Rattle.image.proofs.Bytes.{captures-more}
 use Rattle.image.proofs.put_captures.Statement.{statement}
 use Rattle.image.proofs.put_captures.Tie as tie
 
@@ -27,24 +30,23 @@ loop-holds c =
 
 capture-at-requires : tie.Need-capture-at-requires Inv-loop μ-loop
 capture-at-requires c κs =
-    let start = c .before .before .before .before .before in
-    (start .pre .0, start .pre .1, omega (arith, (c .before .loop-test) .taken, start .pre .2))
+    let start = c .before .before .before .before in
+    (start .pre .0, start .pre .1, omega (arith, c .loop-test .taken, start .pre .2))
 
 put-capture-requires : tie.Need-put-capture-requires Inv-loop μ-loop
 put-capture-requires c κs =
-    let start = c .before .before .before .before .before .before in
-    (omega (arith, (c .before .before .loop-test) .taken, start .pre .3, spliced-length ((c .before .before .before .loop) .inv .1)), omega (arith, (c .capture-at) .ensures))
+    let turn = c .before .before .before in
+    omega (arith, turn .loop-test .taken, turn .before .before .before .before .pre .3, spliced-length (turn .before .loop .inv .1))
 
 loop-again : tie.Need-loop-again Inv-loop μ-loop
 loop-again c =
-    let start = c .before .before .before .before .before .before .before .before .before in
-    let turn = c .before .before .before .before .before .before .loop in
-    let test = c .before .before .before .before .before .loop-test in
-    let a = start .args in
+    let turn = c .before .before .before .before .before .before in
+    let a = turn .before .before .before .before .args in
     let f = capture-at (now (a .work)) (a .j) in
-    let i : ℕ = turn .i in
-    let one = rw ((c .before .before .before .capture-at) .ensures) at ((c .before .before .put-capture) .ensures) in
-    (omega (arith, test .taken), spliced-as (sym (captures-more f i)) (spliced-then (turn .inv .1) one (omega (arith, captures-size (tab f i), tab-length f i))))
+    let i : ℕ = turn .before .loop .i in
+    let one : captured (c .before .before .before .before .capture-of .result) ≡ f i = (c .before .before .before .before .capture-of .ensures) ∙ ap capture-of (c .before .before .before .before .before .capture-at .ensures) in
+    let put = spliced-as (ap (λ k. capture-bytes (k ∷ [])) one) (c .before .before .put-capture .ensures) in
+    (omega (arith, turn .loop-test .taken), spliced-as (sym (captures-more f i)) (spliced-then (turn .before .loop .inv .1) put (omega (arith, captures-size (tab f i), tab-length f i))))
 
 same-length : tie.Need-same-length Inv-loop μ-loop
 same-length c = spliced-length ((c .before .loop) .inv .1)
@@ -63,12 +65,13 @@ put-captures-spec =
     Inv-loop
     μ-loop
     loop-holds
-    (λ c. omega (arith, (c .before .loop-test) .taken, (c .before .before .before .before .before) .pre .2))
-    (λ c. omega (arith, (c .before .loop-test) .taken, (c .before .before .before .before .before) .pre .3))
     capture-at-requires
+    (λ c κs. omega (arith, c .capture-at .ensures))
+    (λ c. omega (arith, c .before .before .before .loop-test .taken, c .before .before .before .before .before .before .before .pre .2))
+    (λ c. omega (arith, c .before .before .before .loop-test .taken, c .before .before .before .before .before .before .before .pre .3))
     put-capture-requires
-    (λ c. omega (arith, (c .before .before .before .before .before .loop-test) .taken))
-    (λ c. omega (arith, (c .before .before .before .before .before .loop-test) .taken))
+    (λ c. omega (arith, c .before .before .before .before .before .before .loop-test .taken))
+    (λ c. omega (arith, c .before .before .before .before .before .before .loop-test .taken))
     loop-again
     same-length
     returns)

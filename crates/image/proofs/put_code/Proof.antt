@@ -1,16 +1,18 @@
 -- `image::put_code` meets its contract: instruction by instruction. Assumes nothing.
 use mathlib.Core.Path.{_≡_, sym, ap}
+use mathlib.Core.List.{[], _∷_}
 use Prim.Native.Nat.{ℕ, _+_, _-_, _≤_}
 use native.Mathlib.Omega.{arith}
 use denote.Ref.{now}
-use Rattle.image.proofs.Splicing.{spliced-none, spliced-then, spliced-as, spliced-length}
+use Rattle.writers.proofs.Splicing.{spliced-none, spliced-then, spliced-as, spliced-length}
 use Rattle.store.specs.Table.{tab}
 use Rattle.store.specs.Layout.{inst-at}
 use Rattle.store.proofs.Tables.{tab-length, tab-none}
 use Rattle.meaning.specs.Image.{inst-bytes}
 use Rattle.meaning.specs.declared.Instruction.{Instruction}
-use Rattle.image.specs.Output.{Spliced}
-use Rattle.image.proofs.Bytes.{insts-more, insts-size}
+use Rattle.writers.specs.Spliced.{Spliced}
+use Rattle.writers.proofs.Bytes.{insts-size}
+use Rattle.image.proofs.Bytes.{insts-more}
 use Rattle.image.proofs.put_code.Statement.{statement}
 use Rattle.image.proofs.put_code.Tie as tie
 
@@ -26,26 +28,14 @@ loop-holds c =
     let a = start .args in
     (omega arith, spliced-as (sym (ap (inst-bytes 0x43) (tab-none (λ k. inst-at (now (a .work)) (a .nodes) (a .first + k))))) (spliced-none (now (a .out)) (a .at) (omega (arith, start .pre .3))))
 
-shared-slice-read-put-inst-2 : tie.Need-shared-slice-read-put-inst-2 Inv-loop μ-loop
-shared-slice-read-put-inst-2 c =
-    let start = c .before .before .before .before .before .before .before in
-    omega (arith, (c .before .before .before .loop-test) .taken, start .pre .0, start .pre .1)
-
-add-i : tie.Need-add-i Inv-loop μ-loop
-add-i c =
-    let start = c .before .before .before .before .before .before .before .before .before .before in
-    let test = c .before .before .before .before .before .before .loop-test in
-    omega (arith, test .taken, start .pre .1, start .pre .2)
-
 loop-again : tie.Need-loop-again Inv-loop μ-loop
 loop-again c =
-    let start = c .before .before .before .before .before .before .before .before .before .before in
-    let turn = c .before .before .before .before .before .before .before .loop in
-    let test = c .before .before .before .before .before .before .loop-test in
-    let a = start .args in
+    let turn = c .before .before .before .before .before .before .before in
+    let a = turn .before .before .before .before .args in
     let f : ℕ → Instruction = λ k. inst-at (now (a .work)) (a .nodes) (a .first + k) in
-    let i : ℕ = turn .i in
-    (omega (arith, test .taken), spliced-as (sym (insts-more f i)) (spliced-then (turn .inv .1) ((c .before .before .put-inst) .ensures) (omega (arith, insts-size (tab f i), tab-length f i))))
+    let i : ℕ = turn .before .loop .i in
+    let put = spliced-as (ap (λ x. inst-bytes 0x43 (x ∷ [])) (c .before .before .before .before .unpacked .ensures)) (c .before .before .put-inst .ensures) in
+    (omega (arith, turn .loop-test .taken), spliced-as (sym (insts-more f i)) (spliced-then (turn .before .loop .inv .1) put (omega (arith, insts-size 0x43 (tab f i), tab-length f i))))
 
 same-length : tie.Need-same-length Inv-loop μ-loop
 same-length c = spliced-length ((c .before .loop) .inv .1)
@@ -66,21 +56,22 @@ put-code-spec =
     (λ c. omega (arith, (c .before .before) .pre .2))
     (λ c. omega (arith, (c .before .before) .pre .2))
     loop-holds
-    (λ c. omega (arith, (c .loop-test) .taken, (c .before .before .before .before) .pre .1, (c .before .before .before .before) .pre .2))
-    (λ c. omega (arith, (c .loop-test) .taken, (c .before .before .before .before) .pre .1, (c .before .before .before .before) .pre .2))
-    (λ c. omega (arith, (c .before .loop-test) .taken, (c .before .before .before .before .before) .pre .3))
-    (λ c. omega (arith, (c .before .loop-test) .taken, (c .before .before .before .before .before) .pre .3))
-    (λ c. omega (arith, (c .before .loop-test) .taken, (c .before .before .before .before .before) .pre .1, (c .before .before .before .before .before) .pre .2))
-    (λ c. omega (arith, (c .before .loop-test) .taken, (c .before .before .before .before .before) .pre .1))
-    (λ c. omega (arith, (c .before .before .before .before .before) .pre .2))
-    (λ c. omega (arith, (c .before .before .loop-test) .taken, (c .before .before .before .before .before .before) .pre .0, (c .before .before .before .before .before .before) .pre .1))
-    (λ c. omega (arith, (c .before .before .loop-test) .taken, (c .before .before .before .before .before .before) .pre .1, (c .before .before .before .before .before .before) .pre .2))
-    (λ c. omega (arith, (c .before .before .loop-test) .taken, (c .before .before .before .before .before .before) .pre .1))
-    (λ c. omega (arith, (c .before .before .before .before .before .before) .pre .2))
-    shared-slice-read-put-inst-2
-    (λ c κs. omega (arith, (c .before .before .before .loop-test) .taken, (c .before .before .before .before .before .before .before) .pre .3, spliced-length ((c .before .before .before .before .loop) .inv .1)))
-    add-i
-    (λ c. omega (arith, (c .before .before .before .before .before .before .loop-test) .taken))
+    (λ c. omega (arith, c .loop-test .taken, c .before .before .before .before .pre .1, c .before .before .before .before .pre .2))
+    (λ c. omega (arith, c .loop-test .taken, c .before .before .before .before .pre .1, c .before .before .before .before .pre .2))
+    (λ c. omega (arith, c .loop-test .taken, c .before .before .before .before .pre .1, c .before .before .before .before .pre .2))
+    (λ c. omega (arith, c .loop-test .taken, c .before .before .before .before .pre .1))
+    (λ c. omega (arith, c .before .before .before .before .pre .2))
+    (λ c. omega (arith, c .before .loop-test .taken, c .before .before .before .before .before .pre .0, c .before .before .before .before .before .pre .1))
+    (λ c. omega (arith, c .before .loop-test .taken, c .before .before .before .before .before .pre .1, c .before .before .before .before .before .pre .2))
+    (λ c. omega (arith, c .before .loop-test .taken, c .before .before .before .before .before .pre .1))
+    (λ c. omega (arith, c .before .before .before .before .before .pre .2))
+    (λ c. omega (arith, c .before .before .loop-test .taken, c .before .before .before .before .before .before .pre .0, c .before .before .before .before .before .before .pre .1))
+    (λ c κs. tt)
+    (λ c. omega (arith, c .before .before .before .before .loop-test .taken, c .before .before .before .before .before .before .before .before .pre .3))
+    (λ c. omega (arith, c .before .before .before .before .loop-test .taken, c .before .before .before .before .before .before .before .before .pre .3))
+    (λ c κs. omega (arith, c .before .before .before .before .loop-test .taken, c .before .before .before .before .before .before .before .before .pre .3, spliced-length (c .before .before .before .before .before .loop .inv .1)))
+    (λ c. omega (arith, c .before .before .before .before .before .before .before .loop-test .taken, c .before .before .before .before .before .before .before .before .before .before .before .pre .1, c .before .before .before .before .before .before .before .before .before .before .before .pre .2))
+    (λ c. omega (arith, c .before .before .before .before .before .before .before .loop-test .taken))
     loop-again
     same-length
     returns)

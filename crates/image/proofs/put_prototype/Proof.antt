@@ -1,5 +1,5 @@
 -- `image::put_prototype` meets its contract: header, captures, code and the last Return, one after the other. Assumes nothing.
-use mathlib.Core.Path.{_∙_}
+use mathlib.Core.Path.{_∙_, ap}
 use mathlib.Core.List.{List, [], _∷_, _++_, append-assoc}
 use Prim.Native.Nat.{ℕ, _+_}
 use native.Mathlib.Omega.{arith}
@@ -10,19 +10,19 @@ use Rattle.store.specs.Layout.{name-of, registers, held, capture-at, inst-at}
 use Rattle.store.proofs.Tables.{tab-length}
 use Rattle.meaning.specs.Opcode.{inst, Return, no-mark}
 use Rattle.meaning.specs.Image.{word, field, capture-bytes, inst-bytes}
-use Rattle.image.proofs.Splicing.{spliced-then, spliced-as}
-use Rattle.image.proofs.Bytes.{captures-size, insts-size, proto-is}
+use Rattle.writers.proofs.Splicing.{spliced-then, spliced-as}
+use Rattle.writers.proofs.Bytes.{captures-size, insts-size}
+use Rattle.image.proofs.Bytes.{proto-is}
 use borrow.Author.Needs.{needs}
 use Rattle.image.proofs.put_prototype.Statement.{statement}
 use Rattle.image.proofs.put_prototype.Tie as tie
 
 returns : tie.Need-returns
 returns c =
-    let start = c .before .before .before .before .before .before .before .before .before .before .before .before .before .before .before .before .before .before .before .before .before in
-    let put-header = c .before .before .before .before .before .before .before .before .before .before .before .before .before .before .put-header in
-    let put-captures = c .before .before .before .before .before .before .before .before .before .before .put-captures in
-    let put-code = c .before .before .before .before .before .before .put-code in
-    let a = start .args in
+    let code = c .before .before .before .before .before .before .before in
+    let captures = code .before .before .before .before in
+    let head = captures .before .before .before .before in
+    let a = c .before .before .before .before .before .before .before .before .before .before .before .before .before .before .before .before .before .before .before .before .before .before .args in
     let w = now (a .work) in
     let j : ℕ = a .j in
     let k : ℕ = a .count in
@@ -32,11 +32,12 @@ returns c =
     let ret : List ℕ = inst-bytes 0x43 (inst Return 0 0 0 no-mark ∷ []) in
     let nc = captures-size (tab (capture-at w j) (held w j)) in
     let tc = tab-length (capture-at w j) (held w j) in
-    let ni = insts-size (tab (λ i. inst-at w (a .nodes) (a .first + i)) k) in
+    let ni = insts-size 0x43 (tab (λ i. inst-at w (a .nodes) (a .first + i)) k) in
     let ti = tab-length (λ i. inst-at w (a .nodes) (a .first + i)) k in
-    let b2 = spliced-then (put-header .ensures) (put-captures .ensures) (omega arith) in
-    let b3 = spliced-then b2 (put-code .ensures) (omega (arith, length-append h cs, nc, tc)) in
-    let b4 = spliced-then b3 ((c .before .before .put-inst) .ensures) (omega (arith, length-append h cs, length-append (h ++ cs) is, nc, tc, ni, ti)) in
+    let last = spliced-as (ap (λ x. inst-bytes 0x43 (x ∷ [])) (c .before .before .before .unpacked .ensures)) (c .before .before .put-inst .ensures) in
+    let b2 = spliced-then (head .put-header .ensures) (captures .put-captures .ensures) (omega arith) in
+    let b3 = spliced-then b2 (code .put-code .ensures) (omega (arith, length-append h cs, nc, tc)) in
+    let b4 = spliced-then b3 last (omega (arith, length-append h cs, length-append (h ++ cs) is, nc, tc, ni, ti)) in
     spliced-as (append-assoc (h ++ cs) is ret ∙ append-assoc h cs (is ++ ret) ∙ proto-is w (a .nodes) j (a .first) k (a .params)) b4
 
 pub put-prototype-spec : {M : Type 1} → statement M
@@ -67,6 +68,7 @@ put-prototype-spec =
     (λ c κs. search needs)
     (λ c. search needs)
     (λ c. search needs)
+    (λ c κs. search needs)
     (λ c κs. search needs)
     (λ c. search needs)
     returns)

@@ -1,5 +1,6 @@
 //! Images to ask about: built by hand at the rules' limits, edited byte by byte and field by field, at random, and damaged.
 pub mod build;
+pub mod costly;
 pub mod counts;
 pub mod edges;
 pub mod edits;

@@ -1,8 +1,6 @@
 -- Eleven bytes or five, by the kind.
-use mathlib.Core.Path.{ap}
 use native.Mathlib.Omega.{arith}
-use lib.ListN.{length}
-use Rattle.image.proofs.ConstantBytes.{is-number, short-size}
+use Rattle.image.proofs.ConstantBytes.{long-size, short-size}
 use Rattle.image.proofs.constants.size_of.Statement.{statement}
 use Rattle.image.proofs.constants.size_of.Tie as tie
 
@@ -10,7 +8,7 @@ returns : tie.Need-returns
 returns c =
     let start = c .before in
     let if1 = c .if1 in
-    (λ high low. ap length (is-number (start .args .kind) high low (if1 .taken)), omega arith)
+    (λ high low. long-size (start .args .kind) high low (if1 .taken), omega arith)
 
 returns-2 : tie.Need-returns-2
 returns-2 c =

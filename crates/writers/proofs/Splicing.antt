@@ -1,12 +1,12 @@
 -- Bytes written one after the other stand together at the place of the first. Assumes nothing.
-use mathlib.Core.Path.{_≡_, sym, ap, ap₂, _∙_}
+use mathlib.Core.Path.{_≡_, refl, sym, ap, ap₂, _∙_}
 use mathlib.Core.List.{List, [], _∷_, _++_, append-assoc}
 use Prim.Native.Nat.{ℕ, _+_, _<_, _≤_}
 use native.Mathlib.Omega.{arith}
 use native.Mathlib.Numerals.{add-one}
 use lib.ListN.{length, set, take, drop, length-append, length-drop, take-append-drop}
-use lib.Seq.{take-at, set-split, length-take-le, drop-drop, drop-append-add}
-use Rattle.image.specs.Output.{Spliced}
+use lib.Seq.{take-at, drop-at, set-split, length-take-le, drop-drop, drop-append-add}
+use Rattle.writers.specs.Spliced.{Spliced}
 
 front : (o bytes : List ℕ) (at : ℕ) → at + length bytes ≤ length o → length (take at o ++ bytes) ≡ at + length bytes
 front o bytes at h = omega (arith, length-append (take at o) bytes, length-take-le at o (omega arith))
@@ -36,6 +36,13 @@ module _ {o o' bytes : List ℕ} {at : ℕ} (s : Spliced o at bytes o') where
       ∙ ap (λ m. drop (m + k) ((take at o ++ bytes) ++ drop (at + length bytes) o)) (sym n)
       ∙ drop-append-add (take at o ++ bytes) (drop (at + length bytes) o) k
       ∙ drop-drop k (at + length bytes) o
+
+-- what is read there is what was written
+pub spliced-at : {o o' bytes : List ℕ} {at : ℕ} → Spliced o at bytes o' → take (length bytes) (drop at o') ≡ bytes
+spliced-at {o} {o'} {bytes} {at} s =
+    ap (λ l. take (length bytes) (drop at l)) (s .is)
+    ∙ ap (take (length bytes)) (drop-at (take at o) (bytes ++ drop (at + length bytes) o) at (length-take-le at o (omega (arith, s .fits))))
+    ∙ take-at bytes (drop (at + length bytes) o) (length bytes) refl
 
 pub spliced-then : {o o1 o2 a b : List ℕ} {at n : ℕ} → Spliced o at a o1 → Spliced o1 n b o2 → n ≡ at + length a → Spliced o at (a ++ b) o2
 spliced-then {o} {o1} {o2} {a} {b} {at} {n} s t e =

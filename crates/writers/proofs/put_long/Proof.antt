@@ -1,9 +1,9 @@
 -- Its high word, then its low word.
 use native.Mathlib.Omega.{arith}
-use Rattle.image.proofs.Splicing.{spliced-then}
+use Rattle.writers.proofs.Splicing.{spliced-then}
 use borrow.Author.Needs.{needs}
-use Rattle.image.proofs.constants.put_long.Statement.{statement}
-use Rattle.image.proofs.constants.put_long.Tie as tie
+use Rattle.writers.proofs.put_long.Statement.{statement}
+use Rattle.writers.proofs.put_long.Tie as tie
 
 returns : tie.Need-returns
 returns c =

@@ -2,10 +2,10 @@
 use native.Mathlib.Omega.{arith}
 use lib.ListN.{length-set}
 use denote.Ref.{now}
-use Rattle.image.proofs.Splicing.{spliced-none, spliced-byte, spliced-then, spliced-length}
+use Rattle.writers.proofs.Splicing.{spliced-none, spliced-byte, spliced-then, spliced-length}
 use borrow.Author.Needs.{needs}
-use Rattle.image.proofs.constants.put_field.Statement.{statement}
-use Rattle.image.proofs.constants.put_field.Tie as tie
+use Rattle.writers.proofs.put_field.Statement.{statement}
+use Rattle.writers.proofs.put_field.Tie as tie
 
 put-word-requires : tie.Need-put-word-requires
 put-word-requires c κs =

@@ -1,9 +1,9 @@
 -- The header, then the word.
 use native.Mathlib.Omega.{arith}
-use Rattle.image.proofs.Splicing.{spliced-then}
+use Rattle.writers.proofs.Splicing.{spliced-then}
 use borrow.Author.Needs.{needs}
-use Rattle.image.proofs.constants.put_short.Statement.{statement}
-use Rattle.image.proofs.constants.put_short.Tie as tie
+use Rattle.writers.proofs.put_short.Statement.{statement}
+use Rattle.writers.proofs.put_short.Tie as tie
 
 returns : tie.Need-returns
 returns c =

@@ -1,12 +1,12 @@
--- `image::put_word` meets its contract: two bytes, one after the other. Assumes nothing.
+-- `writers::put_word` meets its contract: two bytes, one after the other. Assumes nothing.
 use Prim.Native.Nat.{ℕ, _+_, _/_, _%_}
 use native.Mathlib.Omega.{arith}
 use lib.ListN.{length-set}
 use denote.Ref.{now}
-use Rattle.image.proofs.Splicing.{spliced-none, spliced-byte}
+use Rattle.writers.proofs.Splicing.{spliced-none, spliced-byte}
 use borrow.Author.Needs.{needs}
-use Rattle.image.proofs.put_word.Statement.{statement}
-use Rattle.image.proofs.put_word.Tie as tie
+use Rattle.writers.proofs.put_word.Statement.{statement}
+use Rattle.writers.proofs.put_word.Tie as tie
 
 returns : tie.Need-returns
 returns c =

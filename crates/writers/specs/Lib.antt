@@ -1,0 +1,3 @@
+-- What the contracts cite beside the definition of `meaning`.
+pub mod Values
+pub mod Spliced
