@@ -70,6 +70,40 @@ void yengrazul_lower(const uint8_t *tree, size_t tree_len, uint32_t *work, size_
  */
 void yengrazul_read(const uint8_t *image, size_t image_len, uint64_t answer[2]);
 
+/*
+ * Walks a prototype of an image by recorded decisions and tells which instructions the walk visited (docs/FORMATS.md, "Walking a prototype").
+ * decisions has a byte for each Test that the walk meets, in their order: 0 it went to the next instruction, 1 it skipped one. A RegisterTryCatch
+ * goes on to the next instruction. The walk takes at most budget steps.
+ *
+ *   answer[0]  number: 0 walked, else a refusal: those of yengrazul_read, then 22, 23, 29 in this order
+ *   answer[1]  place: that of yengrazul_read; of 23 the offset of the first decision that is no 0 or 1, used or not; else 0
+ *   answer[2]  steps taken, at most budget
+ *   answer[3]  index of the instruction where the walk stood at its end
+ *   answer[4]  how it ended, of enum yengrazul_ending, judged in their order before each step
+ *
+ * visited may hold anything before the call. Afterwards visited[i] is 1 where instruction i was visited, the last one included, and 0 everywhere
+ * else, behind the instructions too; YENGRAZUL_INSTRUCTIONS_MOST bytes are always enough. Where the walk is refused all of visited is 0, and so are
+ * the three last numbers of answer. It reads image and decisions, writes visited and answer, and touches nothing else; nothing is allocated.
+ * The time is linear in the bytes and the steps. The caller's part and threads are as above.
+ *
+ *     uint64_t answer[5];
+ *     yengrazul_walk(image, image_len, prototype, decisions, decisions_len, budget, visited, visited_len, answer);
+ *     if (answer[0] == YENGRAZUL_ACCEPTED && answer[4] != YENGRAZUL_ENDED_RETURN)
+ *         printf("%s at instruction %" PRIu64 "\n", yengrazul_ended(answer[4]), answer[3]);
+ */
+void yengrazul_walk(const uint8_t *image, size_t image_len, uint64_t prototype, const uint8_t *decisions, size_t decisions_len, uint64_t budget,
+                    uint8_t *visited, size_t visited_len, uint64_t answer[5]);
+
+/* How a walk ended. */
+enum yengrazul_ending {
+    YENGRAZUL_ENDED_RETURN = 0,    /* at a Return */
+    YENGRAZUL_ENDED_DECISIONS = 1, /* at a Test, and no decision is left */
+    YENGRAZUL_ENDED_BUDGET = 2     /* all steps of the budget are taken */
+};
+
+/* No prototype of an image has more instructions. */
+#define YENGRAZUL_INSTRUCTIONS_MOST 65535
+
 /* The modes. */
 #define YENGRAZUL_MODE_0 ((uint64_t)0)
 #define YENGRAZUL_MODE_1 ((uint64_t)1)
@@ -91,7 +125,7 @@ void yengrazul_check(const uint8_t *tree, size_t tree_len, size_t work_len, uint
 #define YENGRAZUL_IMAGE_MOST ((size_t)256 * (13 + 255 * 5 + 32767 * 9) + (size_t)1024 * 11)
 
 /* answer[0], and when it is given. Of a tree: 21 comes before all; 1 to 6 are about the whole input, in that order; 7 to 17 are the first met as
-   the tree is lowered; 18 comes last. Of an image: 19, then 20. */
+   the tree is lowered; 18 comes last. Of an image: 19, then 20. Of a walk: those of its image, then 22, 23, 29. */
 enum yengrazul_refusal {
     YENGRAZUL_ACCEPTED = 0,
     YENGRAZUL_FRAME = 1,
@@ -114,7 +148,10 @@ enum yengrazul_refusal {
     YENGRAZUL_ROOM = 18,
     YENGRAZUL_IMAGE_FRAME = 19,
     YENGRAZUL_IMAGE_RULE = 20,
-    YENGRAZUL_MODE = 21
+    YENGRAZUL_MODE = 21,
+    YENGRAZUL_PROTOTYPE = 22,
+    YENGRAZUL_DECISION = 23,
+    YENGRAZUL_VISITS = 29
 };
 
 /* The name of a number, as documents 01 and 02 have it: "Registers" for 7. */
@@ -123,9 +160,9 @@ static inline const char *yengrazul_name(uint64_t number)
     static const char *const names[] = {
         "Accepted",   "Frame", "Many",  "Shape",  "Tree",      "Depth",      "Work",    "Registers", "Captures", "Undefined",
         "Redefined",  "Stray", "Empty", "Return", "Constants", "Prototypes", "Nesting", "Long",      "Room",     "Image frame",
-        "Image rule", "Mode",
+        "Image rule", "Mode",  "Prototype", "Decision", NULL,  NULL,         NULL,      NULL,        NULL,       "Visits",
     };
-    return number < sizeof names / sizeof *names ? names[number] : "Unknown";
+    return number < sizeof names / sizeof *names && names[number] ? names[number] : "Unknown";
 }
 
 /* The cause of a refusal in words, for a line such as "refused 7 Registers at node 412: a function may take 255 registers". */
@@ -154,8 +191,23 @@ static inline const char *yengrazul_cause(uint64_t number)
         "a header or a payload of the image runs past the end, or there is no field at all",
         "the image's fields must follow as 01 says, and every instruction must keep 02's rules",
         "the mode must be 0 or 1",
+        "the image must have a prototype of this number",
+        "a decision must be 0 or 1",
+        NULL, /* 24 to 28 are given by no call */
+        NULL,
+        NULL,
+        NULL,
+        NULL,
+        "there must be a lent byte for each instruction of the prototype",
     };
-    return number < sizeof causes / sizeof *causes ? causes[number] : "no refusal has this number";
+    return number < sizeof causes / sizeof *causes && causes[number] ? causes[number] : "no refusal has this number";
+}
+
+/* answer[4] of a walk in words, for a line such as "17 steps, at instruction 9: at a Return". */
+static inline const char *yengrazul_ended(uint64_t ending)
+{
+    static const char *const endings[] = {"at a Return", "out of decisions", "out of budget"};
+    return ending < sizeof endings / sizeof *endings ? endings[ending] : "no ending has this number";
 }
 
 /* How many whole fields stand at the front of a tree, counted no further than YENGRAZUL_NODES_MOST: for YENGRAZUL_WORDS. */

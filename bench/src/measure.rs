@@ -98,7 +98,7 @@ fn row(bundle: &[Script], times: [Vec<f64>; 6]) -> Row {
     Row { nodes, scripts, whole, mode_1, check, rust, fields, read, framed }
 }
 
-fn summary(mut times: Vec<f64>, nodes: f64) -> Times {
+pub fn summary(mut times: Vec<f64>, nodes: f64) -> Times {
     times.sort_by(f64::total_cmp);
     Times { median: times[times.len() / 2] / nodes, least: times[0] / nodes, spread: spread(&times) }
 }
@@ -112,7 +112,7 @@ fn room(script: &Script) -> usize {
     script.image.len() + 64
 }
 
-fn nanoseconds(work: impl FnOnce()) -> f64 {
+pub fn nanoseconds(work: impl FnOnce()) -> f64 {
     let start = Instant::now();
     work();
     start.elapsed().as_nanos() as f64

@@ -2,6 +2,7 @@
 use crate::machine::{processor, says};
 use crate::measure::{Row, Times};
 use crate::noise::MOST;
+use crate::walks::Walks;
 
 /// A row for each size, and how much a node of the largest costs more than one of the smallest.
 pub fn table(rows: &[Row]) -> String {
@@ -34,6 +35,13 @@ pub fn reading(rows: &[Row]) -> String {
     text
 }
 
+/// A walk, step by step.
+pub fn walking(walks: &Walks) -> String {
+    let ([walk, plain], ratio) = ([walks.walk, walks.plain].map(both), walks.walk.median / walks.plain.median);
+    let (head, line) = ("| steps | walk | plain walker | walk / plain |", "|---|---|---|---|");
+    format!("{head}\n{line}\n| {} | {walk} | {plain} | {ratio:.1} |\n", walks.steps)
+}
+
 fn both(times: Times) -> String {
     format!("{:.1} ({:.1})", times.median, times.least)
 }
@@ -51,9 +59,9 @@ fn with_commas(n: usize) -> String {
 }
 
 /// docs/BENCHMARK.md.
-pub fn page(rows: &[Row], rounds: usize, date: &str) -> String {
+pub fn page(rows: &[Row], walks: &Walks, rounds: usize, date: &str) -> String {
     let (processor, rustc, kit) = (processor(), says("rustc", "--version"), says("rt", "version"));
-    let (table, reading, most) = (table(rows), reading(rows), 100.0 * MOST);
+    let (table, reading, walking, most) = (table(rows), reading(rows), walking(walks), 100.0 * MOST);
     format!(
         "# Benchmark
 
@@ -75,6 +83,12 @@ Nanoseconds a field of the images that come of it, read back:
 {reading}
 - Read: `yengrazul_read`, the whole judgement. Framed alone: a plain loop in Rust over the fields that looks at nothing but their lengths. The goal
   is at most three times that.
+
+Nanoseconds a step of a walk by recorded decisions:
+
+{walking}
+- Walk: `yengrazul_walk`, which reads the image first, on a loop without end. Plain walker: a loop in Rust over instructions that were decoded before.
+  Both go by the same decisions, chosen at random, and note what they visit. The goal is at most two times that.
 
 How it is measured. One process lowers generated scripts: functions with ordinary bodies, always accepted; before the clock starts each image of mode 0 is compared with
 the Rust's, byte for byte. For each size there are as many different scripts as make about 30,000 nodes in all, and a round goes over all of them: a small

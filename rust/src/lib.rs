@@ -17,7 +17,8 @@
 //! # Ok::<(), yengrazul::Refusal>(())
 //! ```
 //!
-//! [`Image::read`] takes an image back, whoever wrote it, and gives its prototypes, instructions and constants; it is proved too.
+//! [`Image::read`] takes an image back, whoever wrote it, and gives its prototypes, instructions and constants; it is proved too. So is [`walk`],
+//! which follows a prototype by the decisions that a rig recorded; [`Coverage`] adds such runs up and tells what none of them reached.
 //!
 //! What tree and image files hold: `docs/FORMATS.md` of the project.
 //!
@@ -29,11 +30,13 @@ mod image;
 mod lowerer;
 mod mode;
 mod refusal;
+mod walk;
 
 pub use image::{Capture, Captures, Constant, Constants, Image, Instruction, Instructions, Prototype, Prototypes};
 pub use lowerer::{Lowerer, LARGEST_IMAGE, MOST_NODES, STACK_BYTES};
 pub use mode::Mode;
 pub use refusal::{Cause, Refusal};
+pub use walk::{walk, Coverage, Ending, Walk};
 
 /// The version of the project; the header and the commands have the same.
 pub const VERSION: &str = env!("CARGO_PKG_VERSION");

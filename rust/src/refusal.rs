@@ -55,8 +55,8 @@ macro_rules! causes {
     };
 }
 
-// include/yengrazul.h has the same words, and crates/lower_main/src/words.rt those of the lowering, which never gives 19 and 20;
-// tests/same_words.rs compares them.
+// include/yengrazul.h has the same words, crates/lower_main/src/words.rt those of the lowering, which never gives 19 and 20, and tools/walks.py
+// those of a walk; tests/same_words.rs compares them.
 causes! {
     1 Frame "Frame" "a header or a payload runs past the end, or there is no field at all",
     2 Many "Many" "a tree may have 32,768 nodes",
@@ -79,6 +79,9 @@ causes! {
     19 ImageFrame "Image frame" "a header or a payload of the image runs past the end, or there is no field at all",
     20 ImageRule "Image rule" "the image's fields must follow as 01 says, and every instruction must keep 02's rules",
     21 Mode "Mode" "the mode must be 0 or 1",
+    22 Prototype "Prototype" "the image must have a prototype of this number",
+    23 Decision "Decision" "a decision must be 0 or 1",
+    29 Visits "Visits" "there must be a lent byte for each instruction of the prototype",
 }
 
 impl Cause {
@@ -95,7 +98,7 @@ impl Display for Cause {
     }
 }
 
-/// What a refused tree or image is told.
+/// What a refused tree, image or walk is told.
 ///
 /// ```
 /// use yengrazul::{Cause, Refusal};
@@ -107,7 +110,8 @@ pub struct Refusal {
     /// Why.
     pub cause: Cause,
     /// Where: nodes are counted from 0, in the order of their fields. Of [`Cause::Frame`] and [`Cause::ImageFrame`], the whole fields before it;
-    /// of [`Cause::ImageRule`], the field of the image, or how many there are where the end comes too soon; of [`Cause::Mode`], 0.
+    /// of [`Cause::ImageRule`], the field of the image, or how many there are where the end comes too soon; of [`Cause::Decision`], the offset of
+    /// the decision; of [`Cause::Mode`], [`Cause::Prototype`] and [`Cause::Visits`], 0.
     pub node: u64,
 }
 
@@ -119,7 +123,8 @@ impl Display for Refusal {
                 write!(f, "refused {cause} after {node} whole fields: {}", cause.text())
             }
             Cause::ImageRule => write!(f, "refused {cause} at field {node}: {}", cause.text()),
-            Cause::Mode => write!(f, "refused {cause}: {}", cause.text()),
+            Cause::Decision => write!(f, "refused {cause} at byte {node}: {}", cause.text()),
+            Cause::Mode | Cause::Prototype | Cause::Visits => write!(f, "refused {cause}: {}", cause.text()),
             _ => write!(f, "refused {cause} at node {node}: {}", cause.text()),
         }
     }

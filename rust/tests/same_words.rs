@@ -1,5 +1,5 @@
 //! One wording for one cause: the crate, the C header and the command line say the same; and the crate and the header the same sizes.
-use yengrazul::{Cause, Mode, Refusal, LARGEST_IMAGE, MOST_NODES, STACK_BYTES};
+use yengrazul::{Cause, Ending, Mode, Refusal, LARGEST_IMAGE, MOST_NODES, STACK_BYTES};
 
 fn text_of(path: &str) -> String {
     let path = format!("{}/../{path}", env!("CARGO_MANIFEST_DIR"));
@@ -41,6 +41,23 @@ fn of_the_command_line() {
 }
 
 #[test]
+fn of_a_walk() {
+    let (words, header) = (text_of("tools/walks.py"), text_of("include/yengrazul.h"));
+    for cause in [Cause::Prototype, Cause::Decision, Cause::Visits] {
+        let row = format!("{}: (\"{}\", \"{}\")", cause.number(), cause.name(), cause.text());
+        assert!(words.contains(&row), "{row}");
+    }
+    let endings = [Ending::Return, Ending::Decisions, Ending::Budget];
+    let texts = endings.map(|ending| ending.to_string());
+    assert!(quoted(&header).windows(texts.len()).any(|window| window == texts), "the endings in their order");
+    let from = words.find("ENDINGS = [").expect("the table");
+    let of_the_command = quoted(&words[from..]);
+    for (ending, text) in texts.iter().enumerate() {
+        assert_eq!(of_the_command[2 * ending + 1], text);
+    }
+}
+
+#[test]
 fn sizes_of_the_header() {
     let header = text_of("include/yengrazul.h");
     let defined = |name: &str| {
@@ -59,12 +76,13 @@ fn sizes_of_the_header() {
 
 #[test]
 fn numbers_are_those_of_the_documents() {
-    assert_eq!(Cause::ALL.len(), 21);
-    for (number, cause) in (1..=21).zip(Cause::ALL) {
-        assert_eq!(cause.number(), number);
+    let known: Vec<u64> = (1..=23).chain([29]).collect();
+    assert_eq!(Cause::ALL.map(Cause::number).as_slice(), known);
+    for (number, cause) in known.into_iter().zip(Cause::ALL) {
         assert_eq!(Cause::from_number(number), Some(cause));
     }
-    assert_eq!([0, 22, 21 + 256, u64::MAX].map(Cause::from_number), [None; 4]);
+    let unknown = [0].into_iter().chain(24..=28).chain([30, 21 + 256, u64::MAX]);
+    assert!(unknown.into_iter().all(|number| Cause::from_number(number).is_none()));
 }
 
 #[test]
@@ -77,4 +95,6 @@ fn a_refusal_as_a_line() {
     let of = |cause, node| Refusal { cause, node }.to_string();
     assert!(of(Cause::ImageFrame, 3).starts_with("refused 19 Image frame after 3 whole fields: a header"));
     assert!(of(Cause::ImageRule, 3).starts_with("refused 20 Image rule at field 3: the image's fields"));
+    assert_eq!(of(Cause::Decision, 4), "refused 23 Decision at byte 4: a decision must be 0 or 1");
+    assert_eq!(of(Cause::Prototype, 0), "refused 22 Prototype: the image must have a prototype of this number");
 }

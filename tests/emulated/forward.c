@@ -102,7 +102,7 @@ static void keep(struct lent l, const void *bytes)
 
 /* A request: which call, whether its stack is looked at, then what it is lent; serve.c knows the same. */
 #define NUMBERS 16
-enum { LOWER, CHECK, READ };
+enum { LOWER, CHECK, READ, WALK };
 
 static void ask(const uint64_t request[NUMBERS])
 {
@@ -146,4 +146,14 @@ void yengrazul_read(const uint8_t *image, size_t image_len, uint64_t answer[2])
     struct lent i = lay(&end, image, image_len), a = lay(&end, answer, 8 * 2);
     ASK(READ, i.at, image_len, a.at);
     keep(i, image), fetch(a, answer);
+}
+
+void yengrazul_walk(const uint8_t *image, size_t image_len, uint64_t prototype, const uint8_t *decisions, size_t decisions_len, uint64_t budget,
+                    uint8_t *visited, size_t visited_len, uint64_t answer[5])
+{
+    if (!child.shared) start();
+    uint64_t end = 0;
+    struct lent i = lay(&end, image, image_len), d = lay(&end, decisions, decisions_len), v = lay(&end, visited, visited_len), a = lay(&end, answer, 8 * 5);
+    ASK(WALK, i.at, image_len, prototype, d.at, decisions_len, budget, v.at, visited_len, a.at);
+    keep(i, image), keep(d, decisions), fetch(v, visited), fetch(a, answer);
 }

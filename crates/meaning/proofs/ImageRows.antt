@@ -14,7 +14,7 @@ use Rattle.meaning.specs.declared.Due.{Due}
 use Rattle.meaning.specs.Reader.{Read, refused, taken, read-as}
 
 -- what has to unfold for an answer to be computed
-unfoldable reading : Unit {0}
+unfoldable pub reading : Unit {0}
 unfolding whole fields-by left-by fields left framed add-field parts is-capture is-inst is-header is-constant follows-whole follows due-after may-end stray all some-of passes-at leads entered-from let-pass lawful code-tests proto-tests first-false read-as
 reading = tt
 

@@ -3,6 +3,7 @@ pub mod Computing
 pub mod Starred
 pub mod Examples
 pub mod ImageRows
+pub mod WalkRows
 pub mod Lists
 pub mod FieldLaws
 pub mod Kids

@@ -71,3 +71,19 @@ pub struct Due {
     pub prototypes: usize,
     pub constants: usize,
 }
+
+// How a walk ended (document 02, E4): at a Return, out of decisions, out of budget.
+pub enum Ending {
+    AtReturn,
+    NoDecision,
+    NoBudget,
+}
+
+// What a caller is told of a walk: 0 or the cause's number, the place; the steps taken, the index where it stood, and how it ended.
+pub struct WalkAnswer {
+    pub number: u64,
+    pub place: u64,
+    pub steps: u64,
+    pub index: u64,
+    pub ending: u64,
+}

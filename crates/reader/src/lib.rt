@@ -6,10 +6,12 @@ mod order;
 mod rules;
 mod texts;
 
+pub use locate::heads;
 use meaning::Cause;
 use meaning::Instruction;
 use meaning::Outcome;
 use order::Spot;
+pub use order::inst_size;
 ghost use mathlib.Core.Path.{_≡_};
 ghost use mathlib.Core.Logic.{_⊎_};
 ghost use Prim.Native.Nat.{_<_, _≤_};

@@ -12,7 +12,7 @@ ghost use Rattle.meaning.specs.Images.{inst-size, inst-of, image-of};
 ghost use Rattle.reader.specs.Laid.{part-from, Ordered, Located};
 
 // A header stands at the front.
-pub(crate) fn heads(t: &[u8]) -> bool
+pub fn heads(t: &[u8]) -> bool
     ensures { λ r. ⌜ ((r ≡ true) → ((whole (now (t .entry)) ≡ true) × (getD (now (t .entry)) 0 0 ≡ 0x41))) × ((r ≡ false) → whole (now (t .entry)) ≡ true → getD (now (t .entry)) 0 0 ≡ 0x41 → ⊥) ⌝ }
 {
     if is_whole(t) {

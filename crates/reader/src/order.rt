@@ -146,7 +146,7 @@ fn due_seen(d: Due, r: Seen) -> Due
 }
 
 // The bytes of an instruction's payload.
-pub(crate) fn inst_size(tag: u8) -> usize
+pub fn inst_size(tag: u8) -> usize
     ensures { λ r. ⌜ r ≡ inst-size tag ⌝ }
 {
     if tag == 0x47 {

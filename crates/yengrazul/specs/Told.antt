@@ -2,7 +2,12 @@
 use Prim.Native.Nat.{ℕ}
 use mathlib.Core.List.{List, [], _∷_}
 use Rattle.meaning.specs.declared.Answer.{Answer}
+use Rattle.meaning.specs.declared.WalkAnswer.{WalkAnswer}
 
 -- an answer as the numbers that a caller lends room for; a call with room for two tells the first two
 abbrev pub told : Answer → List ℕ
 told a = a .number ∷ a .place ∷ a .length ∷ []
+
+-- of a walk
+abbrev pub walk-told : WalkAnswer → List ℕ
+walk-told a = a .number ∷ a .place ∷ a .steps ∷ a .index ∷ a .ending ∷ []

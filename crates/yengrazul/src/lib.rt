@@ -5,7 +5,8 @@ ghost use Rattle.meaning.specs.Fields.{fields};
 ghost use Rattle.meaning.specs.Check.{checked};
 ghost use Rattle.meaning.specs.Reader.{read-as, read-outcome};
 ghost use Rattle.meaning.specs.Answer.{finished, outcome, answer as answer-to, output, work-area};
-ghost use Rattle.yengrazul.specs.Told.{told};
+ghost use Rattle.meaning.specs.Walker.{walk-image, walk-answer, lent-bytes};
+ghost use Rattle.yengrazul.specs.Told.{told, walk-told};
 
 // `lower`: number, place and length.
 #[no_mangle]
@@ -40,4 +41,27 @@ pub extern "C" fn yengrazul_read(image: &[u8], answer: &mut [u64; 2])
 {
     let read = values::answer_of(reader::read(image));
     *answer = [read.number, read.place];
+}
+
+// `walk`: number, place, steps, index and ending.
+#[no_mangle]
+pub extern "C" fn yengrazul_walk(
+    image: &[u8],
+    prototype: u64,
+    decisions: &[u8],
+    budget: u64,
+    visited: &mut [u8],
+    answer: &mut [u64; 5],
+)
+    ensures answered { λ _. ⌜ now (answer .exit) ≡ walk-told (walk-answer (walk-image 0x43 (now (image .entry)) «prototype» (now (decisions .entry)) «budget» (length (now (visited .entry))))) ⌝ }
+    ensures visited { λ _. ⌜ now (visited .exit) ≡ lent-bytes (walk-image 0x43 (now (image .entry)) «prototype» (now (decisions .entry)) «budget» (length (now (visited .entry)))) (length (now (visited .entry))) ⌝ }
+{
+    let walked = walk::walk(image, prototype, decisions, budget, visited);
+    *answer = [
+        walked.number,
+        walked.place,
+        walked.steps,
+        walked.index,
+        walked.ending,
+    ];
 }

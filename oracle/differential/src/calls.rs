@@ -96,7 +96,7 @@ pub fn read_back(function: Read, image: &[u8], rng: &mut Rng) -> Result<(), Faul
     read(function, image, due, rng).map_err(|fault| format!("the image read back: {fault}"))
 }
 
-fn same_numbers<const N: usize>(got: &[u64], due: [u64; N]) -> Result<(), Fault> {
+pub(crate) fn same_numbers<const N: usize>(got: &[u64], due: [u64; N]) -> Result<(), Fault> {
     if got == due {
         Ok(())
     } else {
@@ -104,11 +104,11 @@ fn same_numbers<const N: usize>(got: &[u64], due: [u64; N]) -> Result<(), Fault>
     }
 }
 
-fn guarded<const N: usize>(all: [bool; N]) -> Result<(), Fault> {
+pub(crate) fn guarded<const N: usize>(all: [bool; N]) -> Result<(), Fault> {
     holds(all.iter().all(|is| *is), "a guard word was written to")
 }
 
-fn holds(is: bool, otherwise: &str) -> Result<(), Fault> {
+pub(crate) fn holds(is: bool, otherwise: &str) -> Result<(), Fault> {
     if is {
         Ok(())
     } else {

@@ -4,3 +4,4 @@ pub mod lent;
 pub mod linked;
 pub mod run;
 pub mod stack;
+pub mod walks;

@@ -1,5 +1,6 @@
 //! The functions of the static library, where one is linked.
 use crate::calls::{Check, Lower, Read};
+use crate::walks::Walk;
 
 /// Every exported call.
 #[derive(Clone, Copy)]
@@ -7,6 +8,7 @@ pub struct Library {
     pub lower: Lower,
     pub check: Check,
     pub read: Read,
+    pub walk: Walk,
 }
 
 #[cfg(has_library)]
@@ -23,11 +25,27 @@ extern "C" {
     );
     fn yengrazul_check(tree: *const u8, tree_len: usize, work_len: usize, answer: *mut u64);
     fn yengrazul_read(image: *const u8, image_len: usize, answer: *mut u64);
+    fn yengrazul_walk(
+        image: *const u8,
+        image_len: usize,
+        prototype: u64,
+        decisions: *const u8,
+        decisions_len: usize,
+        budget: u64,
+        visited: *mut u8,
+        visited_len: usize,
+        answer: *mut u64,
+    );
 }
 
 pub fn library() -> Option<Library> {
     #[cfg(has_library)]
-    return Some(Library { lower: yengrazul_lower, check: yengrazul_check, read: yengrazul_read });
+    return Some(Library {
+        lower: yengrazul_lower,
+        check: yengrazul_check,
+        read: yengrazul_read,
+        walk: yengrazul_walk,
+    });
     #[cfg(not(has_library))]
     None
 }

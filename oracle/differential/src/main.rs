@@ -6,7 +6,7 @@ use std::process::ExitCode;
 fn main() -> ExitCode {
     let words: Vec<String> = std::env::args().skip(1).collect();
     match plan(&words) {
-        Ok(plan) if plan.lower.is_none() && plan.check.is_none() && plan.read.is_none() => {
+        Ok(_) if linked::library().is_none() => {
             eprintln!("differential: no library is linked: set YENGRAZUL_LIB to the folder of libyengrazul.a");
             ExitCode::from(2)
         }
@@ -21,8 +21,6 @@ fn main() -> ExitCode {
 fn plan(words: &[String]) -> Result<Plan, String> {
     let linked = linked::library();
     let mut plan = Plan {
-        seed: fresh_seed(),
-        modes: &[0, 1],
         random: 100_000,
         damaged: 20_000,
         meeting: 4_000,
@@ -30,11 +28,13 @@ fn plan(words: &[String]) -> Result<Plan, String> {
         images: 150_000,
         fixed: true,
         threads: std::thread::available_parallelism().map_or(1, |n| n.get()),
-        announce: false,
         enough: 20,
         lower: linked.map(|library| library.lower),
         check: linked.map(|library| library.check),
         read: linked.map(|library| library.read),
+        walk: linked.map(|library| library.walk),
+        walks: 60_000,
+        ..Plan::nothing(fresh_seed())
     };
     let mut words = words.iter();
     while let Some(word) = words.next() {
@@ -51,9 +51,11 @@ fn plan(words: &[String]) -> Result<Plan, String> {
             ("--threads", _) => plan.threads = number()? as usize,
             ("--announce", "yes") => plan.announce = true,
             ("--images", _) => plan.images = number()?,
-            ("--only", "lower") => (plan.check, plan.images) = (None, 0),
-            ("--only", "check") => (plan.lower, plan.read) = (None, None),
-            ("--only", "read") => (plan.lower, plan.check) = (None, None),
+            ("--walks", _) => plan.walks = number()?,
+            ("--only", "lower") => plan = Plan { check: None, images: 0, walk: None, ..plan },
+            ("--only", "check") => plan = Plan { lower: None, read: None, walk: None, ..plan },
+            ("--only", "read") => plan = Plan { lower: None, check: None, walk: None, ..plan },
+            ("--only", "walk") => plan = Plan { lower: None, check: None, read: None, ..plan },
             _ => return Err(format!("no option {word} {value}")),
         }
     }
@@ -66,7 +68,12 @@ fn fresh_seed() -> u64 {
 }
 
 fn report(plan: &Plan) -> ExitCode {
-    let names = [("lower", plan.lower.is_some()), ("check", plan.check.is_some()), ("read", plan.read.is_some())];
+    let names = [
+        ("lower", plan.lower.is_some()),
+        ("check", plan.check.is_some()),
+        ("read", plan.read.is_some()),
+        ("walk", plan.walk.is_some()),
+    ];
     let names: Vec<&str> = names.iter().filter(|(_, is)| *is).map(|(name, _)| *name).collect();
     println!("seed {}, against {}", plan.seed, names.join(" and "));
     if plan.lower.is_some() || plan.check.is_some() {
@@ -79,9 +86,15 @@ fn report(plan: &Plan) -> ExitCode {
     if plan.read.is_some() && plan.images > 0 {
         println!("{} random and damaged images, and those at the rules' limits and edited byte by byte", plan.images);
     }
+    if plan.walk.is_some() {
+        println!("{} random walks, and those at every limit", plan.walks);
+    }
     let report = run(plan);
     for (number, n) in report.by_number.iter().enumerate().filter(|(_, n)| **n > 0) {
         println!("  {number:2}: {n}");
+    }
+    if plan.walk.is_some() {
+        println!("  walks by their ending: {:?}", report.endings);
     }
     for difference in &report.differences {
         println!("DIFFERS: {difference}");

@@ -1,10 +1,11 @@
 //! A whole run: random and damaged trees of a seed and those in which limits meet, the limits and the shapes, in both modes; calls in
-//! modes that are none; and images for the reader.
+//! modes that are none; images for the reader, and walks over them.
 use crate::calls::{self, Check, Fault, Lower, Read};
+use crate::walks::{walk, words, Walk};
 use oracle::limits::work_words;
 use oracle::questions::{self, Question};
 use oracle::rng::Rng;
-use oracle::{export, images, judge, reading};
+use oracle::{export, images, judge, reading, walking, walks};
 use std::sync::atomic::{AtomicUsize, Ordering};
 use std::sync::Mutex;
 
@@ -34,12 +35,41 @@ pub struct Plan {
     pub check: Option<Check>,
     /// It also reads back what `lower` writes.
     pub read: Option<Read>,
+    pub walk: Option<Walk>,
+    /// Random walks; where there are none, the fixed ones are not asked either.
+    pub walks: u64,
+}
+
+impl Plan {
+    /// Nothing is asked of nobody: the rest of a plan is put on top of this.
+    pub fn nothing(seed: u64) -> Plan {
+        Plan {
+            seed,
+            modes: &[0, 1],
+            random: 0,
+            damaged: 0,
+            meeting: 0,
+            no_modes: 0,
+            images: 0,
+            fixed: false,
+            threads: 2,
+            announce: false,
+            enough: 1,
+            lower: None,
+            check: None,
+            read: None,
+            walk: None,
+            walks: 0,
+        }
+    }
 }
 
 #[derive(Default)]
 pub struct Report {
     /// How many trees and images were asked about, by the number that was due.
-    pub by_number: [u64; 22],
+    pub by_number: [u64; 30],
+    /// How many walks were asked about, by the ending that was due.
+    pub endings: [u64; 3],
     pub differences: Vec<String>,
 }
 
@@ -55,6 +85,9 @@ impl Report {
 
     fn add(&mut self, other: Report) {
         for (sum, n) in self.by_number.iter_mut().zip(other.by_number) {
+            *sum += n;
+        }
+        for (sum, n) in self.endings.iter_mut().zip(other.endings) {
             *sum += n;
         }
         self.differences.extend(other.differences);
@@ -101,12 +134,14 @@ struct Fixed {
     limits: Vec<Question>,
     shapes: Vec<Question>,
     images: Vec<Vec<u8>>,
+    walks: Vec<walks::Question>,
 }
 
 /// What a turn asks about.
 enum Asks {
     Tree(Question),
     Image(Vec<u8>),
+    Walk(walks::Question),
 }
 
 impl Fixed {
@@ -116,6 +151,7 @@ impl Fixed {
             limits: if trees { questions::limits() } else { vec![] },
             shapes: if trees { questions::shapes() } else { vec![] },
             images: if images { images::fixed() } else { vec![] },
+            walks: if plan.fixed && plan.asks_walks() { walks::fixed() } else { vec![] },
         }
     }
 
@@ -128,7 +164,10 @@ impl Fixed {
             "meeting" => questions::meeting(plan.seed, t.k, t.mode),
             "random" => questions::random(plan.seed, t.k, t.mode),
             "fixed images" => return Asks::Image(self.images[t.k as usize].clone()),
-            _ => return Asks::Image(images::random::any(plan.seed, t.k)),
+            "images" => return Asks::Image(images::random::any(plan.seed, t.k)),
+            "fixed walks" => return Asks::Walk(self.walks[t.k as usize].clone()),
+            "walks" => return Asks::Walk(walks::random::any(plan.seed, t.k)),
+            other => unreachable!("no kind {other}"),
         })
     }
 }
@@ -142,14 +181,19 @@ impl Plan {
         self.read.is_some() && self.images > 0
     }
 
+    fn asks_walks(&self) -> bool {
+        self.walk.is_some() && self.walks > 0
+    }
+
     /// The kinds of questions in their order.
-    fn rows(&self, fixed: &Fixed) -> [Row; 8] {
+    fn rows(&self, fixed: &Fixed) -> Vec<Row> {
         // the check knows no mode, the reader no tree
         let (modes, no_modes): (&[u64], u64) =
             if self.lower.is_some() { (self.modes, self.no_modes) } else { (&[0], 0) };
         let modes = if self.asks_trees() { modes } else { &[] };
         let images = if self.asks_images() { self.images } else { 0 };
-        [
+        let walks = if self.asks_walks() { self.walks } else { 0 };
+        vec![
             Row { kind: "limits", modes, count: fixed.limits.len() as u64 },
             Row { kind: "shapes", modes, count: fixed.shapes.len() as u64 },
             Row { kind: "modes", modes: &[0], count: no_modes },
@@ -158,6 +202,8 @@ impl Plan {
             Row { kind: "random", modes, count: self.random },
             Row { kind: "fixed images", modes: &[0], count: fixed.images.len() as u64 },
             Row { kind: "images", modes: &[0], count: images },
+            Row { kind: "fixed walks", modes: &[0], count: fixed.walks.len() as u64 },
+            Row { kind: "walks", modes: &[0], count: walks },
         ]
     }
 }
@@ -183,6 +229,7 @@ pub fn run(plan: &Plan) -> Report {
             match fixed.asks(plan, &t) {
                 Asks::Tree(question) => ask(plan, &t, question, &mut rng, &mut report),
                 Asks::Image(image) => ask_reader(plan, &t, &image, &mut rng, &mut report),
+                Asks::Walk(question) => ask_walker(plan, &t, &question, &mut rng, &mut report),
             }
             found.fetch_add(report.differences.len() - before, Ordering::Relaxed);
         }
@@ -232,6 +279,16 @@ fn ask_reader(plan: &Plan, turn: &Turn, image: &[u8], rng: &mut Rng, report: &mu
         report.differs(plan, turn, "read", image, fault);
     }
     report.by_number[due[0] as usize] += 1;
+}
+
+fn ask_walker(plan: &Plan, turn: &Turn, question: &walks::Question, rng: &mut Rng, report: &mut Report) {
+    let due = walking::walk(&question.image, &question.run, question.lent);
+    if let Some(Err(fault)) = plan.walk.map(|function| walk(function, question, &due, rng)) {
+        report.differs(plan, turn, "walk", &question.image, format!("{}: {fault}", words(question)));
+    }
+    let [number, _, _, _, ending] = due.numbers;
+    report.by_number[number as usize] += 1;
+    report.endings[ending as usize] += u64::from(number == 0);
 }
 
 /// A file for a line of text; a long one is made again from its seed.

@@ -10,25 +10,8 @@ use standin::{yengrazul_lower, yengrazul_read};
 use std::slice::{from_raw_parts, from_raw_parts_mut};
 
 fn runs(read: Read, lower: Option<Lower>, images: u64, fixed: bool) -> Report {
-    let (seed, modes, threads, announce, enough) = (5, &[0, 1], 2, false, 1);
-    let (random, damaged, meeting, no_modes) = if lower.is_some() { (300, 0, 20, 0) } else { (0, 0, 0, 0) };
-    let (check, read) = (None, Some(read));
-    run(&Plan {
-        seed,
-        modes,
-        random,
-        damaged,
-        meeting,
-        no_modes,
-        images,
-        fixed,
-        threads,
-        announce,
-        enough,
-        lower,
-        check,
-        read,
-    })
+    let (random, meeting) = if lower.is_some() { (300, 20) } else { (0, 0) };
+    run(&Plan { random, meeting, images, fixed, lower, read: Some(read), ..Plan::nothing(5) })
 }
 
 #[test]

@@ -11,24 +11,7 @@ fn runs(lower: Option<Lower>, check: Option<Check>, random: u64, meeting: u64, f
 
 /// A run of two threads in both modes; the counts are of random and damaged trees, each, and of those in which limits meet.
 fn plan(lower: Option<Lower>, check: Option<Check>, random: u64, meeting: u64, fixed: bool) -> Plan {
-    let (seed, modes, no_modes, images, threads, announce, enough) = (5, &[0, 1], random / 4, 0, 2, false, 1);
-    let (damaged, read) = (random, None);
-    Plan {
-        seed,
-        modes,
-        random,
-        damaged,
-        meeting,
-        no_modes,
-        images,
-        fixed,
-        threads,
-        announce,
-        enough,
-        lower,
-        check,
-        read,
-    }
+    Plan { random, damaged: random, meeting, no_modes: random / 4, fixed, lower, check, ..Plan::nothing(5) }
 }
 
 #[test]

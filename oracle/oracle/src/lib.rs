@@ -14,3 +14,5 @@ pub mod reading;
 pub mod rng;
 pub mod sample;
 pub mod trees;
+pub mod walking;
+pub mod walks;

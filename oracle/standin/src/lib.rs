@@ -1,4 +1,5 @@
-//! The oracle behind the C interface of the lowering and the reader: what a right library does, to try the runner on.
+//! The oracle behind the C interface of the lowering, the reader and the walker: what a right library does, to try the runner on.
+use oracle::walking::{self, Run};
 use oracle::{answer, judge, reading};
 use std::slice::{from_raw_parts, from_raw_parts_mut};
 
@@ -41,4 +42,26 @@ pub unsafe extern "C" fn yengrazul_check(tree: *const u8, tree_len: usize, work_
 pub unsafe extern "C" fn yengrazul_read(image: *const u8, image_len: usize, answer: *mut u64) {
     let (image, answer) = (from_raw_parts(image, image_len), from_raw_parts_mut(answer, 2));
     answer.copy_from_slice(&reading::numbers(image));
+}
+
+/// # Safety
+/// The pointers and lengths are of slices, and `answer` is of five numbers.
+#[no_mangle]
+pub unsafe extern "C" fn yengrazul_walk(
+    image: *const u8,
+    image_len: usize,
+    prototype: u64,
+    decisions: *const u8,
+    decisions_len: usize,
+    budget: u64,
+    visited: *mut u8,
+    visited_len: usize,
+    answer: *mut u64,
+) {
+    let (image, decisions) = (from_raw_parts(image, image_len), from_raw_parts(decisions, decisions_len));
+    let (visited, answer) = (from_raw_parts_mut(visited, visited_len), from_raw_parts_mut(answer, 5));
+    let run = Run { prototype, decisions: decisions.to_vec(), budget };
+    let walked = walking::walk(image, &run, visited_len);
+    visited.copy_from_slice(&walked.visited);
+    answer.copy_from_slice(&walked.numbers);
 }

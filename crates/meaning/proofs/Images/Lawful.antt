@@ -63,19 +63,19 @@ is-inside n (some i) e = lt-ltb i n e
 -- ---- steps
 
 module _ (n i : ℕ) (x : Instruction) (stay : all (inside n) (leads i x) ≡ true) where
-  next-in : (x .opcode ≡ Jmp → ⊥) → (x .opcode ≡ Return → ⊥) → i + 1 < n
+  pub next-in : (x .opcode ≡ Jmp → ⊥) → (x .opcode ≡ Return → ⊥) → i + 1 < n
   unfolding all leads
   next-in j r = ltb-true (i + 1) n (and-left _ _ (rw (ne-eqb (x .opcode) Jmp j, ne-eqb (x .opcode) Return r) at stay))
 
-  skip-in : x .opcode ≡ Test → i + 2 < n
+  pub skip-in : x .opcode ≡ Test → i + 2 < n
   unfolding all leads
   skip-in t = ltb-true (i + 2) n (and-left _ _ (and-right (ltb (i + 1) n) _ (rw (ne-eqb (x .opcode) Jmp (λ e. omega arith), ne-eqb (x .opcode) Return (λ e. omega arith), eq-eqb (x .opcode) Test t) at stay)))
 
-  jump-in : x .opcode ≡ Jmp → inside n (target i (bx x)) ≡ true
+  pub jump-in : x .opcode ≡ Jmp → inside n (target i (bx x)) ≡ true
   unfolding all leads
   jump-in j = and-left _ _ (rw (eq-eqb (x .opcode) Jmp j) at stay)
 
-  handler-in : x .opcode ≡ RegisterTryCatch → i + bx x < n
+  pub handler-in : x .opcode ≡ RegisterTryCatch → i + bx x < n
   unfolding all leads
   handler-in t = ltb-true (i + bx x) n (and-left _ _ (and-right (ltb (i + 1) n) _ (rw (ne-eqb (x .opcode) Jmp (λ e. omega arith), ne-eqb (x .opcode) Return (λ e. omega arith), ne-eqb (x .opcode) Test (λ e. omega arith), eq-eqb (x .opcode) RegisterTryCatch t) at stay)))
 

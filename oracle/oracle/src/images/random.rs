@@ -24,7 +24,7 @@ pub fn any(seed: u64, k: u64) -> Vec<u8> {
 }
 
 /// The image of a small random tree, where it has one.
-fn lowered(rng: &mut Rng, seed: u64, k: u64) -> Option<Vec<u8>> {
+pub fn lowered(rng: &mut Rng, seed: u64, k: u64) -> Option<Vec<u8>> {
     let mode = rng.below(2) as u64;
     answer::image(&questions::small(seed, k, mode).tree, mode, u64::MAX).ok()
 }

@@ -1,0 +1,2 @@
+-- What the contracts cite beside the definition of `meaning`: by inner functions alone.
+pub mod Route

@@ -1,0 +1,94 @@
+// What the program is asked, by its arguments.
+
+// A walk of a prototype, `budget` steps at most, with so many decisions; and whether the lent bytes are to be told.
+pub(crate) struct Asked {
+    pub prototype: u64,
+    pub budget: u64,
+    pub decisions: u64,
+    pub visited: bool,
+}
+
+pub(crate) enum Said {
+    Walk(Asked),
+    Wrong,
+}
+
+enum Told {
+    Number(u64),
+    Wrong,
+}
+
+// Three numbers, and perhaps the word `visited`.
+pub(crate) fn heard() -> Said {
+    let count = os::arg_count();
+    let Told::Number(prototype) = number(1) else {
+        return Said::Wrong;
+    };
+    let Told::Number(budget) = number(2) else {
+        return Said::Wrong;
+    };
+    let Told::Number(decisions) = number(3) else {
+        return Said::Wrong;
+    };
+    let visited = is_visited(4);
+    if (count == 4) | ((count == 5) & visited) {
+        return Said::Walk(Asked {
+            prototype: prototype,
+            budget: budget,
+            decisions: decisions,
+            visited: visited,
+        });
+    }
+    Said::Wrong
+}
+
+// The argument is that word.
+fn is_visited(k: usize) -> bool {
+    let mut word = [0u8; 7];
+    let n = os::arg(k, &mut word);
+    if n != 7 {
+        return false;
+    }
+    let mut same = true;
+    let mut i: usize = 0;
+    while i < 7 {
+        same = same & (word[i] == b"visited"[i]);
+        i += 1;
+    }
+    same
+}
+
+// An argument in decimal. Twenty digits hold every number of 64 bits.
+fn number(k: usize) -> Told {
+    let mut word = [0u8; 20];
+    let n = os::arg(k, &mut word);
+    if os::errno() != 0 {
+        return Told::Wrong;
+    }
+    decimal(&word[..n])
+}
+
+// The number that a word spells, digits alone and one at least.
+fn decimal(word: &[u8]) -> Told {
+    if word.len() == 0 {
+        return Told::Wrong;
+    }
+    let mut value: u64 = 0;
+    let mut i: usize = 0;
+    while i < word.len() {
+        let digit = wide(word[i]);
+        if digit < 48 || 57 < digit {
+            return Told::Wrong;
+        }
+        if (18446744073709551615 - (digit - 48)) / 10 < value {
+            return Told::Wrong;
+        }
+        value = value * 10 + (digit - 48);
+        i += 1;
+    }
+    Told::Number(value)
+}
+
+fn wide(x: u8) -> u64 {
+    x as u64
+}
