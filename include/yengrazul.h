@@ -24,6 +24,11 @@ extern "C" {
  *   answer[0]  number: 0 accepted, else a refusal of enum yengrazul_refusal
  *   answer[1]  place: the node at fault, counted from 0 in the order of the fields (of 1, the whole fields before it); 0 where accepted and of 21
  *   answer[2]  length: how many bytes of out are the image; 0 where refused
+ *   answer[3]  visits: how many nodes were lowered, a node that is lowered twice counted twice; 0 where refused
+ *
+ * Visits say how much work the tree was, for whoever schedules it: a node counts one plus its lowered children; the right side of a Minus counts twice
+ * where its left is a number equal to one of 0 to 255, and a number on the right of Plus that equals one counts nothing. They are the same in every
+ * mode, at most the number of nodes where no such Minus occurs, and at most YENGRAZUL_VISITS_MOST(nodes) in any case.
  *
  * Mode. YENGRAZUL_MODE_0 lowers as document 01 says and as the Rust does: continue in a for loop starts the loop over, a classic for's
  * initializer included. In YENGRAZUL_MODE_1 it goes on with the loop: to the first instruction of a classic for's increment (to the jump back
@@ -43,13 +48,13 @@ extern "C" {
  *
  *     size_t words = YENGRAZUL_WORDS(yengrazul_nodes(tree, tree_len));
  *     uint32_t *work = malloc(words * sizeof *work);
- *     uint64_t answer[3];
+ *     uint64_t answer[4];
  *     yengrazul_lower(tree, tree_len, work, words, out, out_len, YENGRAZUL_MODE_0, answer);
  *     if (answer[0] != YENGRAZUL_ACCEPTED)
  *         printf("%s at node %" PRIu64 ": %s\n", yengrazul_name(answer[0]), answer[1], yengrazul_cause(answer[0]));
  */
 void yengrazul_lower(const uint8_t *tree, size_t tree_len, uint32_t *work, size_t work_len, uint8_t *out, size_t out_len,
-                     uint64_t mode, uint64_t answer[3]);
+                     uint64_t mode, uint64_t answer[4]);
 
 /*
  * Reads an image back: whether the bytes are an image by document 02's rules (docs/FORMATS.md, "Reading an image back").
@@ -120,6 +125,9 @@ void yengrazul_check(const uint8_t *tree, size_t tree_len, size_t work_len, uint
 
 /* The words of 32 bits that the work area needs for so many nodes. */
 #define YENGRAZUL_WORDS(nodes) ((size_t)12288 + (size_t)16 * (size_t)(nodes))
+
+/* No accepted tree of so many nodes has more visits: one for each, and one more for each of 1,024 constants. */
+#define YENGRAZUL_VISITS_MOST(nodes) ((uint64_t)1025 * (uint64_t)(nodes))
 
 /* No image is longer: 256 prototypes of 255 captures and 32,767 instructions, 1,024 constants. Most are some 8 bytes for each node. */
 #define YENGRAZUL_IMAGE_MOST ((size_t)256 * (13 + 255 * 5 + 32767 * 9) + (size_t)1024 * 11)

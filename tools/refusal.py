@@ -93,14 +93,14 @@ def file_name(key, name):
     return {key: text} if text.encode() == raw else {key: text, key + "_hex": raw.hex()}
 
 
-def json_line(status, file, image, length, tree, line):
+def json_line(status, file, image, length, tree, line, visits):
     told = {**file_name("file", file), "status": status}
     refused = REFUSED.fullmatch(line) if status == 1 else None
     if status == 0:
-        told.update({"number": 0, "place": 0, "length": length, **(file_name("image", image) if image else {"image": None})})
+        told.update({"number": 0, "place": 0, "length": length, "visits": visits, **(file_name("image", image) if image else {"image": None})})
     elif refused:
         number, place = int(refused[1]), int(refused[3] or refused[4] or 0)
-        told.update({"number": number, "cause": refused[2], "place": place, "length": 0, "image": None, "rule": refused[5]})
+        told.update({"number": number, "cause": refused[2], "place": place, "length": 0, "visits": 0, "image": None, "rule": refused[5]})
         told.update({key: value for key, value in looked_at(tree, number, place).items() if value is not None})
     else:
         told["error"] = os.fsencode(line).decode("utf-8", "replace")
@@ -112,8 +112,8 @@ def main(arguments):
         number, place, tree = arguments[1:]
         print(words(looked_at(tree, int(number), int(place))))
     else:
-        status, file, image, length, tree, line = arguments[1:]
-        print(json_line(int(status), file, image, int(length), tree, line))
+        status, file, image, length, tree, line, visits = arguments[1:]
+        print(json_line(int(status), file, image, int(length), tree, line, int(visits)))
 
 
 if __name__ == "__main__":

@@ -133,9 +133,9 @@ fn rust(bundle: &[Script]) -> f64 {
 /// The whole call in a mode, from bytes: checks, lowering, image, clearing. The image is as long in mode 1 as in mode 0.
 fn whole(bundle: &[Script], mode: u64, lent: &mut Lent) -> f64 {
     let mut one = |script: &Script| {
-        let mut answer = [9u64; 3];
+        let mut answer = [9u64; 4];
         let taken = nanoseconds(|| answer = lower(black_box(script), mode, lent));
-        assert_eq!(answer, [0, 0, script.image.len() as u64], "the script is accepted");
+        assert_eq!(answer[..3], [0, 0, script.image.len() as u64], "the script is accepted");
         taken
     };
     bundle.iter().map(&mut one).sum()
@@ -183,12 +183,23 @@ fn framed(bundle: &[Script]) -> f64 {
     bundle.iter().map(one).sum()
 }
 
-fn lower(script: &Script, mode: u64, lent: &mut Lent) -> [u64; 3] {
-    let (work, out, mut answer) = (&mut lent.work[..words(script)], &mut lent.out[..room(script)], [9u64; 3]);
+/// A tree by itself in mode 0, in room enough: how long it took, and the answer.
+pub fn lowered(tree: &[u8]) -> (f64, [u64; 4]) {
+    let nodes = files::tree::whole_fields(tree).0.len();
+    let (mut work, mut out, mut answer) = (vec![0; 12_288 + 16 * nodes], vec![0; 65_536], [9u64; 4]);
+    (nanoseconds(|| answer = call(black_box(tree), &mut work, &mut out, 0)), answer)
+}
+
+fn lower(script: &Script, mode: u64, lent: &mut Lent) -> [u64; 4] {
+    call(&script.tree, &mut lent.work[..words(script)], &mut lent.out[..room(script)], mode)
+}
+
+fn call(tree: &[u8], work: &mut [u32], out: &mut [u8], mode: u64) -> [u64; 4] {
+    let mut answer = [9u64; 4];
     unsafe {
         yengrazul_lower(
-            script.tree.as_ptr(),
-            script.tree.len(),
+            tree.as_ptr(),
+            tree.len(),
             work.as_mut_ptr(),
             work.len(),
             out.as_mut_ptr(),
@@ -203,6 +214,6 @@ fn lower(script: &Script, mode: u64, lent: &mut Lent) -> [u64; 3] {
 /// Mode 0 gives the Rust's image, or there is nothing to compare.
 fn same_image(script: &Script, lent: &mut Lent) {
     let length = script.image.len();
-    assert_eq!(lower(script, 0, lent), [0, 0, length as u64], "number, place and length");
+    assert_eq!(lower(script, 0, lent)[..3], [0, 0, length as u64], "number, place and length");
     assert!(lent.out[..length] == script.image, "the image is the Rust's");
 }

@@ -2,6 +2,7 @@
 use crate::machine::{processor, says};
 use crate::measure::{Row, Times};
 use crate::noise::MOST;
+use crate::visits::Work;
 use crate::walks::Walks;
 
 /// A row for each size, and how much a node of the largest costs more than one of the smallest.
@@ -42,6 +43,22 @@ pub fn walking(walks: &Walks) -> String {
     format!("{head}\n{line}\n| {} | {walk} | {plain} | {ratio:.1} |\n", walks.steps)
 }
 
+/// Time against visits, in the same run.
+pub fn work(works: &[Work]) -> String {
+    let mut text = String::from(
+        "| Minuses in a chain | nodes | visits, 2.5 on the left | visits, 3 on the left | a visit | a visit | visits grow | time grows |\n|---|---|---|---|---|---|---|---|\n",
+    );
+    for work in works {
+        let ([few, many], [visits, time]) = (work.times.map(both), work.grown());
+        let [least, most] = work.visits;
+        text += &format!(
+            "| {} | {} | {least} | {most} | {few} | {many} | {visits:.2} | {time:.2} |\n",
+            work.chain, work.nodes
+        );
+    }
+    text
+}
+
 fn both(times: Times) -> String {
     format!("{:.1} ({:.1})", times.median, times.least)
 }
@@ -59,9 +76,10 @@ fn with_commas(n: usize) -> String {
 }
 
 /// docs/BENCHMARK.md.
-pub fn page(rows: &[Row], walks: &Walks, rounds: usize, date: &str) -> String {
+pub fn page(rows: &[Row], walks: &Walks, works: &[Work], rounds: usize, date: &str) -> String {
     let (processor, rustc, kit) = (processor(), says("rustc", "--version"), says("rt", "version"));
-    let (table, reading, walking, most) = (table(rows), reading(rows), walking(walks), 100.0 * MOST);
+    let (table, reading, walking, work) = (table(rows), reading(rows), walking(walks), work(works));
+    let most = 100.0 * MOST;
     format!(
         "# Benchmark
 
@@ -89,6 +107,12 @@ Nanoseconds a step of a walk by recorded decisions:
 {walking}
 - Walk: `yengrazul_walk`, which reads the image first, on a loop without end. Plain walker: a loop in Rust over instructions that were decoded before.
   Both go by the same decisions, chosen at random, and note what they visit. The goal is at most two times that.
+
+Nanoseconds a visit (document 02, E6), of two trees of the same nodes, one of which has many more visits:
+
+{work}
+- Functions whose bodies are chains `n - (n - (.. a))`. With 2.5 for n each node is visited once; with 3 each right side twice. Time grows as the visits do, not as
+  the nodes: what a call takes beside them (checking, writing, clearing) does not grow, so it grows somewhat less.
 
 How it is measured. One process lowers generated scripts: functions with ordinary bodies, always accepted; before the clock starts each image of mode 0 is compared with
 the Rust's, byte for byte. For each size there are as many different scripts as make about 30,000 nodes in all, and a round goes over all of them: a small

@@ -5,7 +5,7 @@ include!("../bridge/continues.rs");
 /// In the file, `old` stands `times` times and becomes `new`.
 struct Edit(&'static str, usize, &'static str, &'static str);
 
-const EDITS: [Edit; 15] = [
+const EDITS: [Edit; 16] = [
     // 7 and 8: the source panics
     Edit("compiler", 1, "panic!(\"Ran out of registers\")", "return crate::trace::refuse_or(7, 0)"),
     Edit("compiler", 1, "panic!(\"Too many upvalues\")", "return crate::trace::refuse_or(8, 0)"),
@@ -51,6 +51,12 @@ const EDITS: [Edit; 15] = [
         "compiler", 3,
         "-((body_chunk.instructions.len() + cond_chunk.instructions.len() + 2) as i16)",
         "crate::trace::negated((body_chunk.instructions.len() + cond_chunk.instructions.len() + 2) as i16)",
+    ),
+    // 02, visits: an elif is a node without a routine of its own; no step is taken at it
+    Edit(
+        "compiler", 1,
+        "for e in &stmt.elifs {",
+        "for e in &stmt.elifs {\n            let _visit = crate::trace::Visit::of(e.node);",
     ),
 ];
 

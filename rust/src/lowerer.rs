@@ -26,7 +26,7 @@ extern "C" {
         out: *mut u8,
         out_len: usize,
         mode: u64,
-        answer: *mut [u64; 3],
+        answer: *mut [u64; 4],
     );
 }
 
@@ -40,6 +40,7 @@ extern "C" {
 #[derive(Default)]
 pub struct Lowerer {
     mode: u64,
+    visits: u64,
     work: Vec<u32>,
     out: Vec<u8>,
 }
@@ -53,6 +54,23 @@ impl Lowerer {
     /// The same in another [`Mode`](crate::Mode), or in any number: what is no mode is refused by [`Cause::Mode`].
     pub fn mode(self, mode: impl Into<u64>) -> Lowerer {
         Lowerer { mode: mode.into(), ..self }
+    }
+
+    /// How much work the last tree was (document 02, E6): how many nodes were lowered, one that is lowered twice counted twice. 0 where it was refused,
+    /// and before the first.
+    ///
+    /// A node counts one plus its lowered children; the right side of a Minus counts twice where its left is a number equal to one of 0 to 255, and a
+    /// number on the right of Plus that equals one counts nothing. It is the same in every mode, at most the number of nodes where no such
+    /// Minus occurs, and at most 1,025 times that in any case.
+    ///
+    /// ```
+    /// let mut lowerer = yengrazul::Lowerer::new();
+    /// lowerer.lower(&[0x1E, 0, 0])?;
+    /// assert_eq!(lowerer.visits(), 1);
+    /// # Ok::<(), yengrazul::Refusal>(())
+    /// ```
+    pub fn visits(&self) -> u64 {
+        self.visits
     }
 
     /// The image of a tree file, or the refusal. Any bytes may be asked about. Runs on a thread of its own with enough stack.
@@ -86,7 +104,10 @@ impl Lowerer {
                 Err(refusal) if refusal.cause == Cause::Room && room < LARGEST_IMAGE => {
                     room = LARGEST_IMAGE.min(4 * room);
                 }
-                _ => return told.map(|length| Image::written(&self.out[..length])),
+                _ => {
+                    self.visits = told.as_ref().map_or(0, |lowered| lowered.visits);
+                    return told.map(|lowered| Image::written(&self.out[..lowered.length]));
+                }
             }
         }
     }
@@ -101,10 +122,17 @@ impl Lowerer {
     }
 }
 
-/// The length of the image, or the refusal. The caller's thread has the stack that a call takes.
-unsafe fn call(tree: &[u8], work: &mut [u32], out: &mut [u8], mode: u64) -> Result<usize, Refusal> {
+/// What is told of an accepted tree.
+#[derive(Clone, Copy, Debug, PartialEq, Eq)]
+struct Lowered {
+    length: usize,
+    visits: u64,
+}
+
+/// The length of the image and the visits, or the refusal. The caller's thread has the stack that a call takes.
+unsafe fn call(tree: &[u8], work: &mut [u32], out: &mut [u8], mode: u64) -> Result<Lowered, Refusal> {
     // an answer that is not written is none
-    let mut answer = [u64::MAX; 3];
+    let mut answer = [u64::MAX; 4];
     unsafe {
         yengrazul_lower(
             tree.as_ptr(),
@@ -120,10 +148,10 @@ unsafe fn call(tree: &[u8], work: &mut [u32], out: &mut [u8], mode: u64) -> Resu
     told(answer, out.len())
 }
 
-/// Number, place and length as a result. 0 alone is an image, and only where its length can be one.
-fn told([number, node, length]: [u64; 3], room: usize) -> Result<usize, Refusal> {
+/// Number, place, length and visits as a result. 0 alone is an image, and only where its length can be one.
+fn told([number, node, length, visits]: [u64; 4], room: usize) -> Result<Lowered, Refusal> {
     match usize::try_from(length) {
-        Ok(length) if number == 0 && 0 < length && length <= room => Ok(length),
+        Ok(length) if number == 0 && 0 < length && length <= room => Ok(Lowered { length, visits }),
         _ => Err(Refusal { cause: Cause::from_number(number).unwrap_or(Cause::Unknown(number)), node }),
     }
 }
@@ -162,6 +190,7 @@ mod tests {
             assert!(lowerer.work[..12_288 + 16 * nodes].iter().all(|word| *word == 0));
             let image = told.as_ref().map_or(0, |image| image.as_bytes().len());
             assert!(lowerer.out[image..4096 + 16 * nodes].iter().all(|byte| *byte == 0));
+            assert_eq!(lowerer.visits(), u64::from(told.is_ok()));
             assert_eq!(told.ok(), (tree.len() == 3 && mode < 2).then(|| due.clone()));
         }
     }
@@ -169,13 +198,13 @@ mod tests {
     #[test]
     fn zero_alone_is_an_image() {
         let unknown = |number, node| Err(Refusal { cause: Cause::Unknown(number), node });
-        assert_eq!(told([0, 0, 22], 22), Ok(22));
-        assert_eq!(told([0, 0, 23], 22), unknown(0, 0));
-        assert_eq!(told([0, 0, 0], 22), unknown(0, 0));
-        assert_eq!(told([99, 5, 22], 22), unknown(99, 5));
-        assert_eq!(told([u64::MAX; 3], 22), unknown(u64::MAX, u64::MAX));
+        assert_eq!(told([0, 0, 22, 1], 22), Ok(Lowered { length: 22, visits: 1 }));
+        assert_eq!(told([0, 0, 23, 1], 22), unknown(0, 0));
+        assert_eq!(told([0, 0, 0, 1], 22), unknown(0, 0));
+        assert_eq!(told([99, 5, 22, 1], 22), unknown(99, 5));
+        assert_eq!(told([u64::MAX; 4], 22), unknown(u64::MAX, u64::MAX));
         for cause in Cause::ALL {
-            assert_eq!(told([cause.number(), 3, 22], 22), Err(Refusal { cause, node: 3 }));
+            assert_eq!(told([cause.number(), 3, 22, 1], 22), Err(Refusal { cause, node: 3 }));
         }
     }
 

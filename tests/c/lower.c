@@ -74,18 +74,20 @@ static void expect(int holds, const char *program, const char *what)
 static void call_in(uint64_t mode, const char *program, const uint8_t *tree, size_t tree_len, size_t words, size_t room, uint64_t number,
                     uint64_t place, const uint8_t *image, size_t length)
 {
-    uint64_t answer[3] = {7, 7, 7};
+    uint64_t answer[4] = {7, 7, 7, 7};
     memset(work, 0xA5, sizeof work);
     memset(out, 0x5A, sizeof out);
     yengrazul_lower(tree, tree_len, work, words, out, room, mode, answer);
     expect(answer[0] == number && answer[1] == place && answer[2] == length, program, "number, place or length is wrong");
+    /* no program here has a Plus or a Minus, so each node is visited once */
+    expect(answer[3] == (number ? 0 : yengrazul_nodes(tree, tree_len)), program, "the visits are wrong");
     expect(length == 0 || memcmp(out, image, length) == 0, program, "the image is wrong");
     for (size_t i = 0; i < sizeof work / sizeof *work; i++)
         expect(work[i] == (i < words ? 0 : 0xA5A5A5A5), program, "the work area is not zero, or was left");
     for (size_t i = length; i < sizeof out; i++)
         expect(out[i] == (i < room ? 0 : 0x5A), program, "the output behind the image is not zero, or was left");
     if (number == YENGRAZUL_ACCEPTED)
-        printf("%s: accepted, %" PRIu64 " bytes\n", program, answer[2]);
+        printf("%s: accepted, %" PRIu64 " bytes, %" PRIu64 " visits\n", program, answer[2], answer[3]);
     else
         printf("%s: refused %" PRIu64 " %s at %" PRIu64 ": %s\n", program, answer[0], yengrazul_name(answer[0]), answer[1],
                yengrazul_cause(answer[0]));
@@ -117,6 +119,31 @@ static void modes(size_t words)
     }
 }
 
+/* Programs 4, 5 and 6: a number that Addi holds is not visited, the right side of 3 - 2 is visited twice, that of 2.5 - 2 once. */
+static void visits(size_t words)
+{
+    uint8_t tree[] = {
+        0x01, 0, 8, 0x40, 0x08, 0, 0, 0, 0, 0, 0, /* 0: 3, then 2.5 */
+        0x01, 0, 8, 0x40, 0, 0, 0, 0, 0, 0, 0,    /* 1: 2 */
+        0x06, 0, 8, 0, 8, 0, 5, 0, 0, 0, 1,       /* 2: minus, then plus */
+        0x10, 0, 2, 0, 2,                         /* 3: as a statement */
+        0x1E, 0, 2, 0, 3,                         /* 4: program */
+    };
+    const struct {
+        uint8_t left, op;
+        uint64_t visits;
+    } due[] = {{0x08, 8, 6}, {0x04, 8, 5}, {0x08, 1, 4}};
+    for (size_t i = 0; i < sizeof due / sizeof *due; i++) {
+        uint64_t answer[4] = {7, 7, 7, 7};
+        tree[4] = due[i].left, tree[26] = due[i].op;
+        for (uint64_t mode = 0; mode < 2; mode++) {
+            yengrazul_lower(tree, sizeof tree, work, words, out, sizeof out, mode, answer);
+            expect(answer[0] == YENGRAZUL_ACCEPTED && answer[3] == due[i].visits, "visits", "of a Minus or a Plus are wrong");
+            expect(answer[3] <= YENGRAZUL_VISITS_MOST(5), "visits", "over the bound");
+        }
+    }
+}
+
 int main(void)
 {
     const size_t words = YENGRAZUL_WORDS(5), length = sizeof minus_x_image;
@@ -143,6 +170,7 @@ int main(void)
     call("no bytes", minus_x, 0, words, sizeof out, YENGRAZUL_FRAME, 0, NULL, 0);
     call("no bytes, no buffers", minus_x, 0, 0, 0, YENGRAZUL_FRAME, 0, NULL, 0);
     modes(words);
+    visits(words);
     call("program 9 again", minus_x, sizeof minus_x, words, sizeof out, YENGRAZUL_ACCEPTED, 0, minus_x_image, length);
     printf("%d failures\n", failures);
     return failures != 0;

@@ -121,11 +121,11 @@ uint64_t yengrazul_emulated_stack(void)
 }
 
 void yengrazul_lower(const uint8_t *tree, size_t tree_len, uint32_t *work, size_t work_len, uint8_t *out, size_t out_len, uint64_t mode,
-                     uint64_t answer[3])
+                     uint64_t answer[4])
 {
     if (!child.shared) start();
     uint64_t end = 0;
-    struct lent t = lay(&end, tree, tree_len), w = lay(&end, work, 4 * (uint64_t)work_len), o = lay(&end, out, out_len), a = lay(&end, answer, 8 * 3);
+    struct lent t = lay(&end, tree, tree_len), w = lay(&end, work, 4 * (uint64_t)work_len), o = lay(&end, out, out_len), a = lay(&end, answer, 8 * 4);
     ASK(LOWER, t.at, tree_len, w.at, work_len, o.at, out_len, mode, a.at);
     keep(t, tree), fetch(w, work), fetch(o, out), fetch(a, answer);
 }

@@ -12,7 +12,7 @@ use Rattle.store.specs.Layout.{edge, top, inst-at}
 use Rattle.store.specs.Store.{state-of, config-of, run-by, run, while-going, result-limit, advanced, refused-step, Fine}
 use Rattle.store.specs.Promise.{uses, Cost, Room, Leaf}
 use Rattle.store.proofs.Tables.{tab-length, tab-getD}
-use Rattle.store.proofs.Regions.{Same, Only, below, constants-same, globals-same}
+use Rattle.store.proofs.Regions.{Same, Only, below, same-count, constants-same, globals-same}
 use Rattle.store.proofs.Runs.{due, promised, goes}
 use Rattle.store.proofs.Steps.{refused-moves, shallow}
 use Rattle.store.proofs.Compose.{taken-few}
@@ -101,7 +101,7 @@ coded {w} {w'} {p} {s} {k = k} v a op fine on written le most small wants =
                 };
             kept = kept-apart (fine .sound) deep only (clear fine on only) (frames fine on only);
             back = λ g. g;
-            used = promised (s .outcome) (λ g. record { words = omega (arith, e, t, most); locals = omega (arith, e, t); names = omega arith; registers = omega (arith, t) });
+            used = promised (s .outcome) (λ g. record { words = omega (arith, e, t, most); locals = omega (arith, e, t); names = omega arith; registers = omega (arith, t); visits = same-count (frames fine on only .same 3077 (omega arith) (omega arith)) });
             longer = le;
             still = λ z. e;
           };

@@ -8,8 +8,9 @@ use Rattle.store.specs.declared.Scope.{Scope}
 use Rattle.store.specs.Store.{run, inner, deeper, Sound}
 use Rattle.store.specs.Promise.{nothing, Popped}
 use Rattle.store.specs.Opening.{Leavable}
+use Rattle.store.proofs.Regions.{same-count}
 use Rattle.store.proofs.Runs.{due, promised}
-use Rattle.store.proofs.Leaving.{popped-edge, popped-taken, popped-kept}
+use Rattle.store.proofs.Leaving.{popped-edge, popped-taken, popped-kept, popped-count}
 use Rattle.store.proofs.Inside.{inner-deeper, closed-fine, closed-runs}
 use Rattle.meaning.specs.State.{close-function}
 use Rattle.forward.specs.Forward.{bind, fwd-unit, leave-function}
@@ -32,7 +33,7 @@ module _ {w w' o o' : List ℕ} {p : Scope} {s r : Step} {first node params : �
         used = promised (r .outcome)
             (λ z.
             let k = due (r .outcome) (adds .code) z in
-            record { words = omega (arith, e, t, k); locals = omega (arith, e, t); names = omega (arith, adds .constants, adds .globals); registers = omega (arith, t) });
+            record { words = omega (arith, e, t, k); locals = omega (arith, e, t); names = omega (arith, adds .constants, adds .globals); registers = omega (arith, t); visits = same-count (popped-count p sound g) });
         longer = adds .longer;
         still = λ z. e;
       }

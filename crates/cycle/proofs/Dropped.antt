@@ -1,5 +1,5 @@
 -- The dropped pass of a numeral-left Minus: what was lowered is cut off again. The code is as long as it was and so is the list of locals, since an expression
--- leaves none; registers were only taken. So nothing is used.
+-- leaves none; registers were only taken. So nothing is used; the visits stay counted.
 use Prim.Native.Nat.{ℕ, _≤_}
 use mathlib.Core.Path.{_≡_}
 use mathlib.Core.List.{List}
@@ -9,7 +9,7 @@ use Rattle.meaning.specs.State.{Proto}
 use Rattle.store.specs.declared.Step.{Step}
 use Rattle.store.specs.declared.Scope.{Scope}
 use Rattle.store.specs.Store.{run, goes-on, while-going, Image, Fine}
-use Rattle.store.specs.Promise.{Cost, nothing, Used, Moves, After}
+use Rattle.store.specs.Promise.{Cost, takes, Used, Moves, After}
 use Rattle.store.proofs.Runs.{due, promised}
 use Rattle.code.specs.Cuts.{rolled-step}
 use Rattle.code.proofs.Dropping.{rolled-runs, rolled-image, rolled-fine, rolled-outcome, rolled-code, rolled-least, rolled-pools}
@@ -40,7 +40,7 @@ rolls s first h e =
       globals = rolled-pools s first .1;
     })
 
-rolled-moves : {w w2 : List ℕ} {p : Scope} {s s2 r : Step} {u : Cost} → Rolls s2 (s .code) r → u .locals ≡ 0 → u .names ≤ u .names-back → Moves w p s w2 p s2 u → Moves w p s w2 p r nothing
+rolled-moves : {w w2 : List ℕ} {p : Scope} {s s2 r : Step} {u : Cost} → Rolls s2 (s .code) r → u .locals ≡ 0 → u .names ≤ u .names-back → Moves w p s w2 p s2 u → Moves w p s w2 p r (takes 0 0 (u .visits))
 rolled-moves {w} {w2} {p} {s} {s2} {r} {u} x z n m =
     record {
       fine = x .fine w2 p (m .fine);
@@ -54,17 +54,18 @@ rolled-moves {w} {w2} {p} {s} {s2} {r} {u} x z n m =
     going : goes-on (r .outcome) → goes-on (s2 .outcome)
     going g = rw (x .outcome) at g
 
-    again : r .code ≡ s .code → Used w p s w2 p s2 u → Used w p s w2 p r nothing
+    again : r .code ≡ s .code → Used w p s w2 p s2 u → Used w p s w2 p r (takes 0 0 (u .visits))
     again e h =
         record {
           words = omega (arith, e, m .still z, h .registers);
           locals = omega (arith, m .still z, h .registers);
           names = omega (arith, h .names, x .constants, x .globals);
           registers = h .registers;
+          visits = h .visits;
         }
 
 -- where a member stands after it
-pub rolled : {t w w2 : List ℕ} {p : Scope} {s s2 r : Step} {k a b : ℕ} {u : Cost} → Rolls s2 (s .code) r → u .locals ≡ 0 → u .names ≤ u .names-back → Way t w p s k a b w2 p s2 u → Way t w p s k a b w2 p r nothing
+pub rolled : {t w w2 : List ℕ} {p : Scope} {s s2 r : Step} {k a b : ℕ} {u : Cost} → Rolls s2 (s .code) r → u .locals ≡ 0 → u .names ≤ u .names-back → Way t w p s k a b w2 p s2 u → Way t w p s k a b w2 p r (takes 0 0 (u .visits))
 rolled x z n y = record { ready = y .ready; moves = rolled-moves x z n (y .moves); nodes = y .nodes; depth = y .depth; block = y .block }
 
 -- what it does

@@ -18,6 +18,10 @@ use Rattle.code.specs.Cuts.{cut-step, Leaves}
 use Rattle.parts.specs.Parts.{Spare, Owing}
 use Rattle.cycle.specs.Cycle.{Ready}
 
+-- a cost with n visits more: those inside the function
+abbrev pub visiting : Cost → ℕ → Cost
+visiting u n = record { words = u .words; locals = u .locals; names = u .names; words-back = u .words-back; locals-back = u .locals-back; names-back = u .names-back; visits = u .visits + n }
+
 -- the register, which is taken before the function is entered; the function is entered; its inside
 module _ {w w1 w2 w4 : List ℕ} {p : Scope} {s s1 s2 s4 : Step} {u1 u : Cost} {node name : ℕ} (m1 : Moves w p s w1 p s1 u1) (e : Enters w1 p s1 w2 s2 node name) (m : Moves w2 (inner p) s2 w4 (inner p) s4 u)
     (z : u .names ≤ u .names-back) where
@@ -32,7 +36,7 @@ module _ {w w1 w2 w4 : List ℕ} {p : Scope} {s s1 s2 s4 : Step} {u1 u : Cost} {
   taken-around : taken w4 (p .depth) ≡ taken w1 (p .depth)
   taken-around = taken-by w1 w4 (p .depth) registers-around
 
-  used-around : goes-on (s4 .outcome) → Used w p s w4 p (cut-step s4 (s1 .code)) u1
+  used-around : goes-on (s4 .outcome) → Used w p s w4 p (cut-step s4 (s1 .code)) (visiting u1 (u .visits))
   used-around g =
       let h2 = m .back g in
       let i1 = due (s1 .outcome) (m1 .used) (e .leaf .moves .back h2) in
@@ -40,7 +44,7 @@ module _ {w w1 w2 w4 : List ℕ} {p : Scope} {s s1 s2 s4 : Step} {u1 u : Cost} {
       let i4 = due (s4 .outcome) (m .used) g in
       let a = edge-around in
       let b = taken-around in
-      record { words = omega (arith, i1 .words); locals = omega (arith, i1 .locals); names = omega (arith, i1 .names, i2 .names, i4 .names); registers = omega (arith, i1 .registers) }
+      record { words = omega (arith, i1 .words); locals = omega (arith, i1 .locals); names = omega (arith, i1 .names, i2 .names, i4 .names); registers = omega (arith, i1 .registers); visits = omega (arith, i1 .visits, i2 .visits, i4 .visits) }
 
   starts : goes-on (s4 .outcome) → goes-on (s .outcome)
   starts g = m1 .back (e .leaf .moves .back (m .back g))
@@ -50,7 +54,7 @@ module _ {w w1 w2 w4 : List ℕ} {p : Scope} {s s1 s2 s4 : Step} {u1 u : Cost} {
       → Room w4 p (cut-step s4 (s1 .code)) k' a' b'
   cut-room {t} {k} {a} {b} k' a' b' r l l' n = record { roomy = promised (s4 .outcome) (λ g. after (used-around g) (due (s .outcome) (r .room .roomy) (starts g))) }
     where
-      after : Used w p s w4 p (cut-step s4 (s1 .code)) u1 → Roomy w p s k a b → Roomy w4 p (cut-step s4 (s1 .code)) k' a' b'
+      after : Used w p s w4 p (cut-step s4 (s1 .code)) (visiting u1 (u .visits)) → Roomy w p s k a b → Roomy w4 p (cut-step s4 (s1 .code)) k' a' b'
       after i j = record { words = omega (arith, i .words, j .words, l); locals = omega (arith, i .locals, j .locals, l'); globals = omega (arith, i .names, j .globals, n) }
 
   -- the same, where the name of a global function waits for its constant
@@ -58,7 +62,7 @@ module _ {w w1 w2 w4 : List ℕ} {p : Scope} {s s1 s2 s4 : Step} {u1 u : Cost} {
       → Owing w4 p (cut-step s4 (s1 .code)) a' b' x
   cut-owing {t} {k} {a} {b} a' b' x r l l' n = record { spare = promised (s4 .outcome) (λ g. after (used-around g) (due (s .outcome) (r .room .roomy) (starts g))) }
     where
-      after : Used w p s w4 p (cut-step s4 (s1 .code)) u1 → Roomy w p s k a b → Spare w4 p (cut-step s4 (s1 .code)) a' b' x
+      after : Used w p s w4 p (cut-step s4 (s1 .code)) (visiting u1 (u .visits)) → Roomy w p s k a b → Spare w4 p (cut-step s4 (s1 .code)) a' b' x
       after i j = record { words = omega (arith, i .words, j .words, l); locals = omega (arith, i .locals, j .locals, l'); globals = omega (arith, i .names, j .globals, n) }
 
   -- where the function's code begins
@@ -66,7 +70,7 @@ module _ {w w1 w2 w4 : List ℕ} {p : Scope} {s s1 s2 s4 : Step} {u1 u : Cost} {
   begun = omega (arith, e .leaf .moves .longer, m .longer)
 
   -- the function's end
-  pub ended : {w5 : List ℕ} {s5 : Step} {v : Cost} → Leaves (s1 .code) w4 p s4 w5 s5 v → Moves w p s w5 p s5 (both u1 v)
+  pub ended : {w5 : List ℕ} {s5 : Step} {v : Cost} → Leaves (s1 .code) w4 p s4 w5 s5 v → Moves w p s w5 p s5 (both (visiting u1 (u .visits)) v)
   ended {w5} {s5} {v} x =
       record {
         fine = x .fine;
@@ -80,5 +84,5 @@ module _ {w w1 w2 w4 : List ℕ} {p : Scope} {s s1 s2 s4 : Step} {u1 u : Cost} {
       outside : Kept w2 p w4
       outside = let k = m .kept in record { same = k .same; firsts = λ j l. k .firsts j (omega arith); saves = λ j l. k .saves j (omega arith); outer = λ j l. k .outer j (omega arith); edges = λ j l. k .edges j (omega arith); offsets = k .offsets }
 
-      after : Used w p s w4 p (cut-step s4 (s1 .code)) u1 → Used w4 p (cut-step s4 (s1 .code)) w5 p s5 v → Used w p s w5 p s5 (both u1 v)
-      after i j = record { words = omega (arith, i .words, j .words); locals = omega (arith, i .locals, j .locals); names = omega (arith, i .names, j .names); registers = omega (arith, i .registers, j .registers) }
+      after : Used w p s w4 p (cut-step s4 (s1 .code)) (visiting u1 (u .visits)) → Used w4 p (cut-step s4 (s1 .code)) w5 p s5 v → Used w p s w5 p s5 (both (visiting u1 (u .visits)) v)
+      after i j = record { words = omega (arith, i .words, j .words); locals = omega (arith, i .locals, j .locals); names = omega (arith, i .names, j .names); registers = omega (arith, i .registers, j .registers); visits = omega (arith, i .visits, j .visits) }

@@ -12,6 +12,8 @@ use Rattle.meaning.specs.Weight.{size-expr, size-stmt}
 use Rattle.meaning.specs.At.{expr-at, stmt-at}
 use Rattle.meaning.proofs.Lists.{lt-or-le}
 use Rattle.cycle.proofs.Sizes.{number-size, text-size, other-size, break-size, continue-size}
+use Rattle.cycle.proofs.Visited.{number-visits, text-visits, other-visits, break-visits, continue-visits}
+use Rattle.meaning.specs.Visits.{under-expr, under-stmt}
 use Rattle.cycle.proofs.Way.{inside}
 
 module _ {t w : List ℕ} {n i : ℕ} (h : Lawful t w n) (l : i < n) where
@@ -93,3 +95,13 @@ module _ {t w : List ℕ} {n i : ℕ} (h : Lawful t w n) (l : i < n) where
 
   pub a-jump : 0x16 ≤ tag-of (fields t) i → tag-of (fields t) i ≤ 0x17 → size-stmt (stmt-at (fields t) i) ≡ 1
   a-jump a b = ⊎-elim (λ c. break-size (a-break (omega arith))) (λ c. continue-size (a-continue (omega arith))) (lt-or-le (tag-of (fields t) i) 0x17)
+
+  -- nothing is visited under them
+  pub no-literal-visits : 0x01 ≤ tag-of (fields t) i → tag-of (fields t) i ≤ 0x03 → under-expr (expr-at (fields t) i) ≡ 0
+  no-literal-visits a b =
+      ⊎-elim (λ c. number-visits (a-number (omega arith)))
+      (λ c. ⊎-elim (λ d. text-visits (a-text (omega arith))) (λ d. other-visits (an-other (omega arith))) (lt-or-le (tag-of (fields t) i) 0x03))
+      (lt-or-le (tag-of (fields t) i) 0x02)
+
+  pub no-jump-visits : 0x16 ≤ tag-of (fields t) i → tag-of (fields t) i ≤ 0x17 → under-stmt (stmt-at (fields t) i) ≡ 0
+  no-jump-visits a b = ⊎-elim (λ c. break-visits (a-break (omega arith))) (λ c. continue-visits (a-continue (omega arith))) (lt-or-le (tag-of (fields t) i) 0x17)

@@ -18,14 +18,16 @@ use Rattle.forward.specs.Forward.{Config, Run, going, bind, sure, fwd, fwd-unit
 use Rattle.store.specs.declared.Step.{Step}
 use Rattle.store.specs.declared.Scope.{Scope}
 use Rattle.store.specs.Store.{run, config-of, goes-on, result-limit, while-going, deeper, looped, Image, Fine, Kept}
-use Rattle.store.specs.Promise.{Cost, uses, nothing, both, Used, Roomy, Room, Moves, Leaf, After, Does}
+use Rattle.store.specs.Promise.{Cost, uses, takes, nothing, a-visit, both, Used, Roomy, Room, Moves, Leaf, After, Does, Ticked}
 use Rattle.store.proofs.Runs.{due, promised, going-is, none-due, run-going, leaf-absorbed}
 use Rattle.store.proofs.Compose.{none-moved, moves-then, moves-by, leaf-after, leaf-does, known}
 use Rattle.store.proofs.Around.{loop-entered}
+use Rattle.store.proofs.Visiting.{ticked-moves, ticked-runs}
 use Rattle.code.specs.Words.{Bytes}
 use Rattle.parts.specs.Parts.{Small}
 use Rattle.leaves.specs.Node.{Lawful, OnNode, Gives}
-use Rattle.cycle.specs.Cycle.{Ready, AskExpr, AskStmt, AskRow, Lowers}
+use Rattle.leaves.proofs.Held.{lawful-kept}
+use Rattle.cycle.specs.Cycle.{Ready, Given, AskExpr, AskStmt, AskRow, Lowers}
 
 -- ---- the way
 
@@ -49,14 +51,6 @@ pub to : {t w w1 w2 : List ℕ} {p q : Scope} {s s1 s2 : Step} {k a b : ℕ} {u 
 to q' n d e x m = record { ready = x .ready; moves = moves-then (x .nodes) (x .depth) (x .block) (x .moves) m; nodes = n; depth = d; block = e }
 
 -- ---- where it stands
-
-lawful-kept : {t w w' : List ℕ} {p : Scope} → Lawful t w (p .nodes) → Kept w p w' → Lawful t w' (p .nodes)
-lawful-kept {t} {w} {w'} {p} h g =
-    record {
-      nodes = h .nodes;
-      shapes = h .shapes;
-      offsets = record { inside = omega (arith, h .offsets .inside, g .same); each = λ i x. g .offsets (12288 + 15 * p .nodes + i) (omega arith) ∙ h .offsets .each i x };
-    }
 
 -- what is used up to here leaves room for k' nodes, a' words and b' locals
 pub stand-at : {t w w' : List ℕ} {p q : Scope} {s r : Step} {k a b : ℕ} {u : Cost} (k' a' b' : ℕ) → Way t w p s k a b w' q r u
@@ -210,25 +204,50 @@ module _ {t w w' : List ℕ} {p : Scope} {s r : Step} {k a b i : ℕ} {u : Cost}
 
 -- ---- the end of the way
 
--- it used x words and y locals at most
-pub spends : {t w w' : List ℕ} {p q : Scope} {s r : Step} {k a b : ℕ} {u : Cost} (x y : ℕ) → u .words ≤ x + u .words-back → u .locals ≤ y + u .locals-back → u .names ≤ u .names-back → (y ≡ 0 → u .locals ≡ 0)
-    → Way t w p s k a b w' q r u → Moves w p s w' q r (uses x y 0)
-spends x y d e f z h = moves-by (uses x y 0) (omega (arith, d)) (omega (arith, e)) (omega (arith, f)) z (h .moves)
+-- it used x words and y locals at most, on v visits
+pub spends : {t w w' : List ℕ} {p q : Scope} {s r : Step} {k a b : ℕ} {u : Cost} (x y v : ℕ) → u .words ≤ x + u .words-back → u .locals ≤ y + u .locals-back → u .names ≤ u .names-back → (y ≡ 0 → u .locals ≡ 0) → u .visits ≡ v
+    → Way t w p s k a b w' q r u → Moves w p s w' q r (takes x y v)
+spends x y v d e f z n h = moves-by (takes x y v) (omega (arith, d)) (omega (arith, e)) (omega (arith, f)) z n (h .moves)
 
--- what a member promises: it used x words and y locals at most, gives a register and does `op`
-pub arrive : {t w o w' o' : List ℕ} {p : Scope} {s r : Step} {k a b : ℕ} {u : Cost} {op : Config → Run} (x y : ℕ) → Way t w p s k a b w' p r u
-    → u .words ≤ x + u .words-back → u .locals ≤ y + u .locals-back → u .names ≤ u .names-back → (y ≡ 0 → u .locals ≡ 0)
-    → length o' ≡ length o → Small r → ((ps : List Proto) → Image o s ps → After w' o' p r (bind (run w p s ps) op)) → Lowers w o p s w' o' r (uses x y 0) op
-arrive x y h d e f z l m g = record { does = record { moves = spends x y d e f z h; same = l; does = g }; small = m }
+-- what a member promises: it used x words and y locals at most on v visits, gives a register and does `op`
+pub arrive : {t w o w' o' : List ℕ} {p : Scope} {s r : Step} {k a b : ℕ} {u : Cost} {op : Config → Run} (x y v : ℕ) → Way t w p s k a b w' p r u
+    → u .words ≤ x + u .words-back → u .locals ≤ y + u .locals-back → u .names ≤ u .names-back → (y ≡ 0 → u .locals ≡ 0) → u .visits ≡ v
+    → length o' ≡ length o → Small r → ((ps : List Proto) → Image o s ps → After w' o' p r (bind (run w p s ps) op)) → Lowers w o p s w' o' r (takes x y v) op
+arrive x y v h d e f z n l m g = record { does = record { moves = spends x y v d e f z n h; same = l; does = g }; small = m }
 
 -- the same step under another name
 pub likewise : {w o w' o' : List ℕ} {p : Scope} {s r : Step} {u : Cost} {m m' : M Chunk} → m ≡ m' → Lowers w o p s w' o' r u (fwd m) → Lowers w o p s w' o' r u (fwd m')
 likewise e d = rw (sym e) d
 
+-- the same visits, said with another term
+pub recounted : {w o w' o' : List ℕ} {p : Scope} {s r : Step} {x y v v' : ℕ} {op : Config → Run} → v ≡ v' → Lowers w o p s w' o' r (takes x y v) op → Lowers w o p s w' o' r (takes x y v') op
+recounted e d = rw (sym e) d
+
 -- a refused step stays
 pub refused-stays : {w o : List ℕ} {p : Scope} {s : Step} (u : Cost) (op : Config → Run) {k : Cause} {n : ℕ} → Fine w p s → s .outcome ≡ Refused k n → Lowers w o p s w o s u op
 refused-stays {w} {o} {p} {s} u op h e = record { does = leaf-does (leaf-absorbed u op h e) o; small = none-due (s .result < 255) e }
 
--- a node without children, as a member
-pub leaf-lowers : {w o w' : List ℕ} {p : Scope} {s r : Step} {x y : ℕ} {op : Config → Run} (x' y' : ℕ) → x' ≡ x → y' ≡ y → Gives w p s w' r (uses x y 0) op → Lowers w o p s w' o r (uses x' y' 0) op
-leaf-lowers {o = o} x' y' e f h = rw (e, f) (record { does = leaf-does (h .leaf) o; small = h .small })
+-- a node without children, as a member: nothing is visited under it
+pub leaf-lowers : {w o w' : List ℕ} {p : Scope} {s r : Step} {x y : ℕ} {op : Config → Run} (x' y' v' : ℕ) → x' ≡ x → y' ≡ y → v' ≡ 0 → Gives w p s w' r (uses x y 0) op → Lowers w o p s w' o r (takes x' y' v') op
+leaf-lowers {o = o} x' y' v' e f n h = rw (e, f, n) (record { does = leaf-does (h .leaf) o; small = h .small })
+
+-- ---- a visit is counted: nothing else changed
+
+pub ticked-way : {t w w1 : List ℕ} {p : Scope} {s : Step} {k a b : ℕ} → Ready t w p s k a b → Ticked w w1 → Way t w p s k a b w1 p s (both nothing a-visit)
+ticked-way h x = from h ▹ ticked-moves (h .fine) x
+
+pub ticked-ready : {t w w1 : List ℕ} {p : Scope} {s : Step} {k : ℕ} → Ready t w p s k 0 0 → Ticked w w1 → Ready t w1 p s k 0 0
+ticked-ready h x = stand _ 0 0 (ticked-way h x) (omega arith) (omega arith) (omega arith) (omega arith)
+
+pub ticked-given : {t w w1 : List ℕ} {p : Scope} {s : Step} {i k : ℕ} → Given t w p s i k → Ticked w w1 → Given t w1 p s i k
+ticked-given g x = record { ready = ticked-ready (g .ready) x; known = g .known }
+
+-- what a routine did after its visit was counted, with the visit
+pub ticked-lowers : {t w w1 o w' o' : List ℕ} {p : Scope} {s r : Step} {k x y v : ℕ} {op : Config → Run} → Ready t w p s k 0 0 → Ticked w w1 → Lowers w1 o p s w' o' r (takes x y v) op → Lowers w o p s w' o' r (takes x y (1 + v)) op
+ticked-lowers {x = x} {y = y} {op = op} h n d =
+    arrive _ _ _ (ticked-way h n ▹ d .does .moves) (omega arith) (omega arith) (omega arith) (λ z. omega arith) (omega arith) (d .does .same) (d .small) λ ps z.
+    ends (d .does .does ps z) ((d .does .does ps z) .runs ∙ ap (λ (c : Run). bind c op) (ticked-runs (h .fine) n ps))
+
+-- a step after which a visit is counted
+pub after-ticked : {w w1 o : List ℕ} {p : Scope} {s : Step} {x : Run} → Fine w p s → Ticked w w1 → After w o p s x → After w1 o p s x
+after-ticked f n a = record { protos = a .protos; image = a .image; runs = ticked-runs f n (a .protos) ∙ a .runs }

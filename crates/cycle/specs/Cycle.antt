@@ -1,5 +1,5 @@
 -- The functions of the cycle, in which statements and expressions are lowered: what each is given and what it promises. A promise is `Does` of the
--- definition's own step, with what it uses: eight words and a local for each node of the syntax tree that is lowered.
+-- definition's own step, with what it uses: eight words and a local for each node of the syntax tree that is lowered, and the visits as document 02 counts them.
 use Prim.Native.Nat.{ℕ, _+_, _-_, _*_, _<_, _≤_}
 use mathlib.Core.Path.{_≡_}
 use mathlib.Core.List.{List}
@@ -7,6 +7,7 @@ use mathlib.Core.Option.{none, some}
 use Rattle.meaning.specs.Fields.{Field, fields}
 use Rattle.meaning.specs.At.{tag-of, word-of, count-of, expr-at, stmt-at, fun-at, exprs-at, stmts-at, funs-at, elifs-at, ExprBelow, StmtBelow, TagBelow}
 use Rattle.meaning.specs.Weight.{size-expr, size-exprs, size-stmt, size-stmts, size-elifs, size-fun, size-funs}
+use Rattle.meaning.specs.Visits.{under-expr, under-stmt, under-fun, visits-expr, visits-exprs, visits-stmt, visits-stmts, visits-elifs, visits-funs}
 use Rattle.meaning.specs.State.{M, Chunk}
 use Rattle.meaning.specs.Expressions.{visit-addi, visit-both, visit-binary}
 use Rattle.meaning.specs.Functions.{visit-body}
@@ -15,7 +16,7 @@ use Rattle.forward.specs.Forward.{Config, Run, fwd, fwd-code, fwd-row}
 use Rattle.store.specs.declared.Step.{Step}
 use Rattle.store.specs.declared.Scope.{Scope}
 use Rattle.store.specs.Store.{while-going, Fine}
-use Rattle.store.specs.Promise.{Cost, uses, Room, Does}
+use Rattle.store.specs.Promise.{Cost, takes, Room, Does}
 use Rattle.parts.specs.Parts.{Small}
 use Rattle.leaves.specs.Node.{Lawful}
 use Rattle.cycle.specs.declared.Words.{Words}
@@ -95,64 +96,77 @@ pub record Lowers (w o : List ℕ) (p : Scope) (s : Step) (w' o' : List ℕ) (r 
   pub does : Does w o p s w' o' p r u op
   pub small : Small r
 
--- an expression leaves no local behind
-abbrev pub LowersExpr : (t : List ℕ) (i : ℕ) (w o : List ℕ) → Scope → Step → (w' o' : List ℕ) → Step → Type 0
-LowersExpr t i w o p s w' o' r = Lowers w o p s w' o' r (uses (8 * size-expr (expr-at (fields t) i)) 0 0) (fwd (lower-expr (p .mode) (expr-at (fields t) i)))
+-- an expression leaves no local behind; the dispatcher counts its visit, so each `visit_` routine promises the same with what is visited under it
+abbrev pub UnderExpr : (t : List ℕ) (i : ℕ) (w o : List ℕ) → Scope → Step → (w' o' : List ℕ) → Step → Type 0
+UnderExpr t i w o p s w' o' r = Lowers w o p s w' o' r (takes (8 * size-expr (expr-at (fields t) i)) 0 (under-expr (expr-at (fields t) i))) (fwd (lower-expr (p .mode) (expr-at (fields t) i)))
 
--- a statement, whose locals stay to the end of its block
+-- with its own visit
+abbrev pub LowersExpr : (t : List ℕ) (i : ℕ) (w o : List ℕ) → Scope → Step → (w' o' : List ℕ) → Step → Type 0
+LowersExpr t i w o p s w' o' r = Lowers w o p s w' o' r (takes (8 * size-expr (expr-at (fields t) i)) 0 (visits-expr (expr-at (fields t) i))) (fwd (lower-expr (p .mode) (expr-at (fields t) i)))
+
+-- a statement, whose locals stay to the end of its block, in the same way
+abbrev pub UnderStmt : (t : List ℕ) (i : ℕ) (w o : List ℕ) → Scope → Step → (w' o' : List ℕ) → Step → Type 0
+UnderStmt t i w o p s w' o' r =
+    Lowers w o p s w' o' r (takes (8 * size-stmt (stmt-at (fields t) i)) (size-stmt (stmt-at (fields t) i)) (under-stmt (stmt-at (fields t) i))) (fwd (lower-stmt (p .mode) (stmt-at (fields t) i)))
+
+-- with its own visit
 abbrev pub LowersStmt : (t : List ℕ) (i : ℕ) (w o : List ℕ) → Scope → Step → (w' o' : List ℕ) → Step → Type 0
 LowersStmt t i w o p s w' o' r =
-    Lowers w o p s w' o' r (uses (8 * size-stmt (stmt-at (fields t) i)) (size-stmt (stmt-at (fields t) i)) 0) (fwd (lower-stmt (p .mode) (stmt-at (fields t) i)))
+    Lowers w o p s w' o' r (takes (8 * size-stmt (stmt-at (fields t) i)) (size-stmt (stmt-at (fields t) i)) (visits-stmt (stmt-at (fields t) i))) (fwd (lower-stmt (p .mode) (stmt-at (fields t) i)))
 
--- a function statement leaves a Closure and its name, whatever its body is
+-- a function statement leaves a Closure and its name, whatever its body is; its own visit is counted where it is called
 abbrev pub LowersFun : (t : List ℕ) (i : ℕ) (w o : List ℕ) → Scope → Step → (w' o' : List ℕ) → Step → Type 0
-LowersFun t i w o p s w' o' r = Lowers w o p s w' o' r (uses 4 1 0) (fwd (lower-fun (p .mode) (fun-at (fields t) i)))
+LowersFun t i w o p s w' o' r = Lowers w o p s w' o' r (takes 4 1 (under-fun (fun-at (fields t) i))) (fwd (lower-fun (p .mode) (fun-at (fields t) i)))
 
 -- statements one after the other: the result is the last one's
 pub record LowersRow (t : List ℕ) (i from to : ℕ) (w o : List ℕ) (p : Scope) (s : Step) (w' o' : List ℕ) (r : Step) : Type 0 where
-  pub does : Does w o p s w' o' p r (uses (8 * size-stmts (stmts-at (fields t) i from to)) (size-stmts (stmts-at (fields t) i from to)) 0) (fwd-row (lower-stmts (p .mode) (stmts-at (fields t) i from to)))
+  pub does : Does w o p s w' o' p r (takes (8 * size-stmts (stmts-at (fields t) i from to)) (size-stmts (stmts-at (fields t) i from to)) (visits-stmts (stmts-at (fields t) i from to))) (fwd-row (lower-stmts (p .mode) (stmts-at (fields t) i from to)))
   pub small : Small s → Small r
 
 -- the elifs of an if, which give code alone
 abbrev pub LowersElifs : (t : List ℕ) (i from to : ℕ) (w o : List ℕ) → Scope → Step → (w' o' : List ℕ) → Step → Type 0
 LowersElifs t i from to w o p s w' o' r =
-    Lowers w o p s w' o' r (uses (8 * size-elifs (elifs-at (fields t) i from to)) (size-elifs (elifs-at (fields t) i from to)) 0) (fwd-code (lower-elifs (p .mode) (elifs-at (fields t) i from to)))
+    Lowers w o p s w' o' r (takes (8 * size-elifs (elifs-at (fields t) i from to)) (size-elifs (elifs-at (fields t) i from to)) (visits-elifs (elifs-at (fields t) i from to))) (fwd-code (lower-elifs (p .mode) (elifs-at (fields t) i from to)))
 
 -- the methods of a class, whose names pass through the register after `class`
 abbrev pub LowersMethods : (t : List ℕ) (i from to mark op class : ℕ) (w o : List ℕ) → Scope → Step → (w' o' : List ℕ) → Step → Type 0
 LowersMethods t i from to mark op class w o p s w' o' r =
-    Lowers w o p s w' o' r (uses (8 * size-funs (funs-at (fields t) i from to)) (size-funs (funs-at (fields t) i from to)) 0) (fwd-code (lower-methods (p .mode) (funs-at (fields t) i from to) i mark op class (class + 1)))
+    Lowers w o p s w' o' r (takes (8 * size-funs (funs-at (fields t) i from to)) (size-funs (funs-at (fields t) i from to)) (visits-funs (funs-at (fields t) i from to))) (fwd-code (lower-methods (p .mode) (funs-at (fields t) i from to) i mark op class (class + 1)))
 
 -- the arguments of a call, with two words more for each one's Move
 abbrev pub LowersArguments : (t : List ℕ) (i register : ℕ) (w o : List ℕ) → Scope → Step → (w' o' : List ℕ) → Step → Type 0
 LowersArguments t i register w o p s w' o' r =
-    Lowers w o p s w' o' r (uses (8 * size-exprs (exprs-at (fields t) i 2 (count-of (fields t) i)) + 2 * (count-of (fields t) i - 2)) 0 0) (fwd-code (lower-arguments (p .mode) (exprs-at (fields t) i 2 (count-of (fields t) i)) register))
+    Lowers w o p s w' o' r (takes (8 * size-exprs (exprs-at (fields t) i 2 (count-of (fields t) i)) + 2 * (count-of (fields t) i - 2)) 0 (visits-exprs (exprs-at (fields t) i 2 (count-of (fields t) i)))) (fwd-code (lower-arguments (p .mode) (exprs-at (fields t) i 2 (count-of (fields t) i)) register))
 
 -- a function's body, with two words more for its Return; its block gives the locals back
 abbrev pub LowersBody : (t : List ℕ) (i from : ℕ) (w o : List ℕ) → Scope → Step → (w' o' : List ℕ) → Step → Type 0
 LowersBody t i from w o p s w' o' r =
-    Does w o p s w' o' p r (uses (8 * size-stmts (stmts-at (fields t) i from (count-of (fields t) i)) + 2) 0 0) (fwd-code (visit-body i (lower-stmts (p .mode) (stmts-at (fields t) i from (count-of (fields t) i)))))
+    Does w o p s w' o' p r (takes (8 * size-stmts (stmts-at (fields t) i from (count-of (fields t) i)) + 2) 0 (visits-stmts (stmts-at (fields t) i from (count-of (fields t) i)))) (fwd-code (visit-body i (lower-stmts (p .mode) (stmts-at (fields t) i from (count-of (fields t) i)))))
 
--- the binary at node i, lowered by m: one of the three forms below
-abbrev pub LowersBinary : (t : List ℕ) (i : ℕ) (w o : List ℕ) → Scope → Step → (w' o' : List ℕ) → Step → M Chunk → Type 0
-LowersBinary t i w o p s w' o' r m = Lowers w o p s w' o' r (uses (8 * size-expr (expr-at (fields t) i)) 0 0) (fwd m)
+-- the binary at node i, lowered by m with v visits under it: one of the three forms below
+abbrev pub LowersBinary : (t : List ℕ) (i v : ℕ) (w o : List ℕ) → Scope → Step → (w' o' : List ℕ) → Step → M Chunk → Type 0
+LowersBinary t i v w o p s w' o' r m = Lowers w o p s w' o' r (takes (8 * size-expr (expr-at (fields t) i)) 0 v) (fwd m)
+
+-- the visits of the operand that word k of node i names
+abbrev pub seen : (t : List ℕ) (i k : ℕ) → ℕ
+seen t i k = visits-expr (expr-at (fields t) (word-of (fields t) i k))
 
 -- the lowering of the operand that word k of node i names
 abbrev pub operand : Scope → (t : List ℕ) (i k : ℕ) → M Chunk
 operand p t i k = lower-expr (p .mode) (expr-at (fields t) (word-of (fields t) i k))
 
--- a small number k on the right of Plus
+-- a small number k on the right of Plus, which is not visited
 abbrev pub LowersAddi : (t : List ℕ) (i k : ℕ) (w o : List ℕ) → Scope → Step → (w' o' : List ℕ) → Step → Type 0
-LowersAddi t i k w o p s w' o' r = LowersBinary t i w o p s w' o' r (visit-addi i (word-of (fields t) i 1) k (operand p t i 2))
+LowersAddi t i k w o p s w' o' r = LowersBinary t i (seen t i 2) w o p s w' o' r (visit-addi i (word-of (fields t) i 1) k (operand p t i 2))
 
--- a small number on the left of Minus; which one it is does not matter, so 0 stands for it
+-- a small number on the left of Minus, whose right side is visited twice; which number it is does not matter, so 0 stands for it
 abbrev pub LowersMinus : (t : List ℕ) (i : ℕ) (w o : List ℕ) → Scope → Step → (w' o' : List ℕ) → Step → Type 0
 LowersMinus t i w o p s w' o' r =
-    LowersBinary t i w o p s w' o' r (visit-binary i (word-of (fields t) i 0) (word-of (fields t) i 1) none (some 0) (operand p t i 2) (operand p t i 3))
+    LowersBinary t i (seen t i 2 + (seen t i 3 + seen t i 3)) w o p s w' o' r (visit-binary i (word-of (fields t) i 0) (word-of (fields t) i 1) none (some 0) (operand p t i 2) (operand p t i 3))
 
 -- neither
 abbrev pub LowersBoth : (t : List ℕ) (i : ℕ) (w o : List ℕ) → Scope → Step → (w' o' : List ℕ) → Step → Type 0
-LowersBoth t i w o p s w' o' r = LowersBinary t i w o p s w' o' r (visit-both i (word-of (fields t) i 0) (word-of (fields t) i 1) (operand p t i 2) (operand p t i 3))
+LowersBoth t i w o p s w' o' r = LowersBinary t i (seen t i 2 + seen t i 3) w o p s w' o' r (visit-both i (word-of (fields t) i 0) (word-of (fields t) i 1) (operand p t i 2) (operand p t i 3))
 
 -- ---- the words of a node
 

@@ -1,5 +1,6 @@
 // Module 4 of document 01: statements and expressions are lowered by functions that call each other; the node's number falls at each call.
-// A function is the straight line of its calls. Each passes a refused step on; the two dispatchers return it at once.
+// A function is the straight line of its calls. Each passes a refused step on; the two dispatchers return it at once, and count a visit of any other;
+// the loops count those of elifs and methods.
 mod operators;
 mod reading;
 mod scopes;
@@ -8,7 +9,7 @@ ghost use mathlib.Core.Path.{_≡_};
 ghost use Prim.Native.Nat.{_<_, _≤_};
 ghost use Rattle.meaning.specs.Fields.{fields};
 ghost use Rattle.meaning.specs.At.{tag-of};
-ghost use Rattle.cycle.specs.Cycle.{GivenExpr, GivenStmt, AskExpr, AskStmt, AskFun, AskRow, AskElifs, AskMethods, AskArguments, AskBody, LowersExpr, LowersStmt, LowersFun, LowersRow, LowersElifs, LowersMethods, LowersArguments, LowersBody, LowersAddi, LowersMinus, LowersBoth};
+ghost use Rattle.cycle.specs.Cycle.{GivenExpr, GivenStmt, AskExpr, AskStmt, AskFun, AskRow, AskElifs, AskMethods, AskArguments, AskBody, UnderExpr, UnderStmt, LowersExpr, LowersStmt, LowersFun, LowersRow, LowersElifs, LowersMethods, LowersArguments, LowersBody, LowersAddi, LowersMinus, LowersBoth};
 use crate::operators::binary_opcode;
 use crate::operators::immediate;
 use crate::operators::or_flag;
@@ -104,7 +105,7 @@ fn expr_stmt(
     node: usize,
 ) -> Step
     requires { ⌜ GivenStmt (now tree) (now work) scope step node × (tag-of (fields (now tree)) node ≡ 16) ⌝ }
-    ensures { λ r. ⌜ LowersStmt (now (tree .entry)) node (now (work .entry)) (now (out .entry)) scope step (now (work .exit)) (now (out .exit)) r ⌝ }
+    ensures { λ r. ⌜ UnderStmt (now (tree .entry)) node (now (work .entry)) (now (out .entry)) scope step (now (work .exit)) (now (out .exit)) r ⌝ }
 {
     let x = words_of(tree, work, scope, node);
     expression(tree, work, out, step, scope, x.child0)
@@ -120,7 +121,7 @@ fn try_catch(
     node: usize,
 ) -> Step
     requires { ⌜ GivenStmt (now tree) (now work) scope step node × (tag-of (fields (now tree)) node ≡ 27) ⌝ }
-    ensures { λ r. ⌜ LowersStmt (now (tree .entry)) node (now (work .entry)) (now (out .entry)) scope step (now (work .exit)) (now (out .exit)) r ⌝ }
+    ensures { λ r. ⌜ UnderStmt (now (tree .entry)) node (now (work .entry)) (now (out .entry)) scope step (now (work .exit)) (now (out .exit)) r ⌝ }
 {
     let x = words_of(tree, work, scope, node);
     let opened = code::open_try_body(work, step, scope);
@@ -143,7 +144,7 @@ fn for_loop(
     node: usize,
 ) -> Step
     requires { ⌜ GivenStmt (now tree) (now work) scope step node × (tag-of (fields (now tree)) node ≡ 20) ⌝ }
-    ensures { λ r. ⌜ LowersStmt (now (tree .entry)) node (now (work .entry)) (now (out .entry)) scope step (now (work .exit)) (now (out .exit)) r ⌝ }
+    ensures { λ r. ⌜ UnderStmt (now (tree .entry)) node (now (work .entry)) (now (out .entry)) scope step (now (work .exit)) (now (out .exit)) r ⌝ }
 {
     let x = words_of(tree, work, scope, node);
     let first = row(
@@ -183,7 +184,7 @@ fn for_in(
     node: usize,
 ) -> Step
     requires { ⌜ GivenStmt (now tree) (now work) scope step node × (tag-of (fields (now tree)) node ≡ 21) ⌝ }
-    ensures { λ r. ⌜ LowersStmt (now (tree .entry)) node (now (work .entry)) (now (out .entry)) scope step (now (work .exit)) (now (out .exit)) r ⌝ }
+    ensures { λ r. ⌜ UnderStmt (now (tree .entry)) node (now (work .entry)) (now (out .entry)) scope step (now (work .exit)) (now (out .exit)) r ⌝ }
 {
     let x = words_of(tree, work, scope, node);
     let payload = payload_of(tree, work, scope, node);
@@ -223,7 +224,7 @@ fn let_stmt(
     node: usize,
 ) -> Step
     requires { ⌜ GivenStmt (now tree) (now work) scope step node × (tag-of (fields (now tree)) node ≡ 17) ⌝ }
-    ensures { λ r. ⌜ LowersStmt (now (tree .entry)) node (now (work .entry)) (now (out .entry)) scope step (now (work .exit)) (now (out .exit)) r ⌝ }
+    ensures { λ r. ⌜ UnderStmt (now (tree .entry)) node (now (work .entry)) (now (out .entry)) scope step (now (work .exit)) (now (out .exit)) r ⌝ }
 {
     let n = count_of(tree, work, scope, node);
     if n == 2 {
@@ -258,7 +259,7 @@ fn block(
     node: usize,
 ) -> Step
     requires { ⌜ GivenStmt (now tree) (now work) scope step node × (tag-of (fields (now tree)) node ≡ 18) ⌝ }
-    ensures { λ r. ⌜ LowersStmt (now (tree .entry)) node (now (work .entry)) (now (out .entry)) scope step (now (work .exit)) (now (out .exit)) r ⌝ }
+    ensures { λ r. ⌜ UnderStmt (now (tree .entry)) node (now (work .entry)) (now (out .entry)) scope step (now (work .exit)) (now (out .exit)) r ⌝ }
 {
     let n = count_of(tree, work, scope, node);
     let inside = store::enter_block(work, scope);
@@ -277,7 +278,7 @@ fn while_loop(
     node: usize,
 ) -> Step
     requires { ⌜ GivenStmt (now tree) (now work) scope step node × (tag-of (fields (now tree)) node ≡ 19) ⌝ }
-    ensures { λ r. ⌜ LowersStmt (now (tree .entry)) node (now (work .entry)) (now (out .entry)) scope step (now (work .exit)) (now (out .exit)) r ⌝ }
+    ensures { λ r. ⌜ UnderStmt (now (tree .entry)) node (now (work .entry)) (now (out .entry)) scope step (now (work .exit)) (now (out .exit)) r ⌝ }
 {
     let x = words_of(tree, work, scope, node);
     let condition = expression(tree, work, out, step, scope, x.child1);
@@ -306,7 +307,7 @@ fn return_stmt(
     node: usize,
 ) -> Step
     requires { ⌜ GivenStmt (now tree) (now work) scope step node × (tag-of (fields (now tree)) node ≡ 24) ⌝ }
-    ensures { λ r. ⌜ LowersStmt (now (tree .entry)) node (now (work .entry)) (now (out .entry)) scope step (now (work .exit)) (now (out .exit)) r ⌝ }
+    ensures { λ r. ⌜ UnderStmt (now (tree .entry)) node (now (work .entry)) (now (out .entry)) scope step (now (work .exit)) (now (out .exit)) r ⌝ }
 {
     let n = count_of(tree, work, scope, node);
     if n == 1 {
@@ -327,7 +328,7 @@ fn if_stmt(
     node: usize,
 ) -> Step
     requires { ⌜ GivenStmt (now tree) (now work) scope step node × (tag-of (fields (now tree)) node ≡ 25) ⌝ }
-    ensures { λ r. ⌜ LowersStmt (now (tree .entry)) node (now (work .entry)) (now (out .entry)) scope step (now (work .exit)) (now (out .exit)) r ⌝ }
+    ensures { λ r. ⌜ UnderStmt (now (tree .entry)) node (now (work .entry)) (now (out .entry)) scope step (now (work .exit)) (now (out .exit)) r ⌝ }
 {
     let x = words_of(tree, work, scope, node);
     let ends = branches_of(tree, work, scope, node);
@@ -374,6 +375,7 @@ fn elifs(
         let tested = code::test_and_jump(work, condition, scope, 0, NO_MARK);
         let then = row(tree, work, out, tested, scope, child, 1, n);
         last = code::end_branch(work, then, scope, condition.code, NO_MARK);
+        store::visit(work);
         k += 1;
     }
     store::settle(last, 0)
@@ -439,7 +441,7 @@ fn class(
     node: usize,
 ) -> Step
     requires { ⌜ GivenStmt (now tree) (now work) scope step node × (tag-of (fields (now tree)) node ≡ 29) × (scope .depth ≤ 7) ⌝ }
-    ensures { λ r. ⌜ LowersStmt (now (tree .entry)) node (now (work .entry)) (now (out .entry)) scope step (now (work .exit)) (now (out .exit)) r ⌝ }
+    ensures { λ r. ⌜ UnderStmt (now (tree .entry)) node (now (work .entry)) (now (out .entry)) scope step (now (work .exit)) (now (out .exit)) r ⌝ }
 {
     let x = words_of(tree, work, scope, node);
     let n = count_of(tree, work, scope, node);
@@ -513,6 +515,7 @@ fn methods(
             class + 1,
             x.child0,
         );
+        store::visit(work);
         k += 1;
     }
     store::settle(last, 0)
@@ -530,7 +533,7 @@ fn function(
     node: usize,
 ) -> Step
     requires { ⌜ GivenExpr (now tree) (now work) scope step node × (tag-of (fields (now tree)) node ≡ 9) × (scope .depth ≤ 7) ⌝ }
-    ensures { λ r. ⌜ LowersExpr (now (tree .entry)) node (now (work .entry)) (now (out .entry)) scope step (now (work .exit)) (now (out .exit)) r ⌝ }
+    ensures { λ r. ⌜ UnderExpr (now (tree .entry)) node (now (work .entry)) (now (out .entry)) scope step (now (work .exit)) (now (out .exit)) r ⌝ }
 {
     let x = words_of(tree, work, scope, node);
     let payload = payload_of(tree, work, scope, node);
@@ -598,7 +601,7 @@ fn binary(
     node: usize,
 ) -> Step
     requires { ⌜ GivenExpr (now tree) (now work) scope step node × (tag-of (fields (now tree)) node ≡ 6) ⌝ }
-    ensures { λ r. ⌜ LowersExpr (now (tree .entry)) node (now (work .entry)) (now (out .entry)) scope step (now (work .exit)) (now (out .exit)) r ⌝ }
+    ensures { λ r. ⌜ UnderExpr (now (tree .entry)) node (now (work .entry)) (now (out .entry)) scope step (now (work .exit)) (now (out .exit)) r ⌝ }
 {
     let x = words_of(tree, work, scope, node);
     let k = immediate(tree, work, scope, x.a, PLUS, x.child3);
@@ -688,7 +691,7 @@ fn call(
     node: usize,
 ) -> Step
     requires { ⌜ GivenExpr (now tree) (now work) scope step node × (tag-of (fields (now tree)) node ≡ 8) ⌝ }
-    ensures { λ r. ⌜ LowersExpr (now (tree .entry)) node (now (work .entry)) (now (out .entry)) scope step (now (work .exit)) (now (out .exit)) r ⌝ }
+    ensures { λ r. ⌜ UnderExpr (now (tree .entry)) node (now (work .entry)) (now (out .entry)) scope step (now (work .exit)) (now (out .exit)) r ⌝ }
 {
     let x = words_of(tree, work, scope, node);
     let n = arguments_in(tree, work, scope, node);
@@ -736,7 +739,7 @@ fn logical(
     node: usize,
 ) -> Step
     requires { ⌜ GivenExpr (now tree) (now work) scope step node × (tag-of (fields (now tree)) node ≡ 7) ⌝ }
-    ensures { λ r. ⌜ LowersExpr (now (tree .entry)) node (now (work .entry)) (now (out .entry)) scope step (now (work .exit)) (now (out .exit)) r ⌝ }
+    ensures { λ r. ⌜ UnderExpr (now (tree .entry)) node (now (work .entry)) (now (out .entry)) scope step (now (work .exit)) (now (out .exit)) r ⌝ }
 {
     let x = words_of(tree, work, scope, node);
     let left = expression(tree, work, out, step, scope, x.child2);
@@ -755,7 +758,7 @@ fn unary(
     node: usize,
 ) -> Step
     requires { ⌜ GivenExpr (now tree) (now work) scope step node × (tag-of (fields (now tree)) node ≡ 5) ⌝ }
-    ensures { λ r. ⌜ LowersExpr (now (tree .entry)) node (now (work .entry)) (now (out .entry)) scope step (now (work .exit)) (now (out .exit)) r ⌝ }
+    ensures { λ r. ⌜ UnderExpr (now (tree .entry)) node (now (work .entry)) (now (out .entry)) scope step (now (work .exit)) (now (out .exit)) r ⌝ }
 {
     let x = words_of(tree, work, scope, node);
     let operand = expression(tree, work, out, step, scope, x.child2);
@@ -788,6 +791,7 @@ fn statement(
         return step;
     };
     let tag = tag_of(tree, work, scope, node);
+    store::visit(work);
     match tag {
         0x10 => expr_stmt(tree, work, out, step, scope, node),
         0x11 => let_stmt(tree, work, out, step, scope, node),
@@ -821,6 +825,7 @@ fn expression(
         return step;
     };
     let tag = tag_of(tree, work, scope, node);
+    store::visit(work);
     match tag {
         0x04 => leaves::variable(tree, work, step, scope, node),
         0x05 => unary(tree, work, out, step, scope, node),

@@ -16,6 +16,8 @@ use Rattle.meaning.proofs.Reading.{number-node, text-node, other-node, break-no
 use Rattle.values.specs.declared.literal.Immediate.the-variants.{Is, Not}
 use Rattle.values.specs.Literals.{constant-at, small-as}
 use denote.Enum.Declared.{tagOf}
+use Rattle.store.specs.declared.Scope.{Scope}
+use Rattle.store.specs.Store.{Kept}
 use Rattle.store.specs.declared.Found.{Found}
 use Rattle.store.specs.declared.Found.the-variants.{At, Nothing, Full}
 use Rattle.store.specs.Search.{option-of, in-byte}
@@ -47,6 +49,15 @@ module _ {t w : List ℕ} {n i : ℕ} (h : Lawful t w n) (l : i < n) where
       by : Dec (tag-of (fields t) i ≡ 0x16) → count-of (fields t) i ≡ 1
       by (yes e) = break-node (fields t) (h .shapes) i inside e .size
       by (no e) = continue-node (fields t) (h .shapes) i inside (omega arith) .size
+
+-- the tree is lawful beside other words that keep the table of offsets
+pub lawful-kept : {t w w' : List ℕ} {p : Scope} → Lawful t w (p .nodes) → Kept w p w' → Lawful t w' (p .nodes)
+lawful-kept {t} {w} {w'} {p} h g =
+    record {
+      nodes = h .nodes;
+      shapes = h .shapes;
+      offsets = record { inside = omega (arith, h .offsets .inside, g .same); each = λ i x. g .offsets (12288 + 15 * p .nodes + i) (omega arith) ∙ h .offsets .each i x };
+    }
 
 -- ---- the superclass
 

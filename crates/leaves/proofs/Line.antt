@@ -11,10 +11,11 @@ use Rattle.meaning.specs.declared.Cause.{Cause}
 use Rattle.forward.specs.Forward.{Config, Run, going, bind, sure, put, emit, Answers}
 use Rattle.store.specs.declared.Step.{Step}
 use Rattle.store.specs.declared.Scope.{Scope}
-use Rattle.store.specs.Store.{run, config-of, while-going, refused-by, refused-step, Image}
-use Rattle.store.specs.Promise.{Cost, both, Used, Roomy, Room, Moves, Leaf, Told}
+use Rattle.store.specs.Store.{run, config-of, while-going, refused-by, refused-step, Image, Fine}
+use Rattle.store.specs.Promise.{Cost, a-visit, both, Used, Roomy, Room, Moves, Leaf, Told, Ticked}
 use Rattle.store.proofs.Runs.{due, promised, going-is, run-going}
 use Rattle.store.proofs.Compose.{moves-then, moves-by}
+use Rattle.store.proofs.Visiting.{ticked-moves}
 use Rattle.parts.specs.Parts.{Small}
 use Rattle.leaves.specs.Node.{Gives}
 
@@ -34,6 +35,10 @@ asked l = record { moves = l .moves; image = l .image }
 -- an answer, said with another term
 pub told-by : {A : Type 0} {r r1 : Run} {m : M A} {a b : A} → a ≡ b → Answers r m a r1 → Answers r m b r1
 told-by {r = r} {r1 = r1} {m = m} e h = subst (λ x. Answers r m x r1) e h
+
+-- a visit that is counted
+pub counting : {w w' : List ℕ} {p : Scope} {s : Step} → Fine w p s → Ticked w w' → Line w p s w' s a-visit
+counting f x = record { moves = ticked-moves f x; image = λ o ps i. i }
 
 infixl 5 _▹_
 pub _▹_ : {w w1 w2 : List ℕ} {p : Scope} {s s1 s2 : Step} {u v : Cost} → Line w p s w1 s1 u → Line w1 p s1 w2 s2 v → Line w p s w2 s2 (both u v)
@@ -85,6 +90,6 @@ small-refused s k n = by (s .outcome)
 
 -- ---- the whole
 
-pub gives : {w w' : List ℕ} {p : Scope} {s r : Step} {u : Cost} {op : Config → Run} (v : Cost) → Line w p s w' r u → u .words + v .words-back ≤ v .words + u .words-back → u .locals + v .locals-back ≤ v .locals + u .locals-back → u .names + v .names-back ≤ v .names + u .names-back → (v .locals ≡ 0 → u .locals ≡ 0)
+pub gives : {w w' : List ℕ} {p : Scope} {s r : Step} {u : Cost} {op : Config → Run} (v : Cost) → Line w p s w' r u → u .words + v .words-back ≤ v .words + u .words-back → u .locals + v .locals-back ≤ v .locals + u .locals-back → u .names + v .names-back ≤ v .names + u .names-back → (v .locals ≡ 0 → u .locals ≡ 0) → u .visits ≡ v .visits
     → ((ps : List Proto) → run w' p r ps ≡ bind (run w p s ps) op) → Small r → Gives w p s w' r v op
-gives v l a b c z runs small = record { leaf = record { moves = moves-by v a b c z (l .moves); runs = runs; image = l .image }; small = small }
+gives v l a b c z y runs small = record { leaf = record { moves = moves-by v a b c z y (l .moves); runs = runs; image = l .image }; small = small }

@@ -13,13 +13,14 @@ use Rattle.meaning.specs.Read.{token}
 use Rattle.meaning.specs.At.{word-of, expr-at, stmt-at, super-at}
 use Rattle.meaning.specs.Statements.{visit-super}
 use Rattle.meaning.specs.Weight.{size-super}
+use Rattle.meaning.specs.Visits.{visits-super}
 use Rattle.meaning.specs.Lower.{lower-expr, lower-stmt}
 use Rattle.nodes.specs.Offsets.{Offsets}
 use Rattle.forward.specs.Forward.{Config, Run, fwd}
 use Rattle.store.specs.declared.Step.{Step}
 use Rattle.store.specs.declared.Scope.{Scope}
 use Rattle.store.specs.Store.{Fine}
-use Rattle.store.specs.Promise.{Cost, uses, Room, Leaf}
+use Rattle.store.specs.Promise.{Cost, uses, takes, Room, Leaf}
 use Rattle.parts.specs.Parts.{Small}
 
 -- ---- what is given
@@ -44,7 +45,7 @@ pub record Gives (w : List ℕ) (p : Scope) (s : Step) (w' : List ℕ) (r : Step
   pub leaf : Leaf w p s w' p r u op
   pub small : Small r
 
--- an expression: eight words pay for it
+-- an expression: eight words pay for it; its visit is counted by whoever calls it
 abbrev pub GivesExpr : (t w : List ℕ) → Scope → Step → (w' : List ℕ) → Step → (node : ℕ) → Type 0
 GivesExpr t w p s w' r node = Gives w p s w' r (uses 8 0 0) (fwd (lower-expr (p .mode) (expr-at (fields t) node)))
 
@@ -59,7 +60,7 @@ super-of t node = super-at (fields t) (word-of (fields t) node 2)
 -- it is a variable's node, or no node
 abbrev pub GivesSuper : (t w : List ℕ) → Scope → Step → (w' : List ℕ) → Step → (node : ℕ) → Type 0
 GivesSuper t w p s w' r node =
-    Gives w p s w' r (uses (8 * size-super (super-of t node)) 0 0) (fwd (visit-super node (token (word-of (fields t) node 0) (word-of (fields t) node 1)) (super-of t node)))
+    Gives w p s w' r (takes (8 * size-super (super-of t node)) 0 (visits-super (super-of t node))) (fwd (visit-super node (token (word-of (fields t) node 0) (word-of (fields t) node 1)) (super-of t node)))
 
 -- a number from 0 to 255, or 256 for none
 abbrev pub small-of : ℕ → Option ℕ

@@ -118,7 +118,7 @@ pub fn variable(tree: &[u8], work: &mut [u32], step: Step, scope: Scope, node: u
     visit_variable_expr(work, step, scope, node, name, mark)
 }
 
-// The superclass of a class: a variable, or nil.
+// The superclass of a class: a variable, which is visited here, or nil.
 pub fn superclass(tree: &[u8], work: &mut [u32], step: Step, scope: Scope, node: usize) -> Step
     requires { ⌜ OnNode (now tree) (now work) scope step (size-super (super-of (now tree) node)) node × (tag-of (fields (now tree)) node ≡ 0x1D) ⌝ }
     ensures { λ r. ⌜ GivesSuper (now (tree .entry)) (now (work .entry)) scope step (now (work .exit)) r node ⌝ }
@@ -127,6 +127,7 @@ pub fn superclass(tree: &[u8], work: &mut [u32], step: Step, scope: Scope, node:
     let mark = nodes::word(payload, 1);
     let parent = nodes::child(payload, 2);
     if parent != 65535 {
+        store::visit(work);
         return variable(tree, work, step, scope, parent);
     }
     let register = store::next_register(work, step, scope, node);

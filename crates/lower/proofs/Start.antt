@@ -23,7 +23,7 @@ use Rattle.cycle.specs.Cycle.{AskRow}
 -- the store is begun beside the table of offsets, which stays
 pub opened : {t w0 w1 w2 : List ℕ} {n : ℕ} → Filled t w0 w1 (12288 + 15 * n) → Begun w1 n w2 → Opened t n w2
 opened f b =
-    record { offsets = offsets-kept (f .offsets) (b .same) (λ i h l. b .offsets i h); fine = b .fine; room = b .room; runs = b .runs; image = b .image }
+    record { offsets = offsets-kept (f .offsets) (b .same) (λ i h l. b .offsets i h); fine = b .fine; room = b .room; runs = b .runs; image = b .image; counts = b .counts }
 
 module _ (t : List ℕ) (work n : ℕ) (e : checked t work ≡ Accepted n) where
   pub some-nodes : 1 ≤ n

@@ -1,2 +1,3 @@
 -- What the public call starts from.
 pub mod Open
+pub mod Told

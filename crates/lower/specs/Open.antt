@@ -5,6 +5,7 @@ use mathlib.Core.List.{List, []}
 use Rattle.meaning.specs.Lower.{start}
 use Rattle.nodes.specs.Offsets.{Offsets}
 use Rattle.forward.specs.Forward.{config, going}
+use Rattle.store.specs.Layout.{visited}
 use Rattle.store.specs.Store.{run, main-scope, first-step, Image, Fine}
 use Rattle.store.specs.Promise.{Room}
 
@@ -15,3 +16,5 @@ pub record Opened (t : List ℕ) (n : ℕ) (w : List ℕ) : Type 0 where
   pub room : (mode : ℕ) → Room w (main-scope mode n) first-step n 0 0
   pub runs : (mode : ℕ) → run w (main-scope mode n) first-step [] ≡ going (config [] 0 start)
   pub image : (o : List ℕ) → Image o first-step []
+  -- the program's visit
+  pub counts : visited w ≡ 1

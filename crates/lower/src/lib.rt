@@ -1,7 +1,7 @@
 // The public call: a tree is checked, lowered and written as an image; afterwards the work area is zero, and so is the output behind the image.
-use meaning::Answer;
 use meaning::Cause;
 use meaning::Outcome;
+use meaning::Reply;
 use store::OFFSETS;
 use store::Scope;
 use store::Step;
@@ -11,10 +11,11 @@ ghost use Prim.Native.Nat.{_-_, _≤_};
 ghost use lib.ListN.{length, take, replicate};
 ghost use Rattle.meaning.specs.Check.{checked};
 ghost use Rattle.meaning.specs.declared.Outcome.the-variants.{Accepted};
-ghost use Rattle.meaning.specs.Answer.{finished, outcome, answer as answer-to, output, work-area};
+ghost use Rattle.meaning.specs.Answer.{finished, reply, output, work-area};
 ghost use Rattle.store.specs.Store.{first-step};
 ghost use Rattle.image.specs.Finish.{Ending};
 ghost use Rattle.lower.specs.Open.{Opened};
+ghost use Rattle.lower.specs.Told.{counted, Counted, Countable};
 
 // Every word is zero.
 fn clear_words(work: &mut [u32])
@@ -51,7 +52,7 @@ fn set_up(tree: &[u8], work: &mut [u32], n: usize) -> Step
 // The main function's statements, its prototype, the constants.
 fn lower_checked(tree: &[u8], work: &mut [u32], out: &mut [u8], n: usize, mode: u64) -> Outcome
     requires { ⌜ (checked (now tree) (length (now work)) ≡ Accepted n) × (mode ≤ 1) ⌝ }
-    ensures { λ r. ⌜ Ending (finished mode (now (tree .entry)) (length (now (work .entry))) (length (now (out .entry)))) (now (out .exit)) r ⌝ }
+    ensures { λ r. ⌜ Ending (finished mode (now (tree .entry)) (length (now (work .entry))) (length (now (out .entry)))) (now (out .exit)) r × Counted (now (tree .entry)) (now (work .exit)) r ⌝ }
 {
     let first = set_up(tree, work, n);
     let main = Scope {
@@ -68,9 +69,9 @@ fn lower_checked(tree: &[u8], work: &mut [u32], out: &mut [u8], n: usize, mode: 
     image::finish(work, out, ended, last)
 }
 
-// The outcome, with the image at the front of the output. The words and the bytes behind the image are left as they were used.
+// The outcome, with the image at the front of the output, and the visits counted. The words and the bytes behind the image are left as they were used.
 fn lowered(tree: &[u8], work: &mut [u32], out: &mut [u8], mode: u64) -> Outcome
-    ensures { λ r. ⌜ Ending (finished mode (now (tree .entry)) (length (now (work .entry))) (length (now (out .entry)))) (now (out .exit)) r ⌝ }
+    ensures { λ r. ⌜ Ending (finished mode (now (tree .entry)) (length (now (work .entry))) (length (now (out .entry)))) (now (out .exit)) r × Counted (now (tree .entry)) (now (work .exit)) r ⌝ }
 {
     if 1 < mode {
         return Outcome::Refused(Cause::Mode, 0);
@@ -83,14 +84,32 @@ fn lowered(tree: &[u8], work: &mut [u32], out: &mut [u8], mode: u64) -> Outcome
     lower_checked(tree, work, out, n, mode)
 }
 
+// The visits that were counted for an outcome: 0 where it is a refusal.
+fn visits_of(work: &[u32], outcome: Outcome) -> u64
+    requires { ⌜ Countable (now work) outcome ⌝ }
+    ensures { λ r. ⌜ r ≡ counted (now (work .entry)) outcome ⌝ }
+{
+    let Outcome::Accepted(_) = outcome else {
+        return 0;
+    };
+    store::visits(work) as u64
+}
+
 // What documents 01 and 02 say of a mode, a tree, a work area and an output, whatever they hold.
-pub fn lower(tree: &[u8], work: &mut [u32], out: &mut [u8], mode: u64) -> Answer
-    ensures answered { λ r. ⌜ r ≡ answer-to (outcome (finished mode (now (tree .entry)) (length (now (work .entry))) (length (now (out .entry))))) ⌝ }
+pub fn lower(tree: &[u8], work: &mut [u32], out: &mut [u8], mode: u64) -> Reply
+    ensures answered { λ r. ⌜ r ≡ reply (now (tree .entry)) (finished mode (now (tree .entry)) (length (now (work .entry))) (length (now (out .entry)))) ⌝ }
     ensures cleared { λ _. ⌜ now (work .exit) ≡ work-area (length (now (work .entry))) ⌝ }
     ensures written { λ _. ⌜ now (out .exit) ≡ output (length (now (out .entry))) (finished mode (now (tree .entry)) (length (now (work .entry))) (length (now (out .entry)))) ⌝ }
 {
-    let answer = values::answer_of(lowered(tree, work, out, mode));
+    let outcome = lowered(tree, work, out, mode);
+    let answer = values::answer_of(outcome);
+    let visits = visits_of(work, outcome);
     clear_words(work);
     clear_bytes(out, answer.length as usize);
-    answer
+    Reply {
+        number: answer.number,
+        place: answer.place,
+        length: answer.length,
+        visits: visits,
+    }
 }

@@ -1,10 +1,10 @@
-// Lowers the tree on standard input in the mode that the first argument says, 0 without one: its image on standard output, or one line on
-// standard error that says what is refused, or failed.
+// Lowers the tree on standard input in the mode that the first argument says, 0 without one: its image on standard output, and one line on
+// standard error: the image's length and the visits, or what is refused, or failed.
 // There is no heap, so every room is an array on the stack. Rooms are taken in turn, the smallest first, so that a small tree costs little.
 mod mode;
 mod words;
 
-use meaning::Answer;
+use meaning::Reply;
 use mode::Told;
 ghost use Prim.Native.Nat.{_≤_};
 ghost use lib.ListN.{length};
@@ -24,7 +24,7 @@ fn main() {
 }
 
 // What the call says of no bytes: 21 where the mode is none, which is told before anything is read, and else 1.
-fn of_nothing(mode: u64) -> Answer {
+fn of_nothing(mode: u64) -> Reply {
     let mut work = [0u32; 1];
     let mut out = [0u8; 1];
     lower::lower(b"", &mut work, &mut out, mode)
@@ -136,7 +136,7 @@ fn second(tree: &[u8], out: &mut [u8], mode: u64) {
 }
 
 // The work area is as long as 32,768 nodes ask for.
-fn answer(tree: &[u8], out: &mut [u8], mode: u64) -> Answer
+fn answer(tree: &[u8], out: &mut [u8], mode: u64) -> Reply
     ensures { λ r. ⌜ r .length ≤ length (now (out .exit)) ⌝ }
 {
     let mut work = [0u32; 536576];
@@ -144,7 +144,7 @@ fn answer(tree: &[u8], out: &mut [u8], mode: u64) -> Answer
 }
 
 // The image, or why there is none.
-fn tell(a: Answer, out: &[u8])
+fn tell(a: Reply, out: &[u8])
     requires { ⌜ a .length ≤ length (now out) ⌝ }
 {
     if a.number != 0 {
@@ -154,5 +154,7 @@ fn tell(a: Answer, out: &[u8])
     let n = a.length as usize;
     if !io::write_all(1, &out[0..n]) {
         words::say(b"failed: the image could not be written");
+        return;
     }
+    words::lowered(a);
 }

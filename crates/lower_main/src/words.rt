@@ -1,5 +1,5 @@
-// What a refusal says in words: number, cause, node, and the rule that was broken (01, "Outcome"; 02, E2).
-use meaning::Answer;
+// What an answer says in words: length and visits, or number, cause, node, and the rule that was broken (01, "Outcome"; 02, E2, E6).
+use meaning::Reply;
 
 // One line on standard error.
 pub(crate) fn say(words: &[u8]) {
@@ -7,8 +7,17 @@ pub(crate) fn say(words: &[u8]) {
     io::write_all(2, b"\n");
 }
 
+// What was lowered, and how much work it was (02, E6): the image's bytes and the visits.
+pub(crate) fn lowered(a: Reply) {
+    io::write_all(2, b"lowered ");
+    io::print_decimal(2, a.length);
+    io::write_all(2, b" bytes, ");
+    io::print_decimal(2, a.visits);
+    say(b" visits");
+}
+
 // The table of causes.
-pub(crate) fn refused(a: Answer) {
+pub(crate) fn refused(a: Reply) {
     let number = a.number;
     match number {
         1 => frame(a),
@@ -86,13 +95,13 @@ pub(crate) fn refused(a: Answer) {
 }
 
 // Frame's place is how many whole fields stand before it.
-fn frame(a: Answer) {
+fn frame(a: Reply) {
     io::write_all(2, b"refused 1 Frame after ");
     io::print_decimal(2, a.place);
     say(b" whole fields: a header or a payload runs past the end, or there is no field at all");
 }
 
-fn at_node(a: Answer, cause: &[u8], rule: &[u8]) {
+fn at_node(a: Reply, cause: &[u8], rule: &[u8]) {
     io::write_all(2, b"refused ");
     io::print_decimal(2, a.number);
     io::write_all(2, b" ");

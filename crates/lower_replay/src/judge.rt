@@ -1,7 +1,7 @@
 // One call, on noise, and what is due of it.
 use crate::file;
 use crate::file::Case;
-use meaning::Answer;
+use meaning::Reply;
 
 // Noise that another number gives anew.
 fn next(x: u32) -> u32 {
@@ -81,7 +81,7 @@ fn checksum(out: &[u8], count: usize) -> usize {
 }
 
 // What differs: 0 nothing, else its number among `name`'s words.
-fn judge(text: &[u8; 1000000], c: Case, got: Answer, work: &[u32], out: &[u8]) -> u8 {
+fn judge(text: &[u8; 1000000], c: Case, got: Reply, work: &[u32], out: &[u8]) -> u8 {
     if got.number != c.number as u64 {
         return 2;
     }

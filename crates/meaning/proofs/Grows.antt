@@ -97,7 +97,7 @@ search-found name f (g ∷ gs) = outward-found (is-global g gs) (local-of name (
 
 -- ---- a step, then a step whose relation may be another
 
-then-along : (R Q : State → State → Type 0) {A B : Type 0} (s u : State) (r : Res A) (f : A → M B)
+pub then-along : (R Q : State → State → Type 0) {A B : Type 0} (s u : State) (r : Res A) (f : A → M B)
     → Along R s r → ((a : A) (t : State) → R s t → Along Q u (f a t)) → Along Q u (and-then r f)
 unfolding and-then
 then-along R Q s u (refused c p) f h k = tt
@@ -111,7 +111,7 @@ same-grows s = record { registers = le-refl _; outer = outer-same (s .outer) }
 pub chain-grows : {s t u : State} → Grows s t → Grows t u → Grows s u
 chain-grows {s} {t} {u} p q = record { registers = le-trans (p .registers) (q .registers); outer = outer-chain (s .outer) (t .outer) (u .outer) (p .outer) (q .outer) }
 
-if-along : (R : State → State → Type 0) {A : Type 0} (b : Bool) (m n : M A) (s t : State) → Along R s (m t) → Along R s (n t) → Along R s (if-then b m n t)
+pub if-along : (R : State → State → Type 0) {A : Type 0} (b : Bool) (m n : M A) (s t : State) → Along R s (m t) → Along R s (n t) → Along R s (if-then b m n t)
 unfolding if-then
 if-along R true m n s t h k = h
 if-along R false m n s t h k = k

@@ -73,7 +73,7 @@ module _ (R : State → State → Type 0) (K : Kept R) where
 
   -- ---- expressions
 
-  literal-keeps : (node : ℕ) (v : Constant) → Keeps R (visit-literal node v)
+  pub literal-keeps : (node : ℕ) (v : Constant) → Keeps R (visit-literal node v)
   unfolding visit-literal
   literal-keeps node v = bind (K .by-register node) λ r. bind (K .by-constant node v) λ k. by-pure _
 
@@ -95,7 +95,7 @@ module _ (R : State → State → Type 0) (K : Kept R) where
   local-keeps node x (some r) = by-pure _
   local-keeps node x none = bind (K .by-capture node _) λ i. captured-keeps node x i
 
-  variable-keeps : (node : ℕ) (x : Token) → Keeps R (visit-variable node x)
+  pub variable-keeps : (node : ℕ) (x : Token) → Keeps R (visit-variable node x)
   unfolding visit-variable get-var-register
   variable-keeps node x = bind (by-get _) λ r. local-keeps node x r
 
@@ -133,7 +133,7 @@ module _ (R : State → State → Type 0) (K : Kept R) where
 
   -- ---- functions
 
-  parameters-keep : (node : ℕ) (ps : List Token) → Keeps R (parameters node ps)
+  pub parameters-keep : (node : ℕ) (ps : List Token) → Keeps R (parameters node ps)
   unfolding parameters
   parameters-keep node [] = by-pure tt
   parameters-keep node (p ∷ ps) = bind (K .by-register node) λ r. next (K .by-allocate _ r) (parameters-keep node ps)
@@ -143,7 +143,7 @@ module _ (R : State → State → Type 0) (K : Kept R) where
   return-keeps node r [] = by-refuse _ node
   return-keeps node r (x ∷ xs) = by-pure _
 
-  close-keeps : (node : ℕ) (cs : List Chunk) → Keeps R (close-body node cs)
+  pub close-keeps : (node : ℕ) (cs : List Chunk) → Keeps R (close-body node cs)
   unfolding close-body
   close-keeps node [] = by-pure _
   close-keeps node (c ∷ []) = either _ (by-refuse _ node) (return-keeps node _ _)
@@ -158,11 +158,11 @@ module _ (R : State → State → Type 0) (K : Kept R) where
   function-keeps node ps h =
       bind (K .by-register node) λ r. bind (K .by-function node _ _ (bind (K .by-register node) λ t. next (parameters-keep node ps) (body-keeps node h))) λ i. by-pure _
 
-  define-keeps : (node : ℕ) (x : Token) (c : Chunk) → Keeps R (define-name node x c)
+  pub define-keeps : (node : ℕ) (x : Token) (c : Chunk) → Keeps R (define-name node x c)
   unfolding define-name is-global-context
   define-keeps node x c = bind (by-get _) λ g. either g (bind (K .by-constant node _) λ k. by-pure _) (next (K .by-allocate _ _) (by-pure c))
 
-  declare-keeps : (x : Token) → Keeps R (declare-name x)
+  pub declare-keeps : (x : Token) → Keeps R (declare-name x)
   unfolding declare-name is-global-context only-if
   declare-keeps x = bind (by-get _) λ g. either g (K .by-global _) (by-pure tt)
 
@@ -178,7 +178,7 @@ module _ (R : State → State → Type 0) (K : Kept R) where
 
   -- ---- statements
 
-  new-global-keeps : (node : ℕ) (x : Token) → Keeps R (new-global node x)
+  pub new-global-keeps : (node : ℕ) (x : Token) → Keeps R (new-global node x)
   unfolding new-global is-global-var
   new-global-keeps node x = bind (by-get _) λ known. either known (by-refuse _ node) (next (K .by-global _) (K .by-constant node _))
 
@@ -187,7 +187,7 @@ module _ (R : State → State → Type 0) (K : Kept R) where
   let-as-keeps node x h =
       bind (by-get _) λ g. either g (bind (new-global-keeps node x) λ k. bind h λ c. by-pure _) (bind h λ c. next (K .by-allocate _ _) (by-pure c))
 
-  let-only-keeps : (node : ℕ) (x : Token) → Keeps R (visit-let-only node x)
+  pub let-only-keeps : (node : ℕ) (x : Token) → Keeps R (visit-let-only node x)
   unfolding visit-let-only is-global-context
   let-only-keeps node x =
       bind (by-get _) λ g. either g (bind (new-global-keeps node x) λ k. bind (K .by-register node) λ r. by-pure _) (bind (K .by-register node) λ r. next (K .by-allocate _ _) (by-pure _))
@@ -209,7 +209,7 @@ module _ (R : State → State → Type 0) (K : Kept R) where
   each-keeps node mark element i [] = by-pure _
   each-keeps node mark element i (x ∷ xs) = bind (K .by-register node) λ r. next (K .by-allocate _ r) (bind (each-keeps node mark element (suc i) xs) λ more. by-pure _)
 
-  iterate-keeps : (node mark element collection counter : ℕ) (xs : List Token) → Keeps R (iterate node mark element collection counter xs)
+  pub iterate-keeps : (node mark element collection counter : ℕ) (xs : List Token) → Keeps R (iterate node mark element collection counter xs)
   unfolding iterate
   iterate-keeps node mark element collection counter [] = by-pure _
   iterate-keeps node mark element collection counter (x ∷ []) = next (K .by-allocate _ _) (by-pure _)
@@ -221,7 +221,7 @@ module _ (R : State → State → Type 0) (K : Kept R) where
       bind (K .by-register node) λ counter. bind (K .by-register node) λ size. bind (K .by-register node) λ condition. bind (K .by-register node) λ element.
       bind (K .by-constant node _) λ i. bind h λ c. bind (iterate-keeps node mark element _ counter xs) λ heads. bind (K .by-loop k) λ b. by-pure _
 
-  jump-keeps : (node kind mark : ℕ) → Keeps R (visit-jump node kind mark)
+  pub jump-keeps : (node kind mark : ℕ) → Keeps R (visit-jump node kind mark)
   unfolding visit-jump
   jump-keeps node kind mark = bind (by-get _) λ l. either _ (by-refuse _ node) (by-pure _)
 
@@ -229,7 +229,7 @@ module _ (R : State → State → Type 0) (K : Kept R) where
   unfolding visit-return
   return-value-keeps node mark h = bind h λ c. either _ (by-refuse _ node) (by-pure _)
 
-  return-none-keeps : (mark : ℕ) → Keeps R (visit-return-none mark)
+  pub return-none-keeps : (mark : ℕ) → Keeps R (visit-return-none mark)
   unfolding visit-return-none
   return-none-keeps mark = by-pure _
 
@@ -245,7 +245,7 @@ module _ (R : State → State → Type 0) (K : Kept R) where
   unfolding visit-try visit-catch
   try-keeps node x hb hc = bind hb λ b. bind (K .by-block (bind (K .by-register node) λ r. next (K .by-allocate _ r) (bind hc λ c. by-pure _))) λ code. by-pure _
 
-  super-keeps : (node : ℕ) (x : Token) (p : Super) → Keeps R (visit-super node x p)
+  pub super-keeps : (node : ℕ) (x : Token) (p : Super) → Keeps R (visit-super node x p)
   unfolding visit-super
   super-keeps node x no-super = bind (K .by-register node) λ r. by-pure _
   super-keeps node x (super n y) = variable-keeps n y

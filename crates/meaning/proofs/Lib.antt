@@ -2,6 +2,7 @@
 pub mod Computing
 pub mod Starred
 pub mod Examples
+pub mod VisitRows
 pub mod ImageRows
 pub mod WalkRows
 pub mod Lists
@@ -14,10 +15,13 @@ pub mod Reading
 pub mod Counting
 pub mod Accepted
 pub mod Weights
+pub mod Visits
 pub mod Keeps
 pub mod Grows
+pub mod Gains
 pub mod Imaged
 pub mod Safe
+pub mod Bounded
 pub mod Ranges
 pub mod Images
 pub mod Quick

@@ -4,7 +4,7 @@ use Prim.Native.Nat.{ℕ, _-_}
 use mathlib.Core.Path.{_≡_, refl}
 use mathlib.Core.List.{List, [], _∷_, _++_, map}
 use lib.ListN.{length, replicate}
-use Rattle.meaning.specs.Answer.{finished, outcome, answer, output}
+use Rattle.meaning.specs.Answer.{finished, outcome, answer, reply, output}
 use Rattle.meaning.specs.declared.Answer.{Answer}
 use Rattle.meaning.proofs.Computing.{computing}
 
@@ -214,3 +214,8 @@ cases =
 pub starred : map given cases ≡ map due cases
 unfolding computing
 starred = refl
+
+-- the visits of the same programs (document 02, E6), 0 where they are refused
+pub starred-visits : map (λ c. reply (bytes (c .tree)) (finished 0 (bytes (c .tree)) 20000 room) .visits) cases ≡ 1 ∷ 0 ∷ 3 ∷ 4 ∷ 6 ∷ 5 ∷ 4 ∷ 4 ∷ 4 ∷ 5 ∷ 0 ∷ 0 ∷ []
+unfolding computing
+starred-visits = refl

@@ -10,7 +10,9 @@ use Rattle.meaning.specs.Read.{read-program}
 use Rattle.meaning.specs.State.{Res, refused, done}
 use Rattle.meaning.specs.Lower.{lower-program}
 use Rattle.meaning.specs.Image.{image}
+use Rattle.meaning.specs.Visits.{visits-program}
 use Rattle.meaning.specs.declared.Answer.{Answer}
+use Rattle.meaning.specs.declared.Reply.{Reply}
 use Rattle.meaning.specs.declared.Cause.{Cause}
 use Rattle.meaning.specs.declared.Cause.the-variants.{Frame, Many, Shape, Tree, Depth, Work, Registers, Captures, Undefined, Redefined, Stray, Empty, Returned, Constants, Prototypes, Nesting, Long, Room, ImageFrame, ImageRule, Mode, Prototype, Decision, Order, ListRoom, Retired, Visits}
 use Rattle.meaning.specs.declared.Outcome.{Outcome}
@@ -78,6 +80,11 @@ outcome (stopped c place) = Refused c place
 abbrev pub answer : Outcome → Answer
 answer (Accepted n) = record { number = 0; place = 0; length = n }
 answer (Refused c place) = record { number = cause-number c; place = place; length = 0 }
+
+-- 02, E6, "Report the count beside the length": what a lowering answers; "a refusal has .. 0 for every number that later answers add"
+abbrev pub reply : (tree : List ℕ) → Finished → Reply
+reply tree (imaged bytes) = record { number = 0; place = 0; length = length bytes; visits = visits-program (read-program (fields tree)) }
+reply tree (stopped c place) = record { number = cause-number c; place = place; length = 0; visits = 0 }
 
 -- "the output is the image then zeros, or all zeros when refused"
 abbrev pub output : (room : ℕ) → Finished → List ℕ

@@ -10,6 +10,7 @@ pub mod Syntax
 pub mod Read
 pub mod At
 pub mod Weight
+pub mod Visits
 pub mod State
 pub mod Chunk
 pub mod Expressions

@@ -55,6 +55,14 @@ pub struct Answer {
     pub length: u64,
 }
 
+// What a lowering answers: the same, and how many nodes were visited (document 02, E6).
+pub struct Reply {
+    pub number: u64,
+    pub place: u64,
+    pub length: u64,
+    pub visits: u64,
+}
+
 // struct Instruction with its mark (struct InstSrc).
 pub struct Instruction {
     pub opcode: u8,

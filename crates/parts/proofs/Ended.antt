@@ -1,13 +1,13 @@
 -- A function is left, and calls in the scope around it follow. As on a line (Line.antt) the room that a call asks for and the cost of the whole add up, but the function's code is
 -- gone: what is used is measured from the words with the code cut off at `first`.
-use Prim.Native.Nat.{ℕ, _+_, _*_, _≤_}
-use mathlib.Core.Path.{refl, _∙_}
+use Prim.Native.Nat.{ℕ, _+_, _*_, _%_, _≤_}
+use mathlib.Core.Path.{refl, ap, _∙_}
 use mathlib.Core.List.{List}
 use native.Mathlib.Omega.{arith}
 use Rattle.forward.specs.Forward.{Config, Run}
 use Rattle.store.specs.declared.Step.{Step}
 use Rattle.store.specs.declared.Scope.{Scope}
-use Rattle.store.specs.Layout.{top}
+use Rattle.store.specs.Layout.{visited, top}
 use Rattle.store.specs.Store.{goes-on, while-going, Fine}
 use Rattle.store.specs.Promise.{Cost, both, live, Used, Leaf}
 use Rattle.store.proofs.Runs.{due, promised, kept-in}
@@ -43,7 +43,7 @@ module _ {first : ℕ} {w w1 : List ℕ} {p : Scope} {s s1 : Step} {u : Cost} (x
       }
     where
       again : Used w p (cut-step s first) w1 p s1 u → Used w p (cut-step s first) w1 p s1 v
-      again h = record { words = omega (arith, h .words, k .words); locals = omega (arith, h .locals, k .locals); names = omega (arith, h .names, k .names); registers = h .registers }
+      again h = record { words = omega (arith, h .words, k .words); locals = omega (arith, h .locals, k .locals); names = omega (arith, h .names, k .names); registers = h .registers; visits = h .visits ∙ ap (λ n. (visited w + n) % 4294967296) (k .visits) }
 
   -- what a call asks then
   pub owes-then : {a b e : ℕ} (a' b' e' : ℕ) → Owing w p (cut-step s first) a b e → Left a b e u a' b' e' → Owing w1 p s1 a' b' e'

@@ -84,9 +84,10 @@ pub record Within (u v : Cost) : Type 0 where
   pub locals : u .locals + v .locals-back ≤ v .locals + u .locals-back
   pub names : u .names + v .names-back ≤ v .names + u .names-back
   pub still : v .locals ≡ 0 → u .locals ≡ 0
+  pub visits : u .visits ≡ v .visits
 
 pub ends : {w w' : List ℕ} {p : Scope} {s r : Step} {a b e : ℕ} {u : Cost} {op : Config → Run} (v : Cost) → Line w p s a b e w' r u → Within u v → ((ps : List Proto) → run w' p r ps ≡ bind (run w p s ps) op) → Leaf w p s w' p r v op
-ends v x k h = record { moves = moves-by v (k .words) (k .locals) (k .names) (k .still) (x .moves); runs = h; image = x .image }
+ends v x k h = record { moves = moves-by v (k .words) (k .locals) (k .names) (k .still) (k .visits) (x .moves); runs = h; image = x .image }
 
 -- a line that ends with no call
 pub stays-put : (r : Run) → r ≡ bind r (sure (λ c. c))

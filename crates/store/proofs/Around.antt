@@ -7,6 +7,7 @@ use Rattle.store.specs.declared.Step.{Step}
 use Rattle.store.specs.declared.Scope.{Scope}
 use Rattle.store.specs.Store.{open-at, state-of, run, deeper, looped, Sound, Fine, Kept}
 use Rattle.store.specs.Promise.{Cost, nothing, boxed, Used, Moves, Leaf, Popped}
+use Rattle.store.proofs.Regions.{same-count}
 use Rattle.store.proofs.Runs.{due, promised, stays, ran, kept-refl}
 use Rattle.store.proofs.Compose.{moves-then, moves-by}
 use Rattle.store.proofs.Leaving.{left-moves}
@@ -20,7 +21,7 @@ use Rattle.forward.specs.Forward.{bind, fwd-unit}
 -- the words: entered, something inside, left
 pub block-around : {w w1 w2 w3 : List ℕ} {p : Scope} {s r : Step} {u : Cost} → Fine w p s → Kept w (deeper p) w1 → Moves w p s w1 (deeper p) s nothing → Moves w1 (deeper p) s w2 (deeper p) r u → Popped w2 p w3 → Moves w p s w3 p r (boxed u)
 block-around {p = p} {u = u} h k e m g =
-    moves-by (boxed u) (omega arith) (omega arith) (omega arith) (λ z. refl)
+    moves-by (boxed u) (omega arith) (omega arith) (omega arith) (λ z. refl) (omega arith)
     (left-moves (h .sound) (m .kept .edges (p .block) (omega arith) ∙ k .edges (p .block) (omega arith)) (moves-then refl (omega arith) (omega arith) e m) g)
 
 -- ---- loops: another scope, no code
@@ -50,7 +51,7 @@ loop-entered {w} {p} {s} h l =
             fine = fine-looped h l;
             kept = kept-refl w p;
             back = λ z. z;
-            used = promised (s .outcome) (λ z. record { words = omega arith; locals = omega arith; names = omega arith; registers = omega arith });
+            used = promised (s .outcome) (λ z. record { words = omega arith; locals = omega arith; names = omega arith; registers = omega arith; visits = same-count refl });
             longer = omega arith;
             still = λ z. refl;
           };
@@ -71,7 +72,7 @@ loop-left {w} p {s} h =
             fine = fine-unlooped p h;
             kept = kept-refl w (looped p);
             back = λ z. z;
-            used = promised (s .outcome) (λ z. record { words = omega arith; locals = omega arith; names = omega arith; registers = omega arith });
+            used = promised (s .outcome) (λ z. record { words = omega arith; locals = omega arith; names = omega arith; registers = omega arith; visits = same-count refl });
             longer = omega arith;
             still = λ z. refl;
           };
@@ -99,4 +100,4 @@ loop-around {w} {w'} p {s} {r} {u} h m =
     }
   where
     again : Used w (looped p) s w' (looped p) r u → Used w p s w' p r u
-    again i = record { words = i .words; locals = i .locals; names = i .names; registers = i .registers }
+    again i = record { words = i .words; locals = i .locals; names = i .names; registers = i .registers; visits = i .visits }

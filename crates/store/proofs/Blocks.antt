@@ -14,7 +14,7 @@ use Rattle.store.specs.Layout.{registers, first, edge, local-at, block, 
 use Rattle.store.specs.Store.{open-at, around, state-of, run, deeper, Linked, Sound, Fine, Kept}
 use Rattle.store.specs.Promise.{nothing, Used, Moves, Leaf}
 use Rattle.store.proofs.Tables.{span-more, span-none}
-use Rattle.store.proofs.Regions.{Same, same-part, locals-same, blocks-same, linked-same, constants-same, globals-same, code-same, around-by, open-by}
+use Rattle.store.proofs.Regions.{Same, same-part, same-count, locals-same, blocks-same, linked-same, constants-same, globals-same, code-same, around-by, open-by}
 use Rattle.store.proofs.Steady.{kept-by, taken-same}
 use Rattle.store.proofs.Runs.{due, promised, goes, stays, ran}
 use Rattle.meaning.specs.State.{Proto, done, and-then, _>>=_, get, set-current, with-blocks, enter-block}
@@ -134,7 +134,7 @@ module _ (w w' : List ℕ) (p : Scope) (s : Step) (fine : Fine w p s) (lim : p .
       used =
           let e = opened-top (fine .sound) lim g in
           let t = taken-same w w' (p .depth) (fine .sound .deep) frames in
-          record { words = omega arith; locals = omega arith; names = omega arith; registers = omega arith }
+          record { words = omega arith; locals = omega arith; names = omega arith; registers = omega arith; visits = same-count (frames .same 3077 (omega arith) (omega arith)) }
 
   block-open : p .depth ≤ 7 → open-at w' (p .nodes) (p .depth) (p .block + 1) (p .loops) ≡ with-blocks (open-at w (p .nodes) (p .depth) (p .block) (p .loops)) ([] ∷ span (block w (p .nodes)) (first w (p .depth)) (p .block))
   unfolding open-at

@@ -1,5 +1,5 @@
 -- How promises follow one another: what was used adds up, room is passed on, runs follow runs.
-use Prim.Native.Nat.{ℕ, zero, suc, _+_, _*_, _≤_, _<_, min}
+use Prim.Native.Nat.{ℕ, zero, suc, _+_, _*_, _%_, _≤_, _<_, min}
 use mathlib.Core.Path.{_≡_, refl, sym, ap, _∙_}
 use mathlib.Core.List.{List}
 use native.Mathlib.Omega.{arith}
@@ -7,10 +7,10 @@ use lib.ListN.{length, getD}
 use Rattle.store.specs.declared.Step.{Step}
 use Rattle.store.specs.declared.Scope.{Scope}
 use Rattle.store.specs.Table.{tab}
-use Rattle.store.specs.Layout.{inst-at}
+use Rattle.store.specs.Layout.{visited, inst-at}
 use Rattle.store.specs.Store.{run-by, run, open-at, state-of, config-of, refused-by, refused-step, with-result, result-limit, Image, Fine}
 use Rattle.store.specs.Promise.{Cost, both, nothing, taken, Roomy, Room, Used, Moves, Leaf, Tells, After, Does}
-use Rattle.store.proofs.Regions.{below-256}
+use Rattle.store.proofs.Regions.{below-256, same-count}
 use Rattle.store.proofs.Runs.{due, promised, kept-refl, kept-in, absorbed, image-same, image-none}
 use Rattle.store.proofs.Steady.{fine-step}
 use Rattle.store.proofs.Steps.{refused-moves, refused-again, refused-outcome}
@@ -33,6 +33,7 @@ used-then g h =
       locals = omega (arith, g .locals, h .locals);
       names = omega (arith, g .names, h .names);
       registers = omega (arith, g .registers, h .registers);
+      visits = omega (arith, g .visits, h .visits);
     }
 
 -- nothing happened yet
@@ -42,7 +43,7 @@ none-moved {w} {p} {s} h =
       fine = h;
       kept = kept-refl w p;
       back = λ g. g;
-      used = promised (s .outcome) (λ g. record { words = omega arith; locals = omega arith; names = omega arith; registers = omega arith });
+      used = promised (s .outcome) (λ g. record { words = omega arith; locals = omega arith; names = omega arith; registers = omega arith; visits = same-count refl });
       longer = omega arith;
       still = λ z. refl;
     }
@@ -60,13 +61,13 @@ moves-then {w} {w1} {w2} {p} {q} {t} {s} {s1} {s2} {u} {v} n d b g h =
     }
 
 -- the same cost, said with other numbers: what is used less what is given back is no less
-pub moves-by : {w w' : List ℕ} {p q : Scope} {s r : Step} {u : Cost} (v : Cost) → u .words + v .words-back ≤ v .words + u .words-back → u .locals + v .locals-back ≤ v .locals + u .locals-back → u .names + v .names-back ≤ v .names + u .names-back → (v .locals ≡ 0 → u .locals ≡ 0)
+pub moves-by : {w w' : List ℕ} {p q : Scope} {s r : Step} {u : Cost} (v : Cost) → u .words + v .words-back ≤ v .words + u .words-back → u .locals + v .locals-back ≤ v .locals + u .locals-back → u .names + v .names-back ≤ v .names + u .names-back → (v .locals ≡ 0 → u .locals ≡ 0) → u .visits ≡ v .visits
     → Moves w p s w' q r u → Moves w p s w' q r v
-moves-by {w} {w'} {p} {q} {s} {r} {u} v a b c z g =
+moves-by {w} {w'} {p} {q} {s} {r} {u} v a b c z y g =
     record { fine = g .fine; kept = g .kept; back = g .back; used = promised (r .outcome) (λ x. again (due (r .outcome) (g .used) x)); longer = g .longer; still = λ e. g .still (z e) }
   where
     again : Used w p s w' q r u → Used w p s w' q r v
-    again h = record { words = omega (arith, h .words); locals = omega (arith, h .locals); names = omega (arith, h .names); registers = h .registers }
+    again h = record { words = omega (arith, h .words); locals = omega (arith, h .locals); names = omega (arith, h .names); registers = h .registers; visits = h .visits ∙ ap (λ n. (visited w + n) % 4294967296) y }
 
 -- ---- room
 
@@ -147,7 +148,7 @@ settled {w} {p} s r small h =
             fine = fine-step (with-result s r) h (h .nested) (omega arith) (h .constants) (h .globals) refl (omega arith) (limit (s .outcome));
             kept = kept-refl w p;
             back = λ g. g;
-            used = promised (s .outcome) (λ g. record { words = omega arith; locals = omega arith; names = omega arith; registers = omega arith });
+            used = promised (s .outcome) (λ g. record { words = omega arith; locals = omega arith; names = omega arith; registers = omega arith; visits = same-count refl });
             longer = omega arith;
             still = λ z. refl;
           };

@@ -16,7 +16,7 @@ use Rattle.store.specs.Store.{open-at, around, state-of, run, goes-on, w
 use Rattle.store.specs.Promise.{nothing, taken, Moves, Leaf}
 use Rattle.store.specs.Opening.{Framed, Enters}
 use Rattle.store.proofs.Tables.{span-none}
-use Rattle.store.proofs.Regions.{constants-same, globals-same, code-same, captures-same, around-same, around-length, below-256}
+use Rattle.store.proofs.Regions.{same-count, constants-same, globals-same, code-same, captures-same, around-same, around-length, below-256}
 use Rattle.store.proofs.Steady.{taken-by}
 use Rattle.store.proofs.Runs.{promised, stays, ran, ran-out}
 use Rattle.store.proofs.Steps.{refused-outcome}
@@ -112,7 +112,7 @@ module _ (w w1 : List ℕ) (p : Scope) (s : Step) (name : ℕ) (fine : Fine w p 
         fine = record { sound = entered-sound; nested = nested; room = omega (arith, h .room); constants = h .constants; globals = h .globals; functions = h .functions; written = h .written; result = h .result };
         kept = entered-kept;
         back = back;
-        used = promised (r .outcome) (λ z. let t = taken-new in record { words = omega arith; locals = omega arith; names = omega arith; registers = omega arith });
+        used = promised (r .outcome) (λ z. let t = taken-new in record { words = omega arith; locals = omega arith; names = omega arith; registers = omega arith; visits = same-count (word 3077 (omega arith) (λ z. absurd (omega arith))) });
         longer = omega arith;
         still = λ z. e;
       }

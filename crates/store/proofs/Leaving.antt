@@ -1,7 +1,7 @@
 -- A block is left: its locals are popped, and what is left is the scope around it. Around a step: what the block's locals took is given back.
 use mathlib.Core.Path.{_≡_, refl, sym, ap, _∙_}
 use mathlib.Core.List.{List}
-use Prim.Native.Nat.{ℕ, suc, _+_, _*_, _<_, _≤_}
+use Prim.Native.Nat.{ℕ, suc, _+_, _*_, _%_, _<_, _≤_}
 use native.Mathlib.Omega.{arith}
 use native.Mathlib.Numerals.{add-one}
 use lib.ListN.{getD}
@@ -45,6 +45,9 @@ module _ {w w' : List ℕ} (p : Scope) (h : Sound w (deeper p)) (g : Popped w p 
   pub popped-taken : (d : ℕ) → d ≤ 8 → taken w' d ≡ taken w d
   popped-taken d l = taken-same w w' d l frames
 
+  pub popped-count : getD w' 3077 0 ≡ getD w 3077 0
+  popped-count = word 3077 (omega arith)
+
   -- the scope around is sound
   pub sound-left : ((j : ℕ) → j ≤ p .depth → first w j < p .block) → Sound w' p
   sound-left starts =
@@ -84,7 +87,7 @@ left-used {w} {w2} {w3} {p} h g d e i =
     let t = popped-taken p h g (p .depth) d in
     let a = popped-rises p h g in
     let b = popped-edge p h g (p .block) (omega arith) in
-    record { words = omega (arith, i .words); locals = omega (arith, i .registers); names = i .names; registers = omega (arith, i .registers) }
+    record { words = omega (arith, i .words); locals = omega (arith, i .registers); names = i .names; registers = omega (arith, i .registers); visits = ap (λ x. x % 4294967296) (popped-count p h g) ∙ i .visits }
 
 pub left-moves : {w w2 w3 : List ℕ} {p : Scope} {s r : Step} {u : Cost} → Sound w p → edge w2 (p .nodes) (p .block) ≡ edge w (p .nodes) (p .block) → Moves w p s w2 (deeper p) r u → Popped w2 p w3 → Moves w p s w3 p r (boxed u)
 left-moves {w} {w2} {w3} {p} {s} {r} {u} k e m g =

@@ -18,6 +18,7 @@ pub mod Pools
 pub mod Searching
 pub mod Shadows
 pub mod Upvalues
+pub mod Visiting
 pub mod Opening
 pub mod Functions
 pub mod Inside

@@ -16,7 +16,7 @@ use Rattle.store.specs.Store.{open-at, around, state-of, Leads, Linked, 
 use Rattle.store.specs.Promise.{a-local, Roomy, Used, Moves, Leaf, Latest, Unlinked}
 use Rattle.store.proofs.Tables.{span-more, span-ext}
 use Rattle.store.proofs.Halves.{half-same, half-other, half-apart, word-other, length-half}
-use Rattle.store.proofs.Regions.{Same, Locals, blocks-same, latest-same, leads-same, edges-below, constants-same, globals-same, code-same, around-by, open-by}
+use Rattle.store.proofs.Regions.{Same, same-count, Locals, blocks-same, latest-same, leads-same, edges-below, constants-same, globals-same, code-same, around-by, open-by}
 use Rattle.store.proofs.Steady.{kept-by, taken-same}
 use Rattle.store.proofs.Runs.{promised, ran}
 use Rattle.store.proofs.Compose.{taken-few}
@@ -260,7 +260,7 @@ module _ (w w' : List ℕ) (p : Scope) (s : Step) (l : Local) (fine : Fine w p s
       used =
           let t = taken-same w w' (p .depth) (omega arith) frames in
           let e = g .edge in
-          record { words = omega arith; locals = omega arith; names = omega arith; registers = omega arith }
+          record { words = omega arith; locals = omega arith; names = omega arith; registers = omega arith; visits = same-count (frames .same 3077 (omega arith) (omega arith)) }
 
   -- the blocks of a function
   own-blocks : (a : ℕ) → a < p .block → span (block w' (p .nodes)) a (p .block) ≡ with-local (span (block w (p .nodes)) a (p .block)) l

@@ -155,13 +155,22 @@ module _ (w w1 w2 w' : List ℕ) (n : ℕ) (some : 1 ≤ n) (few : n ≤ 32768) 
   unfolding run config-of state-of open-at around tab stack
   start-runs mode = rw (framed .name-is, framed .registers-none, framed .held-none, framed .first-is, start-blocks)
 
-  pub begun : Begun w n w'
-  begun =
+  -- the count of visits is not among these words
+  count : getD w' 3077 0 ≡ getD w 3077 0
+  count =
+      framed .other 3077 (λ z. omega arith)
+      ∙ ap (λ l. getD l 3077 0) edged
+      ∙ under (set w1 (5708 + n) 0) (5709 + n) 0 3077 (omega arith) (getD-set-other w1 (5708 + n) 3077 0 0 (omega arith) ∙ cleared .other 3077 (λ z. absurd (omega arith)))
+
+  -- the program's visit was counted before
+  pub begun : {w0 : List ℕ} → w ≡ set w0 3077 1 → Begun w0 n w'
+  begun {w0} e =
       record {
-        same = same;
-        offsets = λ i h. above i (omega arith) ∙ cleared .other i (λ z. h);
+        same = same ∙ ap length e ∙ length-set w0 3077 1;
+        offsets = λ i h. above i (omega arith) ∙ cleared .other i (λ z. h) ∙ ap (λ l. getD l i 0) e ∙ getD-set-other w0 3077 i 1 0 (omega arith);
         fine = start-fine;
         room = start-room;
         runs = start-runs;
         image = λ o. record { counted = refl; sized = refl; bytes = λ h. refl };
+        counts = ap (λ x. x % 4294967296) (count ∙ ap (λ l. getD l 3077 0) e ∙ getD-set-same w0 3077 1 0 (omega (arith, ap length e, length-set w0 3077 1)));
       }

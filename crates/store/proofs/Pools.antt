@@ -19,7 +19,7 @@ use Rattle.store.specs.Store.{open-at, around, state-of, global-scope, r
 use Rattle.store.specs.Promise.{a-constant, a-global, Moves, Leaf, Tells}
 use Rattle.store.proofs.Tables.{tab-suc, tab-length, stack-none, stack-suc, stack-ext, span-more, span-none}
 use Rattle.store.proofs.Halves.{length-half, word-other, half-same, half-other}
-use Rattle.store.proofs.Regions.{Same, Only, only-set, only-trans, only-wider, below, above, constants-same, globals-same, code-same}
+use Rattle.store.proofs.Regions.{Same, Only, only-set, only-trans, only-wider, below, above, same-count, constants-same, globals-same, code-same}
 use Rattle.store.proofs.Runs.{promised, ran, ran-out, image-same, image-none}
 use Rattle.store.proofs.Steady.{Clear, sound-apart, kept-apart, edge-apart, open-apart, around-apart, taken-apart, fine-words, fine-step}
 use Rattle.store.proofs.Steps.{refused-outcome, refused-moves}
@@ -121,7 +121,7 @@ module _ (w : List ℕ) (p : Scope) (s : Step) (fine : Fine w p s) (shallow : p 
           fine = fine-step (constant-more s) (fine-words fine (sound-apart (fine .sound) shallow only clear frames) e) (fine .nested) (omega arith) (omega (arith, few)) (omega (arith, fine .globals)) refl (omega arith) (rw on few);
           kept = kept-apart (fine .sound) shallow only clear frames;
           back = λ g. g;
-          used = promised (s .outcome) (λ g. record { words = omega arith; locals = omega arith; names = omega arith; registers = omega arith });
+          used = promised (s .outcome) (λ g. record { words = omega arith; locals = omega arith; names = omega arith; registers = omega arith; visits = same-count (frames .same 3077 (omega arith) (omega arith)) });
           longer = omega arith;
           still = λ z. e;
         }
@@ -180,7 +180,7 @@ module _ (w : List ℕ) (p : Scope) (s : Step) (fine : Fine w p s) (shallow : p 
         fine = fine-step (global-more s) (fine-words fine (sound-apart (fine .sound) shallow global-only global-clear global-frames) e) (fine .nested) (omega arith) (fine .constants) (omega arith) refl (omega arith) (fine .result);
         kept = kept-apart (fine .sound) shallow global-only global-clear global-frames;
         back = λ g. g;
-        used = promised (s .outcome) (λ g. record { words = omega arith; locals = omega arith; names = omega arith; registers = omega arith });
+        used = promised (s .outcome) (λ g. record { words = omega arith; locals = omega arith; names = omega arith; registers = omega arith; visits = same-count (global-frames .same 3077 (omega arith) (omega arith)) });
         longer = omega arith;
         still = λ z. e;
       }

@@ -156,7 +156,7 @@ module _ (w w' : List ℕ) where
 
 -- what the functions around function d are made of is the same
 pub record Alike (w w' : List ℕ) (n d : ℕ) : Type 0 where
-  pub frames : (j k : ℕ) → j < d → k < 8 → getD w' (3072 + 8 * j + k) 0 ≡ getD w (3072 + 8 * j + k) 0
+  pub frames : (j k : ℕ) → j < d → k < 5 → getD w' (3072 + 8 * j + k) 0 ≡ getD w (3072 + 8 * j + k) 0
   pub firsts : (j : ℕ) → j ≤ d → first w' j ≡ first w j
   pub saves : (j : ℕ) → j ≤ d → saved w' j ≡ saved w j
   pub captures : (j : ℕ) → j < d → Same w w' (3144 + 128 * j) (3144 + 128 * suc j)
@@ -175,6 +175,10 @@ less a =
 pub below-256 : (x : ℕ) → x % 256 < 256
 below-256 x = omega arith
 
+-- nothing was visited where the count stays
+pub same-count : {x y : ℕ} → y ≡ x → y % 4294967296 ≡ (x % 4294967296 + 0) % 4294967296
+same-count e = omega (arith, e)
+
 -- the words of frame d
 pub frame : (w : List ℕ) (d k i : ℕ) → 3072 + 8 * d + k ≡ i → getD w (3072 + 8 * d + k) 0 ≡ getD w i 0
 frame w d k i e = ap (λ x. getD w x 0) e
@@ -186,7 +190,7 @@ around-same w w' n (suc d) a =
     let f1 : first w' (suc d) ≡ first w (suc d) = a .firsts (suc d) (omega arith) in
     let s1 : saved w' (suc d) ≡ saved w (suc d) = a .saves (suc d) (omega arith) in
     let f0 : first w' d ≡ first w d = a .firsts d (omega arith) in
-    let word : (k i : ℕ) → 3072 + 8 * d + k ≡ i → k < 8 → getD w' i 0 ≡ getD w i 0 = λ k i e l. sym (frame w' d k i e) ∙ a .frames d k (omega arith) l ∙ frame w d k i e in
+    let word : (k i : ℕ) → 3072 + 8 * d + k ≡ i → k < 5 → getD w' i 0 ≡ getD w i 0 = λ k i e l. sym (frame w' d k i e) ∙ a .frames d k (omega arith) l ∙ frame w d k i e in
     let nm : getD w' (3072 + 8 * d) 0 ≡ getD w (3072 + 8 * d) 0 = word 0 (3072 + 8 * d) (omega arith) (omega arith) in
     let rg : getD w' (3073 + 8 * d) 0 ≡ getD w (3073 + 8 * d) 0 = word 1 (3073 + 8 * d) (omega arith) (omega arith) in
     let hd : getD w' (3074 + 8 * d) 0 ≡ getD w (3074 + 8 * d) 0 = word 2 (3074 + 8 * d) (omega arith) (omega arith) in

@@ -13,7 +13,7 @@ use Rattle.store.specs.Table.{tab}
 use Rattle.store.specs.Layout.{registers, first, held, edge, inst-at, top}
 use Rattle.store.specs.Store.{open-at, around, state-of, with-result, refused-step, Fine}
 use Rattle.store.specs.Promise.{some-registers, a-register, taken, Used, Moves, Leaf}
-use Rattle.store.proofs.Regions.{Only, below, above, constants-same, globals-same, code-same, captures-same, around-same, below-256}
+use Rattle.store.proofs.Regions.{Only, below, above, same-count, constants-same, globals-same, code-same, captures-same, around-same, below-256}
 use Rattle.store.proofs.Runs.{promised, ran, ran-out, image-same, image-none}
 use Rattle.store.proofs.Steady.{Clear, sound-clear, kept-clear, clear-edges, clear-blocks, fine-words, fine-step, taken-by}
 use Rattle.store.proofs.Steps.{refused-outcome, refused-moves}
@@ -118,7 +118,7 @@ module _ (w w' : List ℕ) (p : Scope) (s : Step) (v : ℕ) (fine : Fine w p s) 
       used =
           let t = taken-more (p .depth) refl in
           let e = edge-kept in
-          record { words = omega arith; locals = omega arith; names = omega arith; registers = omega arith }
+          record { words = omega arith; locals = omega arith; names = omega arith; registers = omega arith; visits = same-count (only .other 3077 (λ e. omega arith)) }
 
   registers-code : tab (inst-at w' (p .nodes)) (s .code) ≡ tab (inst-at w (p .nodes)) (s .code)
   registers-code = code-same w w' (p .nodes) (s .code) (omega (arith, fine .room)) (above (top (p .nodes) - 2 * s .code) (top (p .nodes)) (omega (arith, fine .room)) only)

@@ -12,7 +12,7 @@ use Rattle.store.specs.Layout.{first, edge}
 use Rattle.store.specs.Store.{open-at, around, state-of, config-of, refused-step, Fine, Kept}
 use Rattle.store.specs.Search.{option-of, search-of, Caught, Sought}
 use Rattle.store.specs.Promise.{nothing, Used, Moves, Told}
-use Rattle.store.proofs.Regions.{constants-same, globals-same, code-same, linked-same}
+use Rattle.store.proofs.Regions.{same-count, constants-same, globals-same, code-same, linked-same}
 use Rattle.store.proofs.Runs.{promised, goes, run-going, run-stopped, absorbed, image-none}
 use Rattle.store.proofs.Steady.{taken-by, sound-again, fine-words, fine-step}
 use Rattle.store.proofs.Steps.{refused-outcome}
@@ -70,7 +70,7 @@ module _ (w w' : List ℕ) (p : Scope) (s : Step) (fine : Fine w p s) (deep : p 
       used =
           let e = edge-kept (p .block) in
           let t = taken-by w w' (p .depth) (λ j l. ap (λ y. y % 256) (caught-registers caught j (omega arith))) in
-          record { words = omega arith; locals = omega arith; names = omega arith; registers = omega arith }
+          record { words = omega arith; locals = omega arith; names = omega arith; registers = omega arith; visits = same-count (caught .frames 0 5 (omega arith) (omega arith) (λ z. absurd (omega arith))) }
 
   -- where a capture was found, only the functions changed
   caught-state : (ps : List Proto) → state-of w' p s ps ≡ with-functions (state-of w p s ps) (open-at w' (p .nodes) (p .depth) (p .block) (p .loops)) (around w' (p .nodes) (p .depth))

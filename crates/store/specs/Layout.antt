@@ -2,7 +2,7 @@
 --
 --     from           words                 holds
 --     0              3,072                 constants: 1,024 of three words: kind, high word, low word
---     3,072          72                    frames: 9 of eight words: name, registers, captures held, first block, loops of the function around it
+--     3,072          72                    frames: 9 of eight words: name, registers, captures held, first block, loops of the function around it; of main's frame word 5: the visits so far
 --     3,144          1,024                 captures: 8 x 256 halves
 --     4,168          520                   globals: halves
 --     4,688          1,020 + n             registers of locals: halves
@@ -57,6 +57,12 @@ first w j = getD w (3075 + 8 * j) 0
 -- the open loops of the function around it, to which leaving it goes back
 abbrev pub saved : List ℕ → ℕ → ℕ
 saved w j = getD w (3076 + 8 * j) 0
+
+-- ---- visits (document 02, E6): word 5 of main's frame
+
+-- the nodes visited so far; it wraps at 32 bits, which no accepted tree reaches
+abbrev pub visited : List ℕ → ℕ
+visited w = getD w 3077 0 % 4294967296
 
 -- ---- captures: an index, or 256 and a register
 

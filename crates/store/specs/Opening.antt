@@ -5,7 +5,7 @@ use mathlib.Core.List.{List, []}
 use lib.ListN.{length, getD}
 use Rattle.store.specs.declared.Step.{Step}
 use Rattle.store.specs.declared.Scope.{Scope}
-use Rattle.store.specs.Layout.{name-of, registers, held, first, saved, edge}
+use Rattle.store.specs.Layout.{name-of, registers, held, first, saved, visited, edge}
 use Rattle.store.specs.Store.{run, main-scope, inner, first-step, Image, Fine}
 use Rattle.store.specs.Promise.{Room, nothing, Leaf}
 use Rattle.meaning.specs.Lower.{start}
@@ -36,6 +36,8 @@ pub record Begun (w : List ℕ) (n : ℕ) (w' : List ℕ) : Type 0 where
   pub room : (mode : ℕ) → Room w' (main-scope mode n) first-step n 0 0
   pub runs : (mode : ℕ) → run w' (main-scope mode n) first-step [] ≡ going (config [] 0 start)
   pub image : (o : List ℕ) → Image o first-step []
+  -- the program is visited
+  pub counts : visited w' ≡ 1
 
 -- a function inside p is entered: its scope is `inner p`; what p's scope needs when it is left again
 pub record Enters (w : List ℕ) (p : Scope) (s : Step) (w' : List ℕ) (r : Step) (node name : ℕ) : Type 0 where

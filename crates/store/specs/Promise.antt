@@ -1,18 +1,18 @@
 -- What the functions of the store promise: one equation each, over what their words stand for, and what they use up.
-use Prim.Native.Nat.{ℕ, zero, suc, _+_, _-_, _*_, _<_, _≤_, min}
+use Prim.Native.Nat.{ℕ, zero, suc, _+_, _-_, _*_, _%_, _<_, _≤_, min}
 use mathlib.Core.Path.{_≡_}
 use mathlib.Core.List.{List}
 use lib.ListN.{length, getD}
 use Rattle.store.specs.declared.Step.{Step}
 use Rattle.store.specs.declared.Scope.{Scope}
-use Rattle.store.specs.Layout.{registers, edge, local-at, top}
+use Rattle.store.specs.Layout.{registers, visited, edge, local-at, top}
 use Rattle.store.specs.Store.{run, goes-on, while-going, Image, Linked, Fine, Kept}
 use Rattle.meaning.specs.State.{Proto, M, next-register, allocate-register}
 use Rattle.forward.specs.Forward.{Config, Run, bind, fwd-number, fwd-unit, Answers}
 
--- ---- what a step uses up, and what it gives back: words for code and locals, locals, names of globals for which no constant stands yet
+-- ---- what a step uses up, and what it gives back: words for code and locals, locals, names of globals for which no constant stands yet; and how many nodes it visits
 
--- what is used up of each, then what is given back
+-- what is used up of each, then what is given back, then the visits
 pub record Cost : Type 0 where
   pub words : ℕ
   pub locals : ℕ
@@ -20,14 +20,19 @@ pub record Cost : Type 0 where
   pub words-back : ℕ
   pub locals-back : ℕ
   pub names-back : ℕ
+  pub visits : ℕ
 
 -- so much is used up, nothing given back
 abbrev pub uses : (words locals names : ℕ) → Cost
-uses a b c = record { words = a; locals = b; names = c; words-back = 0; locals-back = 0; names-back = 0 }
+uses a b c = record { words = a; locals = b; names = c; words-back = 0; locals-back = 0; names-back = 0; visits = 0 }
 
 -- so much is given back, nothing used up
 abbrev pub gives : (words locals names : ℕ) → Cost
-gives a b c = record { words = 0; locals = 0; names = 0; words-back = a; locals-back = b; names-back = c }
+gives a b c = record { words = 0; locals = 0; names = 0; words-back = a; locals-back = b; names-back = c; visits = 0 }
+
+-- so many words and locals are used up on so many visits
+abbrev pub takes : (words locals visits : ℕ) → Cost
+takes a b v = record { words = a; locals = b; names = 0; words-back = 0; locals-back = 0; names-back = 0; visits = v }
 
 -- a step that uses up nothing
 abbrev pub nothing : Cost
@@ -44,6 +49,10 @@ a-register = gives 3 1 0
 -- a local takes one word
 abbrev pub a-local : Cost
 a-local = uses 1 1 0
+
+-- one node is visited
+abbrev pub a-visit : Cost
+a-visit = takes 0 0 1
 
 -- a constant pays for the name of a global
 abbrev pub a-constant : Cost
@@ -63,6 +72,7 @@ both u v =
       words-back = u .words-back + v .words-back;
       locals-back = u .locals-back + v .locals-back;
       names-back = u .names-back + v .names-back;
+      visits = u .visits + v .visits;
     }
 
 -- ---- room, by a potential: registers pay three words each, nodes eight
@@ -96,6 +106,8 @@ pub record Used (w : List ℕ) (p : Scope) (s : Step) (w' : List ℕ) (q : Scope
   pub names : r .globals + s .constants + u .names-back ≤ s .globals + r .constants + u .names
   -- "Registers are taken upward per function and never given back"
   pub registers : taken w (p .depth) ≤ taken w' (q .depth)
+  -- each visit is counted, dropped passes too
+  pub visits : visited w' ≡ (visited w + u .visits) % 4294967296
 
 -- ---- the promises
 
@@ -139,6 +151,12 @@ pub record Does (w o : List ℕ) (p : Scope) (s : Step) (w' o' : List ℕ) (q : 
   pub same : length o' ≡ length o
   pub does : (ps : List Proto) → Image o s ps → After w' o' q r (bind (run w p s ps) op)
 
+-- one visit more is counted: nothing but the count changed
+pub record Ticked (w w' : List ℕ) : Type 0 where
+  pub same : length w' ≡ length w
+  pub counts : visited w' ≡ (visited w + 1) % 4294967296
+  pub other : (i : ℕ) → (i ≡ 3077 → ⊥) → getD w' i 0 ≡ getD w i 0
+
 -- the locals of the block inside p are popped: nothing but heads changed
 pub record Popped (w : List ℕ) (p : Scope) (w' : List ℕ) : Type 0 where
   pub same : length w' ≡ length w
@@ -159,7 +177,7 @@ pub record Unlinked (w : List ℕ) (p : Scope) (w' : List ℕ) : Type 0 where
 
 -- the cost of a step inside a block: its locals are given back
 abbrev pub boxed : Cost → Cost
-boxed u = record { words = u .words; locals = 0; names = u .names; words-back = u .words-back; locals-back = 0; names-back = u .names-back }
+boxed u = record { words = u .words; locals = 0; names = u .names; words-back = u .words-back; locals-back = 0; names-back = u .names-back; visits = u .visits }
 
 -- `parameters`, one of them: a register, and a local that names it
 abbrev pub a-parameter : (node name : ℕ) → Config → Run

@@ -12,6 +12,9 @@ pub const HELD: usize = 3074;
 // Word 3: its first block.
 pub const FIRSTS: usize = 3075;
 
+// Word 5 of main's frame: the nodes visited so far.
+pub const VISITS: usize = 3077;
+
 // Captures, in halves: 256 for each function.
 pub const CAPTURES: usize = 6288;
 

@@ -2,6 +2,7 @@
 mod block;
 mod capture;
 mod constant;
+mod count;
 mod function;
 mod global;
 mod half;
@@ -31,6 +32,8 @@ pub use local::get_var_register;
 pub use register::next_register;
 pub use register::next_registers;
 pub use start::begin;
+pub use count::visit;
+pub use count::visits;
 ghost use mathlib.Core.Path.{_≡_};
 ghost use Rattle.store.specs.Store.{refused-step, advanced, with-result};
 

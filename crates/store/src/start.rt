@@ -9,6 +9,7 @@ use crate::layout::EDGES;
 use crate::layout::NAMES;
 use crate::layout::OFFSETS;
 use crate::layout::TOP;
+use crate::layout::VISITS;
 
 // Where main's first block ends.
 const SECOND_EDGE: usize = EDGES + 1;
@@ -38,11 +39,12 @@ pub(crate) fn open_frame(work: &mut [u32], depth: usize, name: u32, block: u32, 
     work[at + 4] = loops;
 }
 
-// A fresh compiler: the main function with its first block, and no local in any bucket.
+// A fresh compiler: the main function with its first block, no local in any bucket, and the program's own visit.
 pub fn begin(work: &mut [u32], nodes: usize) -> Step
     requires { ⌜ (1 ≤ nodes) × (nodes ≤ 32768) × (12288 + 16 * nodes ≤ length (now work)) ⌝ }
     ensures { λ r. ⌜ (r ≡ first-step) × Begun (now (work .entry)) nodes (now (work .exit)) ⌝ }
 {
+    work[VISITS] = 1;
     zero(work, TOP + 10 * nodes, OFFSETS + 15 * nodes);
     work[EDGES + nodes] = 0;
     work[SECOND_EDGE + nodes] = 0;

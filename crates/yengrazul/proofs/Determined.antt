@@ -7,7 +7,7 @@ use Rattle.yengrazul.proofs.yengrazul_check.Reads as yengrazul-check
 use Rattle.yengrazul.proofs.yengrazul_read.Reads as yengrazul-read
 use Rattle.yengrazul.proofs.yengrazul_walk.Reads as yengrazul-walk
 
--- the three numbers, the work area, the output
+-- the four numbers, the work area, the output
 pub yengrazul-lower-determined : (κs : _) (args : _) (r r' : _) (s s' : _) → yengrazul-lower.Post κs args r s → yengrazul-lower.Post κs args r' s'
     → (now (s .1 .1 .1 .1 .0) ≡ now (s' .1 .1 .1 .1 .0)) × (now (s .1 .0) ≡ now (s' .1 .0)) × (now (s .1 .1 .0) ≡ now (s' .1 .1 .0))
 yengrazul-lower-determined κs args r r' s s' p q = (p .0 ∙ sym (q .0), p .1 .0 ∙ sym (q .1 .0), p .1 .1 ∙ sym (q .1 .1))

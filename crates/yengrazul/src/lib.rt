@@ -4,25 +4,30 @@ ghost use lib.ListN.{length, take};
 ghost use Rattle.meaning.specs.Fields.{fields};
 ghost use Rattle.meaning.specs.Check.{checked};
 ghost use Rattle.meaning.specs.Reader.{read-as, read-outcome};
-ghost use Rattle.meaning.specs.Answer.{finished, outcome, answer as answer-to, output, work-area};
+ghost use Rattle.meaning.specs.Answer.{finished, answer as answer-to, reply, output, work-area};
 ghost use Rattle.meaning.specs.Walker.{walk-image, walk-answer, lent-bytes};
-ghost use Rattle.yengrazul.specs.Told.{told, walk-told};
+ghost use Rattle.yengrazul.specs.Told.{told, told-reply, walk-told};
 
-// `lower`: number, place and length.
+// `lower`: number, place, length and visits.
 #[no_mangle]
 pub extern "C" fn yengrazul_lower(
     tree: &[u8],
     work: &mut [u32],
     out: &mut [u8],
     mode: u64,
-    answer: &mut [u64; 3],
+    answer: &mut [u64; 4],
 )
-    ensures answered { λ _. ⌜ now (answer .exit) ≡ told (answer-to (outcome (finished mode (now (tree .entry)) (length (now (work .entry))) (length (now (out .entry)))))) ⌝ }
+    ensures answered { λ _. ⌜ now (answer .exit) ≡ told-reply (reply (now (tree .entry)) (finished mode (now (tree .entry)) (length (now (work .entry))) (length (now (out .entry))))) ⌝ }
     ensures cleared { λ _. ⌜ now (work .exit) ≡ work-area (length (now (work .entry))) ⌝ }
     ensures written { λ _. ⌜ now (out .exit) ≡ output (length (now (out .entry))) (finished mode (now (tree .entry)) (length (now (work .entry))) (length (now (out .entry)))) ⌝ }
 {
     let lowered = lower::lower(tree, work, out, mode);
-    *answer = [lowered.number, lowered.place, lowered.length];
+    *answer = [
+        lowered.number,
+        lowered.place,
+        lowered.length,
+        lowered.visits,
+    ];
 }
 
 // `tree::check`: number, place, and as length the number of nodes.

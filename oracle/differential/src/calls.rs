@@ -1,13 +1,15 @@
 //! One call of each function, with everything that must hold afterwards.
 use crate::lent::Lent;
+use files::tree::fields;
 use oracle::facts;
 use oracle::judge::Refusal;
 use oracle::limits::Asked;
 use oracle::modes;
 use oracle::reading;
 use oracle::rng::Rng;
+use oracle::visits;
 
-/// `yengrazul_lower`: tree, work area, output, the mode, and the answer's three numbers.
+/// `yengrazul_lower`: tree, work area, output, the mode, and the answer's four numbers.
 pub type Lower = unsafe extern "C" fn(*const u8, usize, *mut u32, usize, *mut u8, usize, u64, *mut u64);
 
 /// `yengrazul_check`: tree, how many words the work area has, and the answer's three numbers.
@@ -24,7 +26,7 @@ pub fn lower(function: Lower, asked: &Asked, rng: &mut Rng) -> Result<(), Fault>
     let tree = Lent::holding(rng, &asked.tree);
     let mut work: Lent<u32> = Lent::noise(rng, asked.work as usize);
     let mut out: Lent<u8> = Lent::noise(rng, asked.room as usize);
-    let mut answer: Lent<u64> = Lent::noise(rng, 3);
+    let mut answer: Lent<u64> = Lent::noise(rng, 4);
     let (t, w, o) = (tree.slice(), work.slice_mut(), out.slice_mut());
     unsafe { call(function, t, w, o, asked.mode, answer.slice_mut()) };
     same_numbers(answer.slice(), asked.answer.numbers())?;
@@ -38,6 +40,8 @@ pub fn lower(function: Lower, asked: &Asked, rng: &mut Rng) -> Result<(), Fault>
     holds(rest.iter().all(|byte| *byte == 0), "the output behind the image is not all zero")?;
     if asked.answer.number == 0 {
         facts::check_bytes(image).map_err(|fault| format!("demand 3: {fault}"))?;
+        let nodes = fields(&asked.tree).map_err(|k| format!("field {k} of an accepted tree is cut"))?;
+        visits::bounded(&nodes, answer.slice()[3])?;
     }
     Ok(())
 }
@@ -49,7 +53,7 @@ unsafe fn call(function: Lower, tree: &[u8], work: &mut [u32], out: &mut [u8], m
 
 /// What both modes share, of a question in mode 0 or 1 that `lower` has found nothing wrong with.
 pub fn both_modes(function: Lower, asked: &Asked) -> Result<(), Fault> {
-    let (mut work, mut answer) = (vec![0; asked.work as usize], [0; 3]);
+    let (mut work, mut answer) = (vec![0; asked.work as usize], [0; 4]);
     let mut image_of = |tree: &[u8], mode: u64| {
         let mut out = vec![0; asked.room as usize];
         unsafe { call(function, tree, &mut work, &mut out, mode, &mut answer) };

@@ -24,6 +24,7 @@ fn plan(words: &[String]) -> Result<Plan, String> {
         random: 100_000,
         damaged: 20_000,
         meeting: 4_000,
+        minuses: 400,
         no_modes: 4_000,
         images: 150_000,
         fixed: true,
@@ -45,6 +46,7 @@ fn plan(words: &[String]) -> Result<Plan, String> {
             ("--random", _) => plan.random = number()?,
             ("--damaged", _) => plan.damaged = number()?,
             ("--meeting", _) => plan.meeting = number()?,
+            ("--minuses", _) => plan.minuses = number()?,
             ("--no-modes", _) => plan.no_modes = number()?,
             ("--mode", "0") => plan.modes = &[0],
             ("--mode", "1") => plan.modes = &[1],
@@ -77,8 +79,10 @@ fn report(plan: &Plan) -> ExitCode {
     let names: Vec<&str> = names.iter().filter(|(_, is)| *is).map(|(name, _)| *name).collect();
     println!("seed {}, against {}", plan.seed, names.join(" and "));
     if plan.lower.is_some() || plan.check.is_some() {
-        let Plan { random, damaged, meeting, .. } = plan;
-        println!("{random} random and {damaged} damaged trees, {meeting} where limits meet, limits and shapes");
+        let Plan { random, damaged, meeting, minuses, .. } = plan;
+        println!(
+            "{random} random and {damaged} damaged trees, {meeting} where limits meet, {minuses} of Minuses, limits and shapes"
+        );
     }
     if plan.lower.is_some() {
         println!("each in modes {:?}, and {} calls in modes that are none", plan.modes, plan.no_modes);

@@ -20,6 +20,8 @@ pub struct Plan {
     pub damaged: u64,
     /// In each mode, the same trees.
     pub meeting: u64,
+    /// In each mode, the same trees.
+    pub minuses: u64,
     /// Calls in modes that are none.
     pub no_modes: u64,
     /// Random and damaged images for the reader; where there are none, the fixed ones are not asked either.
@@ -49,6 +51,7 @@ impl Plan {
             random: 0,
             damaged: 0,
             meeting: 0,
+            minuses: 0,
             no_modes: 0,
             images: 0,
             fixed: false,
@@ -162,6 +165,7 @@ impl Fixed {
             "modes" => questions::no_mode(plan.seed, t.k),
             "damaged" => questions::damaged(plan.seed, t.k, t.mode),
             "meeting" => questions::meeting(plan.seed, t.k, t.mode),
+            "minuses" => questions::minuses(plan.seed, t.k, t.mode),
             "random" => questions::random(plan.seed, t.k, t.mode),
             "fixed images" => return Asks::Image(self.images[t.k as usize].clone()),
             "images" => return Asks::Image(images::random::any(plan.seed, t.k)),
@@ -199,6 +203,7 @@ impl Plan {
             Row { kind: "modes", modes: &[0], count: no_modes },
             Row { kind: "damaged", modes, count: self.damaged },
             Row { kind: "meeting", modes, count: self.meeting },
+            Row { kind: "minuses", modes, count: self.minuses },
             Row { kind: "random", modes, count: self.random },
             Row { kind: "fixed images", modes: &[0], count: fixed.images.len() as u64 },
             Row { kind: "images", modes: &[0], count: images },
@@ -257,7 +262,7 @@ fn ask(plan: &Plan, turn: &Turn, question: Question, rng: &mut Rng, report: &mut
         let asked = question.ask();
         number = Some(asked.answer.number);
         let mut right = calls::lower(function, &asked, rng);
-        if turn.kind == "random" {
+        if turn.kind == "random" || turn.kind == "minuses" {
             right = right.and_then(|()| calls::both_modes(function, &asked));
         }
         if let Some(read) = plan.read.filter(|_| asked.answer.number == 0) {

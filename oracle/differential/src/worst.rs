@@ -3,12 +3,14 @@ use differential::calls::{Lower, Read};
 use differential::lent::Lent;
 use differential::linked::{self, Library};
 use differential::stack::{Stack, Took};
+use files::tree::fields;
 use oracle::images::build::Edge;
 use oracle::images::costly;
 use oracle::judge::work_for;
 use oracle::rng::Rng;
 use oracle::trees::costly::Worst;
 use oracle::trees::worst::worst;
+use oracle::visits;
 use std::process::ExitCode;
 
 /// Seconds of the processor that a call may take: the least of so many calls, since other work on the machine only adds to them.
@@ -96,21 +98,32 @@ fn in_stack(took: &Took, name: &str) -> Result<(), String> {
     }
 }
 
+/// These trees are too costly for the traced source: visits by the rule, 0 in a refusal.
+fn visits_due(w: &Worst, tree: &[u8]) -> u64 {
+    match w.due {
+        0 => visits::by_rule(&fields(tree).expect("a tree of whole fields")),
+        _ => 0,
+    }
+}
+
 /// The call, on noise; then the number, the words and the bytes that must be zero, the guards.
 fn call(function: Lower, w: &Worst, stack: &mut Stack, rng: &mut Rng) -> (Took, Result<(), String>) {
     let tree = Lent::holding(rng, &w.file());
     let mut work: Lent<u32> = Lent::noise(rng, work_for(w.tree.size()) as usize);
     let mut out: Lent<u8> = Lent::noise(rng, w.room);
-    let mut answer: Lent<u64> = Lent::noise(rng, 3);
+    let mut answer: Lent<u64> = Lent::noise(rng, 4);
     let (t, words, bytes, told) = (tree.slice(), work.slice_mut(), out.slice_mut(), answer.slice_mut());
     let took = stack.run(|| unsafe {
         let (w, b) = (words.as_mut_ptr(), bytes.as_mut_ptr());
         function(t.as_ptr(), t.len(), w, words.len(), b, bytes.len(), 0, told.as_mut_ptr())
     });
-    let (number, length) = (answer.slice()[0], answer.slice()[2] as usize);
+    let (number, length, visits) = (answer.slice()[0], answer.slice()[2] as usize, answer.slice()[3]);
     let guarded = tree.is_guarded() && work.is_guarded() && out.is_guarded() && answer.is_guarded();
     let verdict = match () {
         _ if number != u64::from(w.due) => Err(format!("number {number} where {} is due", w.due)),
+        _ if visits != visits_due(w, tree.slice()) => {
+            Err(format!("{visits} visits where {} are due", visits_due(w, tree.slice())))
+        }
         _ if !guarded => Err("a guard word was written to".into()),
         _ if work.slice().iter().any(|word| *word != 0) => Err("the work area is not all zero".into()),
         _ if out.slice()[length..].iter().any(|byte| *byte != 0) => {

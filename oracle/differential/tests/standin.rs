@@ -1,7 +1,7 @@
 //! The runner finds nothing wrong with a right library, and finds each of these wrong ones.
 use differential::calls::{Check, Lower};
 use differential::run::{run, Plan, Report};
-use files::tree::fields;
+use files::tree::{fields, Field};
 use standin::{yengrazul_check, yengrazul_lower};
 use std::slice::{from_raw_parts, from_raw_parts_mut};
 
@@ -16,7 +16,7 @@ fn plan(lower: Option<Lower>, check: Option<Check>, random: u64, meeting: u64, f
 
 #[test]
 fn a_right_library() {
-    let report = runs(Some(yengrazul_lower), Some(yengrazul_check), 1500, 200, true);
+    let report = run(&Plan { minuses: 60, ..plan(Some(yengrazul_lower), Some(yengrazul_check), 1500, 200, true) });
     assert_eq!(report.differences, Vec::<String>::new());
     assert!(report.total() > 18_000, "{}", report.total());
     assert!((0..=18).chain([21]).all(|n| report.by_number[n] > 0), "{:?}", report.by_number);
@@ -54,7 +54,7 @@ macro_rules! wrong {
                 #[allow(unused_variables)]
                 let ($tree, $work) = (from_raw_parts_mut(t as *mut u8, tn), from_raw_parts_mut(w, wn));
                 #[allow(unused_variables)]
-                let ($out, $answer) = (from_raw_parts_mut(o, on), from_raw_parts_mut(a, 3));
+                let ($out, $answer) = (from_raw_parts_mut(o, on), from_raw_parts_mut(a, 4));
                 $harm
             }
             let report = runs(Some(wrong), None, 400, 0, false);
@@ -92,7 +92,69 @@ wrong!(the_tree, |tree, work, out, answer| if tree.len() > 400 {
 });
 wrong!(behind_the_output, |tree, work, out, answer| *out.as_mut_ptr().add(out.len()) ^= 1);
 wrong!(before_the_work_area, |tree, work, out, answer| *work.as_mut_ptr().sub(1) ^= 1);
-wrong!(behind_the_answer, |tree, work, out, answer| *answer.as_mut_ptr().add(3) ^= 1);
+wrong!(behind_the_answer, |tree, work, out, answer| *answer.as_mut_ptr().add(4) ^= 1);
+
+// visits: the rule's edges, and a count where there is none
+wrong!(visits_off, |tree, work, out, answer| if answer[0] == 0 {
+    answer[3] += 1
+});
+wrong!(visits_when_refused, |tree, work, out, answer| if answer[0] > 0 {
+    answer[3] = 1
+});
+wrong!(visits_when_there_is_no_room, |tree, work, out, answer| if answer[0] == 18 {
+    answer[3] = 1
+});
+wrong!(the_program_not_counted, |tree, work, out, answer| if answer[0] == 0 {
+    answer[3] -= 1
+});
+wrong!(every_node_counted_once, |tree, work, out, answer| if answer[0] == 0 {
+    answer[3] = fields(tree).unwrap().len() as u64
+});
+wrong!(a_folded_number_counted, |tree, work, out, answer| if answer[0] == 0 {
+    answer[3] = answer[3].max(fields(tree).unwrap().len() as u64)
+});
+wrong!(a_dropped_pass_not_counted, |tree, work, out, answer| if answer[0] == 0 {
+    answer[3] = answer[3].min(fields(tree).unwrap().len() as u64)
+});
+wrong!(elifs_not_counted, |tree, work, out, answer| answer[3] -= answer[3].min(tagged(tree, 0x1A)));
+wrong!(methods_not_counted, |tree, work, out, answer| answer[3] -= answer[3].min(listed_by_classes(tree)));
+wrong!(an_initializer_not_counted, |tree, work, out, answer| answer[3] -= answer[3].min(initializers(tree)));
+
+/// How many nodes of a tag stand in a tree.
+fn tagged(tree: &[u8], tag: u8) -> u64 {
+    fields(tree).map_or(0, |all| all.iter().filter(|f| f.tag == tag).count() as u64)
+}
+
+/// The superclass and the methods of every class.
+fn listed_by_classes(tree: &[u8]) -> u64 {
+    let listed = |words: Vec<u16>| words.len() as u64 - 4 + u64::from(words.get(2) != Some(&65_535));
+    fields(tree)
+        .map_or(0, |all| all.iter().filter(|f| f.tag == 0x1D && f.payload.len() >= 8).map(|f| listed(f.words())).sum())
+}
+
+fn initializers(tree: &[u8]) -> u64 {
+    let has = |f: &&Field| f.tag == 0x14 && f.payload.len() == 10 && f.word(1) != 65_535;
+    fields(tree).map_or(0, |all| all.iter().filter(has).count() as u64)
+}
+
+#[test]
+fn visits_of_sixteen_bits() {
+    unsafe extern "C" fn cut(
+        t: *const u8,
+        tn: usize,
+        w: *mut u32,
+        wn: usize,
+        o: *mut u8,
+        on: usize,
+        mode: u64,
+        a: *mut u64,
+    ) {
+        yengrazul_lower(t, tn, w, wn, o, on, mode, a);
+        *a.add(3) %= 65_536;
+    }
+    let report = run(&Plan { minuses: 400, lower: Some(cut), ..Plan::nothing(5) });
+    assert!(!report.differences.is_empty());
+}
 
 // modes: mixed up, cut to fewer bits, and calls that are not refused, or with another number or place
 wrong!(mode_0_for_1, |mode| if mode == 1 { 0 } else { mode }, |tree, work, out, answer, mode| ());
@@ -152,7 +214,7 @@ unsafe extern "C" fn turned<const FIRST: u8, const THEN: u8, const TAG: u8>(
     a: *mut u64,
 ) {
     yengrazul_lower(t, tn, w, wn, o, on, mode, a);
-    let answer = from_raw_parts_mut(a, 3);
+    let answer = from_raw_parts_mut(a, 4);
     if answer[0] == u64::from(FIRST) {
         let nodes = fields(from_raw_parts(t, tn)).expect("a refused tree is whole");
         let there = TAG == 0 || nodes[answer[1] as usize].tag == TAG;

@@ -1,4 +1,4 @@
-//! Lines for comparing with the definition: `mode tree work room number place length image`, bytes in hexadecimal, `-` for none.
+//! Lines for comparing with the definition: `mode tree work room number place length visits image`, bytes in hexadecimal, `-` for none.
 use crate::limits::{ask_in, cases, Asked, Room, Work};
 use crate::questions;
 use crate::rng::Rng;

@@ -66,9 +66,14 @@ fn shape(nodes: &[Field]) -> Result<Vec<Vec<usize>>, Refusal> {
     Ok(all)
 }
 
+/// The children of each node of a checked tree, absent ones left out.
+pub fn children_of(nodes: &[Field]) -> Vec<Vec<usize>> {
+    shape(nodes).expect("a checked tree")
+}
+
 /// How many functions are open at once in a checked tree, main counted.
 pub fn open_functions(nodes: &[Field]) -> usize {
-    let children = shape(nodes).expect("a checked tree");
+    let children = children_of(nodes);
     let mut open = vec![1; nodes.len()];
     for (i, node) in nodes.iter().enumerate().rev() {
         open[i] += usize::from(matches!(node.tag, 0x09 | 0x1C));

@@ -14,5 +14,6 @@ pub mod reading;
 pub mod rng;
 pub mod sample;
 pub mod trees;
+pub mod visits;
 pub mod walking;
 pub mod walks;

@@ -124,11 +124,12 @@ fn generate(kind: &str, o: &Options) -> Done {
         "small" => of_seed(questions::small),
         "damaged" => of_seed(questions::damaged),
         "meeting" => of_seed(questions::meeting),
+        "minuses" => of_seed(questions::minuses),
         "limits" => in_mode(questions::limits()),
         "shapes" => in_mode(questions::shapes()),
         "modes" if o.mode.is_none() => (0..o.count).map(|k| questions::no_mode(o.seed, k)).collect(),
         other => {
-            let kinds = "random, small, damaged, meeting, limits, shapes, or modes without --mode";
+            let kinds = "random, small, damaged, meeting, minuses, limits, shapes, or modes without --mode";
             return Err(format!("no kind {other}: {kinds}"));
         }
     };

@@ -1,5 +1,4 @@
 //! The packed file of answers: plain numbers, most significant byte first, nothing compressed. crates/lower_replay/README.md has the layout.
-use crate::answer::Answer;
 use crate::limits::Asked;
 use crate::trees::pack::rule_of;
 use crate::trees::rule::{Part, Rule};
@@ -15,7 +14,8 @@ pub struct Packed {
     pub tree_length: u32,
     pub work: u32,
     pub room: u32,
-    pub answer: Answer,
+    /// Number, place and length; the visits are not packed.
+    pub told: [u32; 3],
     pub checksum: u32,
     /// The image, or nothing where it is longer than `SHOWN`.
     pub image: Vec<u8>,
@@ -31,7 +31,7 @@ impl Packed {
             tree_length: asked.tree.len() as u32,
             work: asked.work.try_into().expect("32 bits of work words"),
             room: asked.room.try_into().expect("32 bits of room"),
-            answer: asked.answer,
+            told: [asked.answer.number.into(), asked.answer.place as u32, asked.answer.length as u32],
             checksum: checksum(&asked.image),
             image: if asked.image.len() > SHOWN { vec![] } else { asked.image.clone() },
         }
@@ -56,9 +56,8 @@ pub fn write(cases: &[Packed]) -> Vec<u8> {
     for case in cases {
         out.extend(case.mode.to_be_bytes());
         write_rule(&mut out, &case.rule);
-        let a = case.answer;
-        let numbers =
-            [case.tree_length, case.work, case.room, a.number.into(), a.place as u32, a.length as u32, case.checksum];
+        let [number, place, length] = case.told;
+        let numbers = [case.tree_length, case.work, case.room, number, place, length, case.checksum];
         numbers.iter().for_each(|n| long(&mut out, *n));
         long(&mut out, case.image.len() as u32);
         out.extend(&case.image);
@@ -130,11 +129,10 @@ impl Reader<'_> {
         let mode = self.whole()?;
         let rule = Rule((0..self.short()?).map(|_| self.part()).collect::<Option<_>>()?);
         let [tree_length, work, room] = [self.long()?, self.long()?, self.long()?];
-        let [number, place, length] = [self.long()?, self.long()?, self.long()?];
+        let told = [self.long()?, self.long()?, self.long()?];
         let checksum = self.long()?;
         let shown = self.long()?;
         let image = self.take(shown as usize)?.to_vec();
-        let answer = Answer { number: number as u8, place: place.into(), length: length.into() };
-        Some(Packed { mode, rule, tree_length, work, room, answer, checksum, image })
+        Some(Packed { mode, rule, tree_length, work, room, told, checksum, image })
     }
 }

@@ -3,7 +3,7 @@ use crate::limits::{self, ask_in, Asked, Room, Work};
 use crate::rng::Rng;
 use crate::trees::build::Node;
 use crate::trees::order::{file, Order};
-use crate::trees::{crowd, damage, meet, random};
+use crate::trees::{crowd, damage, meet, minuses, random};
 
 /// A mode and a file, and what is lent with it.
 #[derive(Clone)]
@@ -36,6 +36,14 @@ pub fn random(seed: u64, k: u64, mode: u64) -> Question {
 pub fn meeting(seed: u64, k: u64, mode: u64) -> Question {
     let mut rng = Rng::for_case(seed, k);
     let program = meet::any(&mut rng);
+    let tree = numbered(&mut rng, &program);
+    lent(&mut rng, tree).in_mode(mode)
+}
+
+/// Numerals on the left of Minus within each other, to the limits, the same in both modes.
+pub fn minuses(seed: u64, k: u64, mode: u64) -> Question {
+    let mut rng = Rng::for_case(seed ^ 0x006D_696E_7573, k);
+    let program = minuses::any(&mut rng);
     let tree = numbered(&mut rng, &program);
     lent(&mut rng, tree).in_mode(mode)
 }

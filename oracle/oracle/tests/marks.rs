@@ -48,7 +48,7 @@ fn names_0_to_8_are_builtins() {
         assert_eq!(image.constants, [Constant::Text(name)]);
     }
     let unknown = ask(post(&program(vec![expression(variable((9, 5)))])), Work::Exact, Room::Exact);
-    assert_eq!(unknown.answer.numbers(), [9, 0, 0]);
+    assert_eq!(unknown.answer.numbers(), [9, 0, 0, 0]);
 }
 
 #[test]

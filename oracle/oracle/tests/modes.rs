@@ -252,13 +252,13 @@ fn other_modes_are_refused_before_anything() {
         for tree in trees {
             for (work, room) in [(0, 0), (0, 1000), (1_000_000, 0), (1_000_000, 1000)] {
                 let (answer, image) = answer(tree, mode, work, room);
-                assert_eq!((answer.numbers(), image.len()), ([21, 0, 0], 0), "mode {mode}");
+                assert_eq!((answer.numbers(), image.len()), ([21, 0, 0, 0], 0), "mode {mode}");
             }
         }
     }
     for mode in [0, 1] {
         assert_eq!(answer(&continues, mode, 1_000_000, 1000).0.number, 0);
-        assert_eq!(answer(&broken, mode, 0, 0).0.numbers(), [1, 0, 0]);
+        assert_eq!(answer(&broken, mode, 0, 0).0.numbers(), [1, 0, 0, 0]);
     }
 }
 
@@ -268,7 +268,7 @@ fn the_questions_of_no_mode() {
     let (mut empty, mut lent_nothing, mut low) = (0, 0, 0);
     for k in 0..2000 {
         let asked = questions::no_mode(5, k).ask();
-        assert_eq!(asked.answer.numbers(), [21, 0, 0]);
+        assert_eq!(asked.answer.numbers(), [21, 0, 0, 0]);
         empty += u32::from(asked.tree.is_empty());
         lent_nothing += u32::from(asked.work == 0 && asked.room == 0);
         low += u32::from(asked.mode as u32 <= 1);

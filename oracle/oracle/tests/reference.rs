@@ -37,7 +37,7 @@ fn one(x: f64) -> Constant {
 fn program_1_by_its_bytes() {
     let due = [0x41, 0, 0x0A, 0xFF, 0xFF, 0, 0, 0, 0, 0, 0, 0, 1, 0x43, 0, 6, 0x14, 0, 0, 0, 0xFF, 0xFF];
     let (answer, image) = answer(&[0x1E, 0, 0], 0, 12_288 + 16, 22);
-    assert_eq!(answer.numbers(), [0, 0, 22]);
+    assert_eq!(answer.numbers(), [0, 0, 22, 1]);
     assert_eq!(image, due);
 }
 

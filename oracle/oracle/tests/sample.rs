@@ -21,8 +21,8 @@ fn the_sample_is_of_every_kind() {
     assert!(cases.len() >= 300);
     let (mut numbers, mut tags) = ([[0; 22]; 2], [0; 256]);
     for case in &cases {
-        numbers[usize::from(case.mode == 1)][usize::from(case.answer.number)] += 1;
-        if case.answer.number == 0 {
+        numbers[usize::from(case.mode == 1)][case.told[0] as usize] += 1;
+        if case.told[0] == 0 {
             fields(&case.rule.expand()).unwrap().iter().for_each(|f| tags[usize::from(f.tag)] += 1);
         }
     }
@@ -37,11 +37,11 @@ fn the_sample_is_of_every_kind() {
 #[test]
 fn the_sample_replays() {
     for case in read(&committed()).unwrap() {
-        let Packed { mode, rule, tree_length, work, room, answer: due, checksum: sum, image } = case;
+        let Packed { mode, rule, tree_length, work, room, told, checksum: sum, image } = case;
         let tree = rule.expand();
         assert_eq!(tree.len() as u32, tree_length);
         let (got, bytes) = answer(&tree, mode, work.into(), room.into());
-        assert_eq!(got, due);
+        assert_eq!(got.numbers()[..3], told.map(u64::from));
         assert_eq!(checksum(&bytes), sum);
         assert!(image.is_empty() || image == bytes);
     }

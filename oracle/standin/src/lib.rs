@@ -4,7 +4,7 @@ use oracle::{answer, judge, reading};
 use std::slice::{from_raw_parts, from_raw_parts_mut};
 
 /// # Safety
-/// The pointers and lengths are of slices, and `answer` is of three numbers.
+/// The pointers and lengths are of slices, and `answer` is of four numbers.
 #[no_mangle]
 pub unsafe extern "C" fn yengrazul_lower(
     tree: *const u8,
@@ -17,7 +17,7 @@ pub unsafe extern "C" fn yengrazul_lower(
     answer: *mut u64,
 ) {
     let (tree, work) = (from_raw_parts(tree, tree_len), from_raw_parts_mut(work, work_len));
-    let (out, answer) = (from_raw_parts_mut(out, out_len), from_raw_parts_mut(answer, 3));
+    let (out, answer) = (from_raw_parts_mut(out, out_len), from_raw_parts_mut(answer, 4));
     let (due, image) = answer::answer(tree, mode, work_len as u64, out_len as u64);
     work.fill(0);
     out.fill(0);

@@ -31,6 +31,11 @@ pub use trace::Refusal;
 
 /// The image of a checked tree in mode 0 or 1, or the first of 7 to 17 that is met.
 pub fn lower(fields: &[Field], mode: u64) -> Result<Image, Refusal> {
+    counted(fields, mode).map(|(image, _)| image)
+}
+
+/// The same, and how many nodes the copy's routines noted on the way to the image: a node that is lowered again is noted again.
+pub fn counted(fields: &[Field], mode: u64) -> Result<(Image, usize), Refusal> {
     assert!(mode < 2, "a lowering has mode 0 or 1");
     let run = || {
         trace::set_mode_1(mode == 1);
@@ -44,7 +49,7 @@ pub fn lower(fields: &[Field], mode: u64) -> Result<Image, Refusal> {
         };
         compiler.compile(program);
         compiler.leave_function(0);
-        write::image(&compiler)
+        (write::image(&compiler), trace::visits())
     };
     catch_unwind(AssertUnwindSafe(run)).map_err(|panic| match panic.downcast::<Refusal>() {
         Ok(refusal) => *refusal,

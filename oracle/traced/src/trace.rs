@@ -47,6 +47,11 @@ impl Visit {
     }
 }
 
+/// How many visits were begun since the first of the run.
+pub fn visits() -> usize {
+    VISITS.get()
+}
+
 impl Drop for Visit {
     fn drop(&mut self) {
         NODE.set(self.outer);

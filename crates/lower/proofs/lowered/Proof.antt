@@ -4,7 +4,7 @@ use native.Mathlib.Omega.{arith}
 use lib.ListN.{length}
 use denote.Ref.{now}
 use Rattle.meaning.specs.Check.{checked}
-use Rattle.lower.proofs.Whole.{not-begun, no-mode}
+use Rattle.lower.proofs.Whole.{not-begun, no-mode, none-counted}
 use borrow.Author.Needs.{needs}
 use Rattle.lower.proofs.lowered.Statement.{statement}
 use Rattle.lower.proofs.lowered.Tie as tie
@@ -12,7 +12,7 @@ use Rattle.lower.proofs.lowered.Tie as tie
 returns : tie.Need-returns
 returns c =
     let a = (c .before .before .before .before) .args in
-    no-mode (a .mode) (omega (arith, c .if1 .taken)) (now (a .tree)) (now (a .out)) (length (now (a .work))) (length (now (a .out)))
+    (no-mode (a .mode) (omega (arith, c .if1 .taken)) (now (a .tree)) (now (a .out)) (length (now (a .work))) (length (now (a .out))), tt)
 
 returns-2 : tie.Need-returns-2
 returns-2 c =
@@ -20,7 +20,7 @@ returns-2 c =
     let check-in = c .before .before .before .before .check-in in
     let enum-told = c .enum-told in
     let a = start .args in
-    not-begun (a .mode) (omega (arith, (c .before .before .before .before .before .before .if1) .left)) (now (a .tree)) (now (a .out)) (length (now (a .work))) (length (now (a .out))) (check-in .result) (check-in .ensures .0) (enum-told .given .1)
+    (not-begun (a .mode) (omega (arith, (c .before .before .before .before .before .before .if1) .left)) (now (a .tree)) (now (a .out)) (length (now (a .work))) (length (now (a .out))) (check-in .result) (check-in .ensures .0) (enum-told .given .1), none-counted _ _ (check-in .result) (enum-told .given .1))
 
 lower-checked-requires : tie.Need-lower-checked-requires
 lower-checked-requires c κs =

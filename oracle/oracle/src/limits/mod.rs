@@ -12,7 +12,7 @@ mod registers;
 mod rules;
 mod shapes;
 
-use crate::answer::{image, in_room, Answer};
+use crate::answer::{in_room, lowered, Answer, Lowered};
 use crate::judge::{work_for, Refusal, MOST_FIELDS};
 use crate::trees::build::Node;
 use crate::trees::order::post;
@@ -101,14 +101,14 @@ pub fn ask(tree: Vec<u8>, work: Work, room: Room) -> Asked {
 /// Asks the oracle about a file in a mode.
 pub fn ask_in(mode: u64, tree: Vec<u8>, work: Work, room: Room) -> Asked {
     let work = work_words(&tree, work);
-    let image = image(&tree, mode, work);
-    let room = room_for(room, &image);
-    let (answer, image) = in_room(&tree, image, room);
+    let lowered = lowered(&tree, mode, work);
+    let room = room_for(room, &lowered);
+    let (answer, image) = in_room(&tree, lowered, room);
     Asked { mode, tree, work, room, answer, image }
 }
 
-fn room_for(room: Room, image: &Result<Vec<u8>, Refusal>) -> u64 {
-    let length = image.as_ref().map_or(24, |i| i.len() as u64);
+fn room_for(room: Room, lowered: &Result<Lowered, Refusal>) -> u64 {
+    let length = lowered.as_ref().map_or(24, |l| l.image.len() as u64);
     match room {
         Room::Plenty => length + 40,
         Room::Exact => length,

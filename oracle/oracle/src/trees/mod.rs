@@ -5,6 +5,7 @@ pub mod costly;
 pub mod crowd;
 pub mod damage;
 pub mod meet;
+pub mod minuses;
 pub mod order;
 pub mod pack;
 pub mod random;

@@ -49,7 +49,7 @@ module _ {t w : List ℕ} {p : Scope} {s : Step} {i : ℕ} (g : GivenExpr t w p 
       module _ {k : ℕ} {w3 : List ℕ} {s3 : Step} (d3 : Leaf w2 p s2 w3 p s3 (uses 2 0 0) (sure (emit (inst Addi (s2 .result) (s1 .result) k (word-of (fields t) i 1))))) where
         lowers : LowersAddi t i k w o p s w3 o1 s3
         lowers =
-            arrive _ _ (from (g .ready) ▹ d1 .does .moves ▹ d2 .0 .moves ▹ d3 .moves) (omega (arith, binary-size x)) (omega arith) (omega arith) (λ z. refl)
+            arrive _ _ _ (from (g .ready) ▹ d1 .does .moves ▹ d2 .0 .moves ▹ d3 .moves) (omega (arith, binary-size x)) (omega arith) (omega arith) (λ z. refl) (omega arith)
             (d1 .does .same) (keeps d3 (λ c. refl) (small s2 (d2 .1))) λ ps z.
             let a1 = d1 .does .does ps z in
             let a2 = next-leaf a1 (d2 .0) in

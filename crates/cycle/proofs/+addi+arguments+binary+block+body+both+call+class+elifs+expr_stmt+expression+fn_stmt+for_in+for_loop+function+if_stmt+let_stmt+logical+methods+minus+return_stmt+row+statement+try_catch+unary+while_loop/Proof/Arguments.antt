@@ -13,6 +13,8 @@ use Rattle.code.specs.Words.{Bytes}
 use Rattle.cycle.proofs.Sizes.{exprs-size, exprs-size-none}
 use Rattle.cycle.proofs.Turns.{Turning, closed, none-turned, turned}
 use Rattle.cycle.proofs.Way.{_▹_, arrive, fits, from, give-expr, next-leaf, readable, small, spends, stand}
+use Rattle.cycle.proofs.Visited.{exprs-visits, exprs-visits-none}
+use Rattle.meaning.specs.Visits.{visits-expr, visits-exprs}
 use Rattle.cycle.specs.Cycle.{AskArguments, AskExpr, LowersArguments, LowersExpr}
 use Rattle.forward.proofs.Chains.{argument-chain}
 use Rattle.forward.specs.Forward.{emit, fwd-code, sure}
@@ -24,7 +26,7 @@ use Rattle.meaning.specs.Opcode.{Move, inst, no-mark}
 use Rattle.meaning.specs.Weight.{size-expr, size-exprs}
 use Rattle.store.proofs.Compose.{known, settled}
 use Rattle.store.proofs.Runs.{due}
-use Rattle.store.specs.Promise.{Leaf, Room, uses}
+use Rattle.store.specs.Promise.{Leaf, Room, takes, uses}
 use Rattle.store.specs.Store.{Fine, while-going, with-result}
 use Rattle.store.specs.declared.Scope.{Scope}
 use Rattle.store.specs.declared.Step.{Step}
@@ -39,12 +41,14 @@ pub record Moving (t w0 o0 : List ℕ) (p : Scope) (s0 : Step) (i register : ℕ
   pub place : to ≡ register + (k - 2)
   pub done : ℕ
   pub size : done + size-exprs (exprs-at (fields t) i k (count-of (fields t) i)) ≡ size-exprs (exprs-at (fields t) i 2 (count-of (fields t) i))
-  pub turning : Turning w0 o0 p s0 w o s (uses (8 * done + 2 * (k - 2)) 0 0) (fwd-code (lower-arguments (p .mode) (exprs-at (fields t) i 2 (count-of (fields t) i)) register))
+  pub seen : ℕ
+  pub count : seen + visits-exprs (exprs-at (fields t) i k (count-of (fields t) i)) ≡ visits-exprs (exprs-at (fields t) i 2 (count-of (fields t) i))
+  pub turning : Turning w0 o0 p s0 w o s (takes (8 * done + 2 * (k - 2)) 0 seen) (fwd-code (lower-arguments (p .mode) (exprs-at (fields t) i 2 (count-of (fields t) i)) register))
       (fwd-code (lower-arguments (p .mode) (exprs-at (fields t) i k (count-of (fields t) i)) to))
 
 module _ {t w0 : List ℕ} {p : Scope} {s0 : Step} {i register : ℕ} (r : AskArguments t w0 p s0 i register) where
   start : {o0 : List ℕ} → Moving t w0 o0 p s0 i register w0 o0 s0 register 2
-  start = record { low = omega arith; high = omega arith; place = omega arith; done = 0; size = omega arith; turning = none-turned (r .0 .ready .fine) }
+  start = record { low = omega arith; high = omega arith; place = omega arith; done = 0; size = omega arith; seen = 0; count = omega arith; turning = none-turned (r .0 .ready .fine) }
 
   module _ {o0 w o : List ℕ} {s : Step} {to k : ℕ} (v : Moving t w0 o0 p s0 i register w o s to k) where
     module _ (h : k < count-of (fields t) i) where
@@ -75,15 +79,18 @@ module _ {t w0 : List ℕ} {p : Scope} {s0 : Step} {i register : ℕ} (r : AskAr
         unfolding lower-expr
         turn d2 =
             let z = size-expr (expr-at (fields t) (word-of (fields t) i k)) in
+            let l = visits-expr (expr-at (fields t) (word-of (fields t) i k)) in
             record {
               low = omega (arith, v .low);
               high = omega (arith, v .low);
               place = omega (arith, v .low, v .place);
               done = v .done + z;
               size = omega (arith, v .size, exprs-size (fields t) i k (count-of (fields t) i) h (omega arith));
+              seen = v .seen + l;
+              count = omega (arith, v .count, exprs-visits (fields t) i k (count-of (fields t) i) h (omega arith));
               turning =
                   record {
-                    moves = spends (8 * (v .done + z) + 2 * (k + 1 - 2)) 0 (omega (arith, v .low)) (omega arith) (omega arith) (λ e. refl) (from (r .0 .ready) ▹ v .turning .moves ▹ d1 .does .moves ▹ d2 .moves);
+                    moves = spends (8 * (v .done + z) + 2 * (k + 1 - 2)) 0 (v .seen + l) (omega (arith, v .low)) (omega arith) (omega arith) (λ e. refl) (omega arith) (from (r .0 .ready) ▹ v .turning .moves ▹ d1 .does .moves ▹ d2 .moves);
                     same = d1 .does .same ∙ v .turning .same;
                     does = λ ps y.
                         let a = v .turning .does ps y in
@@ -98,7 +105,7 @@ module _ {t w0 : List ℕ} {p : Scope} {s0 : Step} {i register : ℕ} (r : AskAr
     lowers h =
         let m = exprs-size-none (fields t) i k (count-of (fields t) i) h in
         let l = settled s 0 (lit< tt) (v .turning .moves .fine) in
-        arrive _ _ (from (r .0 .ready) ▹ v .turning .moves ▹ l .moves) (omega (arith, v .size, v .high)) (omega arith) (omega arith) (λ e. refl)
+        arrive _ _ _ (from (r .0 .ready) ▹ v .turning .moves ▹ l .moves) (omega (arith, v .size, v .high)) (omega arith) (omega arith) (λ e. refl) (omega (arith, v .count, exprs-visits-none (fields t) i k (count-of (fields t) i) h))
         (v .turning .same) (small (with-result s 0) (lit< tt)) (closed (rw (exprs-none (fields t) i k (count-of (fields t) i) h) at (v .turning)))
 
 -- what each function that is called asks and promises; a member of the cycle at a smaller measure

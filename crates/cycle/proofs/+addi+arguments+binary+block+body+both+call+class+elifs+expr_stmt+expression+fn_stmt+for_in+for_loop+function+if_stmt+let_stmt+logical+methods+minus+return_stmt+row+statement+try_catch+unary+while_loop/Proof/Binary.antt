@@ -1,5 +1,5 @@
 -- fn visit_binary_expr: a small number on the right of Plus, on the left of Minus, or neither.
-use Prim.Native.Nat.{ℕ, _<_, _≤_}
+use Prim.Native.Nat.{ℕ, _+_, _<_, _≤_}
 use Rattle.cycle.proofs.addi.Reads as addi
 use Rattle.cycle.proofs.binary.Reads as binary
 use Rattle.cycle.proofs.+addi+arguments+binary+block+body+both+call+class+elifs+expr_stmt+expression+fn_stmt+for_in+for_loop+function+if_stmt+let_stmt+logical+methods+minus+return_stmt+row+statement+try_catch+unary+while_loop.Lts-binary as lts
@@ -10,7 +10,8 @@ use Rattle.cycle.proofs.reading.words_of.Reads as words-of-reads
 use Rattle.cycle.proofs.+addi+arguments+binary+block+body+both+call+class+elifs+expr_stmt+expression+fn_stmt+for_in+for_loop+function+if_stmt+let_stmt+logical+methods+minus+return_stmt+row+statement+try_catch+unary+while_loop.Proof.Order.{addi-below, binary-at, both-below, minus-below}
 use Rattle.meaning.specs.Opcode.{minus}
 use Rattle.cycle.proofs.Nodes.{a-binary}
-use Rattle.cycle.proofs.Way.{likewise, readable}
+use Rattle.cycle.proofs.Way.{likewise, readable, recounted}
+use Rattle.meaning.specs.Visits.{under-expr, visits-expr}
 use Rattle.leaves.specs.Node.{small-of}
 use Rattle.meaning.proofs.Reading.{Binary}
 use Rattle.meaning.specs.At.{expr-at, word-of}
@@ -39,6 +40,10 @@ module _ (mode : ℕ) {fs : List Field} {i : ℕ} (x : Binary fs i) where
   unfolding lower-expr visit-binary
   is-addi k h e = rw (x .is, e, some-small k h)
 
+  addi-visits : (k : ℕ) → k < 256 → small-if (eqb (word-of fs i 0) plus) (expr-at fs (word-of fs i 3)) ≡ small-of k → visits-expr (expr-at fs (word-of fs i 2)) ≡ under-expr (expr-at fs i)
+  unfolding under-expr
+  addi-visits k h e = rw (x .is, e, some-small k h) (omega arith)
+
   module _ (k : ℕ) (h : 256 ≤ k) (e : small-if (eqb (word-of fs i 0) plus) (expr-at fs (word-of fs i 3)) ≡ small-of k) where
     is-minus : (j : ℕ) → j < 256 → small-if (eqb (word-of fs i 0) minus) (expr-at fs (word-of fs i 2)) ≡ small-of j
         → visit-binary i (word-of fs i 0) (word-of fs i 1) none (some 0) (lower-expr mode (expr-at fs (word-of fs i 2))) (lower-expr mode (expr-at fs (word-of fs i 3))) ≡ lower-expr mode (expr-at fs i)
@@ -49,6 +54,16 @@ module _ (mode : ℕ) {fs : List Field} {i : ℕ} (x : Binary fs i) where
         → visit-both i (word-of fs i 0) (word-of fs i 1) (lower-expr mode (expr-at fs (word-of fs i 2))) (lower-expr mode (expr-at fs (word-of fs i 3))) ≡ lower-expr mode (expr-at fs i)
     unfolding lower-expr visit-binary
     is-both j l f = rw (x .is, e, none-small k h, f, none-small j l)
+
+    minus-visits : (j : ℕ) → j < 256 → small-if (eqb (word-of fs i 0) minus) (expr-at fs (word-of fs i 2)) ≡ small-of j
+        → visits-expr (expr-at fs (word-of fs i 2)) + (visits-expr (expr-at fs (word-of fs i 3)) + visits-expr (expr-at fs (word-of fs i 3))) ≡ under-expr (expr-at fs i)
+    unfolding under-expr
+    minus-visits j l f = rw (x .is, e, none-small k h, f, some-small j l)
+
+    both-visits : (j : ℕ) → 256 ≤ j → small-if (eqb (word-of fs i 0) minus) (expr-at fs (word-of fs i 2)) ≡ small-of j
+        → visits-expr (expr-at fs (word-of fs i 2)) + visits-expr (expr-at fs (word-of fs i 3)) ≡ under-expr (expr-at fs i)
+    unfolding under-expr
+    both-visits j l f = rw (x .is, e, none-small k h, f, none-small j l)
 
 -- what each function that is called asks and promises; a member of the cycle at a smaller measure
 abbrev pub claims : ℕ → lts.Claims
@@ -75,7 +90,8 @@ same-length-2 t c = (c .before .before .before .before .addi) .ensures .does .sa
 pub returns : (t : ℕ) → lts.Need-returns (claims t) (binary-at t) binary.Post
 returns t c =
     let g = (c .before .before .before .before .before .before .before .before .before .before .before .before .before .before .before) .pre .1 .0 in
-    likewise (is-addi ((c .before .before .before .before .before .before .before .before .before .before .before .before .before .before .before) .args .scope .mode) (a-binary (g .ready .lawful) (g .known) ((c .before .before .before .before .before .before .before .before .before .before .before .before .before .before .before) .pre .1 .1)) _ ((c .before .before .before .before .before .before .before .if1) .taken) (rw ((c .before .before .before .before .before .before .before .before .before .before .words-of) .ensures .0) at ((c .before .before .before .before .before .before .before .before .immediate) .ensures))) ((c .before .before .before .before .addi) .ensures)
+    likewise (is-addi ((c .before .before .before .before .before .before .before .before .before .before .before .before .before .before .before) .args .scope .mode) (a-binary (g .ready .lawful) (g .known) ((c .before .before .before .before .before .before .before .before .before .before .before .before .before .before .before) .pre .1 .1)) _ ((c .before .before .before .before .before .before .before .if1) .taken) (rw ((c .before .before .before .before .before .before .before .before .before .before .words-of) .ensures .0) at ((c .before .before .before .before .before .before .before .before .immediate) .ensures)))
+    (recounted (addi-visits ((c .before .before .before .before .before .before .before .before .before .before .before .before .before .before .before) .args .scope .mode) (a-binary (g .ready .lawful) (g .known) ((c .before .before .before .before .before .before .before .before .before .before .before .before .before .before .before) .pre .1 .1)) _ ((c .before .before .before .before .before .before .before .if1) .taken) (rw ((c .before .before .before .before .before .before .before .before .before .before .words-of) .ensures .0) at ((c .before .before .before .before .before .before .before .before .immediate) .ensures))) ((c .before .before .before .before .addi) .ensures))
 
 pub immediate-requires-2 : (t : ℕ) → lts.Need-immediate-requires-2 (claims t) (binary-at t) binary.Post
 immediate-requires-2 t c κs =
@@ -96,7 +112,8 @@ pub returns-2 : (t : ℕ) → lts.Need-returns-2 (claims t) (binary-at t) binary
 returns-2 t c =
     let g = (c .before .before .before .before .before .before .before .before .before .before .before .before .before .before .before .before .before .before) .pre .1 .0 in
     let e = (c .before .before .before .before .before .before .before .before .before .before .before .before .before .words-of) .ensures .0 in
-    likewise (is-minus ((c .before .before .before .before .before .before .before .before .before .before .before .before .before .before .before .before .before .before) .args .scope .mode) (a-binary (g .ready .lawful) (g .known) ((c .before .before .before .before .before .before .before .before .before .before .before .before .before .before .before .before .before .before) .pre .1 .1)) _ ((c .before .before .before .before .before .before .before .before .before .before .if1) .left) (rw e at ((c .before .before .before .before .before .before .before .before .before .before .before .immediate) .ensures)) _ ((c .before .before .before .before .before .before .before .if2) .taken) (rw e at ((c .before .before .before .before .before .before .before .before .immediate2) .ensures))) ((c .before .before .before .before .minus) .ensures)
+    likewise (is-minus ((c .before .before .before .before .before .before .before .before .before .before .before .before .before .before .before .before .before .before) .args .scope .mode) (a-binary (g .ready .lawful) (g .known) ((c .before .before .before .before .before .before .before .before .before .before .before .before .before .before .before .before .before .before) .pre .1 .1)) _ ((c .before .before .before .before .before .before .before .before .before .before .if1) .left) (rw e at ((c .before .before .before .before .before .before .before .before .before .before .before .immediate) .ensures)) _ ((c .before .before .before .before .before .before .before .if2) .taken) (rw e at ((c .before .before .before .before .before .before .before .before .immediate2) .ensures)))
+    (recounted (minus-visits ((c .before .before .before .before .before .before .before .before .before .before .before .before .before .before .before .before .before .before) .args .scope .mode) (a-binary (g .ready .lawful) (g .known) ((c .before .before .before .before .before .before .before .before .before .before .before .before .before .before .before .before .before .before) .pre .1 .1)) _ ((c .before .before .before .before .before .before .before .before .before .before .if1) .left) (rw e at ((c .before .before .before .before .before .before .before .before .before .before .before .immediate) .ensures)) _ ((c .before .before .before .before .before .before .before .if2) .taken) (rw e at ((c .before .before .before .before .before .before .before .before .immediate2) .ensures))) ((c .before .before .before .before .minus) .ensures))
 
 pub both-requires : (t : ℕ) → lts.Need-both-requires (claims t) (binary-at t) binary.Post
 both-requires t c κs = (omega (arith, (c .before .before .before .before .before .before .before .before .before .before .before .before .before) .pre .0), ((c .before .before .before .before .before .before .before .before .before .before .before .before .before) .pre .1 .0, (c .before .before .before .before .before .before .before .before .before .before .before .before .before) .pre .1 .1))
@@ -111,4 +128,5 @@ pub returns-3 : (t : ℕ) → lts.Need-returns-3 (claims t) (binary-at t) binary
 returns-3 t c =
     let g = (c .before .before .before .before .before .before .before .before .before .before .before .before .before .before .before .before .before .before) .pre .1 .0 in
     let e = (c .before .before .before .before .before .before .before .before .before .before .before .before .before .words-of) .ensures .0 in
-    likewise (is-both ((c .before .before .before .before .before .before .before .before .before .before .before .before .before .before .before .before .before .before) .args .scope .mode) (a-binary (g .ready .lawful) (g .known) ((c .before .before .before .before .before .before .before .before .before .before .before .before .before .before .before .before .before .before) .pre .1 .1)) _ ((c .before .before .before .before .before .before .before .before .before .before .if1) .left) (rw e at ((c .before .before .before .before .before .before .before .before .before .before .before .immediate) .ensures)) _ ((c .before .before .before .before .before .before .before .if2) .left) (rw e at ((c .before .before .before .before .before .before .before .before .immediate2) .ensures))) ((c .before .before .before .before .both) .ensures)
+    likewise (is-both ((c .before .before .before .before .before .before .before .before .before .before .before .before .before .before .before .before .before .before) .args .scope .mode) (a-binary (g .ready .lawful) (g .known) ((c .before .before .before .before .before .before .before .before .before .before .before .before .before .before .before .before .before .before) .pre .1 .1)) _ ((c .before .before .before .before .before .before .before .before .before .before .if1) .left) (rw e at ((c .before .before .before .before .before .before .before .before .before .before .before .immediate) .ensures)) _ ((c .before .before .before .before .before .before .before .if2) .left) (rw e at ((c .before .before .before .before .before .before .before .before .immediate2) .ensures)))
+    (recounted (both-visits ((c .before .before .before .before .before .before .before .before .before .before .before .before .before .before .before .before .before .before) .args .scope .mode) (a-binary (g .ready .lawful) (g .known) ((c .before .before .before .before .before .before .before .before .before .before .before .before .before .before .before .before .before .before) .pre .1 .1)) _ ((c .before .before .before .before .before .before .before .before .before .before .if1) .left) (rw e at ((c .before .before .before .before .before .before .before .before .before .before .before .immediate) .ensures)) _ ((c .before .before .before .before .before .before .before .if2) .left) (rw e at ((c .before .before .before .before .before .before .before .before .immediate2) .ensures))) ((c .before .before .before .before .both) .ensures))

@@ -9,9 +9,10 @@ use Rattle.store.proofs.leave_block.Reads as leave-block-reads
 use Rattle.store.proofs.settle.Reads as settle-reads
 use Rattle.cycle.proofs.+addi+arguments+binary+block+body+both+call+class+elifs+expr_stmt+expression+fn_stmt+for_in+for_loop+function+if_stmt+let_stmt+logical+methods+minus+return_stmt+row+statement+try_catch+unary+while_loop.Proof.Order.{block-at, row-below}
 use Rattle.cycle.proofs.Nodes.{a-block}
+use Rattle.cycle.proofs.Visited.{block-visits}
 use Rattle.cycle.proofs.Sizes.{block-size}
 use Rattle.cycle.proofs.Way.{_▹_, arrive, ends, from, in-block, next, next-leaf, next-left, readable, small}
-use Rattle.cycle.specs.Cycle.{AskRow, GivenStmt, LowersRow, LowersStmt, Ready}
+use Rattle.cycle.specs.Cycle.{AskRow, GivenStmt, LowersRow, Ready, UnderStmt}
 use Rattle.forward.proofs.Chains.{block-chain}
 use Rattle.forward.specs.Forward.{fwd-unit}
 use Rattle.meaning.proofs.Reading.{Block}
@@ -45,13 +46,13 @@ module _ {t w : List ℕ} {p : Scope} {s : Step} {i : ℕ} (g : GivenStmt t w p 
 
     module _ {o w2 o2 : List ℕ} {s2 : Step} (d2 : LowersRow t i 0 (count-of (fields t) i) w1 o (deeper p) s w2 o2 s2) where
       module _ {w3 : List ℕ} (d3 : Popped w2 p w3) where
-        lowers : LowersStmt t i w o p s w3 o2 (with-result s2 0)
+        lowers : UnderStmt t i w o p s w3 o2 (with-result s2 0)
         unfolding lower-expr
         lowers =
             let n = block-size x in
             let l = settled s2 0 (lit< tt) (d2 .does .moves .fine) in
             let m = (from inner-ready ▹ d2 .does .moves ▹ l .moves) .moves in
-            arrive _ _ (from (g .ready) ▹ block-around (g .ready .fine) k1 (d1 .moves) m d3) (omega arith) (omega arith) (omega arith) (λ z. omega arith)
+            arrive _ _ _ (from (g .ready) ▹ block-around (g .ready .fine) k1 (d1 .moves) m d3) (omega arith) (omega arith) (omega arith) (λ z. omega arith) (omega (arith, block-visits x))
             (d2 .does .same) (small (with-result s2 0) (lit< tt)) λ ps z.
             let a1 = leaf-after d1 o ps z in
             let a2 = next a1 (d2 .does) in

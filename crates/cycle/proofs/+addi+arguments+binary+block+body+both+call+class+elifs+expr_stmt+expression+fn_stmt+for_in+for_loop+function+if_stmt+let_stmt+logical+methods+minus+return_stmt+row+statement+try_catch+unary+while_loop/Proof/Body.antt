@@ -52,7 +52,7 @@ module _ {t w : List ℕ} {p : Scope} {s : Step} {i f : ℕ} (g : AskBody t w p 
         lowers =
             let m = (from inner-ready ▹ d2 .does .moves ▹ d3 .moves) .moves in
             record {
-              moves = spends _ 0 (omega arith) (omega arith) (omega arith) (λ z. refl) (from (g .0 .ready) ▹ block-around (g .0 .ready .fine) k1 (d1 .moves) m d4);
+              moves = spends _ 0 _ (omega arith) (omega arith) (omega arith) (λ z. refl) (omega arith) (from (g .0 .ready) ▹ block-around (g .0 .ready .fine) k1 (d1 .moves) m d4);
               same = d2 .does .same;
               does = λ ps z.
                   let a1 = leaf-after d1 o ps z in

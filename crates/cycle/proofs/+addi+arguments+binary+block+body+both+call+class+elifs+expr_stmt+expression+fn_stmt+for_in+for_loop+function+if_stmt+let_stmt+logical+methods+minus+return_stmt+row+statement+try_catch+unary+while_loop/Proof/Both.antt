@@ -56,7 +56,7 @@ module _ {t w : List ℕ} {p : Scope} {s : Step} {i : ℕ} (g : GivenExpr t w p 
         module _ {w4 : List ℕ} {s4 : Step} (d4 : Leaf w3 p s3 w4 p s4 (uses 2 0 0) (sure (emit (inst (binary-opcode (word-of (fields t) i 0)) (s3 .result) (s1 .result) (s2 .result) (word-of (fields t) i 1))))) where
           lowers : LowersBoth t i w o p s w4 o2 s4
           lowers =
-              arrive _ _ (from (g .ready) ▹ d1 .does .moves ▹ d2 .does .moves ▹ d3 .0 .moves ▹ d4 .moves) (omega (arith, binary-size x)) (omega arith) (omega arith) (λ z. refl)
+              arrive _ _ _ (from (g .ready) ▹ d1 .does .moves ▹ d2 .does .moves ▹ d3 .0 .moves ▹ d4 .moves) (omega (arith, binary-size x)) (omega arith) (omega arith) (λ z. refl) (omega arith)
               (d2 .does .same ∙ d1 .does .same) (keeps d4 (λ c. refl) (small s3 (d3 .1))) λ ps z.
               let a1 = d1 .does .does ps z in
               let a2 = next a1 (d2 .does) in

@@ -11,9 +11,10 @@ use Rattle.parts.proofs.open_call.Reads as open-call-reads
 use Rattle.cycle.proofs.+addi+arguments+binary+block+body+both+call+class+elifs+expr_stmt+expression+fn_stmt+for_in+for_loop+function+if_stmt+let_stmt+logical+methods+minus+return_stmt+row+statement+try_catch+unary+while_loop.Proof.Order.{arguments-below, call-at, expression-below}
 use Rattle.meaning.proofs.Reading as reading
 use Rattle.cycle.proofs.Nodes.{a-call}
+use Rattle.cycle.proofs.Visited.{call-visits}
 use Rattle.cycle.proofs.Sizes.{call-size}
 use Rattle.cycle.proofs.Way.{_▹_, arrive, ends, few-results, from, give-expr, meanwhile, next, next-leaf, readable, stand}
-use Rattle.cycle.specs.Cycle.{AskArguments, AskExpr, GivenExpr, LowersArguments, LowersExpr}
+use Rattle.cycle.specs.Cycle.{AskArguments, AskExpr, GivenExpr, LowersArguments, LowersExpr, UnderExpr}
 use Rattle.forward.proofs.Chains.{call-chain}
 use Rattle.forward.specs.Forward.{end-call, open-call}
 use Rattle.meaning.proofs.Rows.{arguments-at}
@@ -70,11 +71,11 @@ module _ {t w : List ℕ} {p : Scope} {s : Step} {i : ℕ} (g : GivenExpr t w p 
             )
 
         module _ {w4 : List ℕ} {s4 : Step} (d4 : Leaf w3 p s3 w4 p s4 (both a-register (uses 2 0 0)) (end-call i (count-of (fields t) i - 2) (s2 .result) (word-of (fields t) i 1))) (h4 : Small s4) where
-          lowers : LowersExpr t i w o p s w4 o3 s4
+          lowers : UnderExpr t i w o p s w4 o3 s4
           unfolding lower-expr
           lowers =
               let n = call-size x in
-              arrive _ _ (from (g .ready) ▹ d1 .does .moves ▹ d2 .moves ▹ d3 .does .moves ▹ d4 .moves) (omega arith) (omega arith) (omega arith) (λ z. refl)
+              arrive _ _ _ (from (g .ready) ▹ d1 .does .moves ▹ d2 .moves ▹ d3 .does .moves ▹ d4 .moves) (omega arith) (omega arith) (omega arith) (λ z. refl) (omega (arith, call-visits x))
               (d3 .does .same ∙ d1 .does .same) h4 λ ps z.
               let a1 = d1 .does .does ps z in
               let a2 = next-leaf a1 d2 in

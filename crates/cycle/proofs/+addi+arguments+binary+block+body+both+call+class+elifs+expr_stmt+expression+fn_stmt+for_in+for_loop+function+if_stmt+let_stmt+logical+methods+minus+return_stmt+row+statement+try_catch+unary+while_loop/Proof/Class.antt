@@ -14,9 +14,11 @@ use Rattle.store.proofs.leave_block.Reads as leave-block-reads
 use Rattle.cycle.proofs.+addi+arguments+binary+block+body+both+call+class+elifs+expr_stmt+expression+fn_stmt+for_in+for_loop+function+if_stmt+let_stmt+logical+methods+minus+return_stmt+row+statement+try_catch+unary+while_loop.Proof.Order.{class-at, methods-below}
 use Rattle.meaning.proofs.Reading.{Class}
 use Rattle.cycle.proofs.Nodes.{a-class}
+use Rattle.cycle.proofs.Visited.{class-visits}
 use Rattle.cycle.proofs.Sizes.{class-size}
 use Rattle.cycle.proofs.Way.{_▹_, arrive, ends, few-results, from, in-block, meanwhile, next, next-leaf, next-left, on-node, readable, stand}
-use Rattle.cycle.specs.Cycle.{AskMethods, GivenStmt, LowersMethods, LowersStmt, Ready}
+use Rattle.meaning.specs.Visits.{visits-funs}
+use Rattle.cycle.specs.Cycle.{AskMethods, GivenStmt, LowersMethods, Ready, UnderStmt}
 use Rattle.forward.proofs.Chains.{class-chain}
 use Rattle.forward.specs.Forward.{end-class, fwd-unit, make-class, open-class, sure}
 use Rattle.leaves.specs.Node.{GivesSuper, OnNode, super-of}
@@ -31,7 +33,7 @@ use Rattle.store.proofs.Around.{block-around}
 use Rattle.store.proofs.Leaving.{left-runs}
 use Rattle.store.proofs.Compose.{known, leaf-after}
 use Rattle.store.proofs.Runs.{due}
-use Rattle.store.specs.Promise.{Leaf, Moves, Popped, Room, both, boxed, nothing, some-registers, uses}
+use Rattle.store.specs.Promise.{Leaf, Moves, Popped, Room, both, boxed, nothing, some-registers, takes, uses}
 use Rattle.store.specs.Store.{Fine, Kept, Sound, deeper, goes-on, while-going}
 use Rattle.store.specs.declared.Scope.{Scope}
 use Rattle.store.specs.declared.Step.{Step}
@@ -95,7 +97,7 @@ module _ {t w : List ℕ} {p : Scope} {s : Step} {i : ℕ} (g : GivenStmt t w p 
             )
 
             module _ {w6 o6 : List ℕ} {s6 : Step} (d6 : LowersMethods t i (4 + word-of (fields t) i 3) (count-of (fields t) i) (word-of (fields t) i 1) 33 (s1 .result) w5 o5 (deeper p) s5 w6 o6 s6) {w7 : List ℕ} (d7 : Popped w6 p w7) where
-              around : Moves w3 p s3 w7 p s6 (boxed (both (both nothing (uses (8 * size-funs (funs-at (fields t) i 4 (4 + word-of (fields t) i 3))) (size-funs (funs-at (fields t) i 4 (4 + word-of (fields t) i 3))) 0)) (uses (8 * size-funs (funs-at (fields t) i (4 + word-of (fields t) i 3) (count-of (fields t) i))) (size-funs (funs-at (fields t) i (4 + word-of (fields t) i 3) (count-of (fields t) i))) 0)))
+              around : Moves w3 p s3 w7 p s6 (boxed (both (both nothing (takes (8 * size-funs (funs-at (fields t) i 4 (4 + word-of (fields t) i 3))) (size-funs (funs-at (fields t) i 4 (4 + word-of (fields t) i 3))) (visits-funs (funs-at (fields t) i 4 (4 + word-of (fields t) i 3))))) (takes (8 * size-funs (funs-at (fields t) i (4 + word-of (fields t) i 3) (count-of (fields t) i))) (size-funs (funs-at (fields t) i (4 + word-of (fields t) i 3) (count-of (fields t) i))) (visits-funs (funs-at (fields t) i (4 + word-of (fields t) i 3) (count-of (fields t) i))))))
               around = block-around (d3 .moves .fine) k4 (d4 .moves) ((from inside-block ▹ d5 .does .moves ▹ d6 .does .moves) .moves) d7
 
               at-end : Fine w7 p s6 × Room w7 p s6 0 2 1 × (word-of (fields t) i 0 < 65536) × while-going (s6 .outcome) (s1 .result < 255)
@@ -105,11 +107,11 @@ module _ {t w : List ℕ} {p : Scope} {s : Step} {i : ℕ} (g : GivenStmt t w p 
                   (y .fine, y .room, omega (arith, x .name), meanwhile (s6 .outcome) (s1 .result < 255) λ e. let a = due (s1 .outcome) (d1 .1) (d2 .leaf .moves .back (d3 .moves .back (around .back e))) in omega arith)
 
               module _ {w8 : List ℕ} {s8 : Step} (d8 : Leaf w7 p s6 w8 p s8 (uses 2 1 0) (end-class i (token (word-of (fields t) i 0) (word-of (fields t) i 1)) (s1 .result)) × Small s8) where
-                lowers : LowersStmt t i w o p s w8 o6 s8
+                lowers : UnderStmt t i w o p s w8 o6 s8
                 unfolding lower-expr
                 lowers =
                     let n = class-size x in
-                    arrive _ _ (from (g .ready) ▹ d1 .0 .moves ▹ d2 .leaf .moves ▹ d3 .moves ▹ around ▹ d8 .0 .moves) (omega arith) (omega arith) (omega arith) (λ z. omega arith) (d6 .does .same ∙ d5 .does .same) (d8 .1) λ ps z.
+                    arrive _ _ _ (from (g .ready) ▹ d1 .0 .moves ▹ d2 .leaf .moves ▹ d3 .moves ▹ around ▹ d8 .0 .moves) (omega arith) (omega arith) (omega arith) (λ z. omega arith) (omega (arith, class-visits x)) (d6 .does .same ∙ d5 .does .same) (d8 .1) λ ps z.
                     let a1 = leaf-after (d1 .0) o ps z in
                     let a2 = next-leaf a1 (d2 .leaf) in
                     let a3 = next-leaf a2 d3 in

@@ -12,12 +12,16 @@ use Rattle.cycle.proofs.reading.words_of.Reads as words-of-reads
 use Rattle.nodes.proofs.child.Reads as child-reads
 use Rattle.store.proofs.settle.Reads as settle-reads
 use Rattle.cycle.proofs.+addi+arguments+binary+block+body+both+call+class+elifs+expr_stmt+expression+fn_stmt+for_in+for_loop+function+if_stmt+let_stmt+logical+methods+minus+return_stmt+row+statement+try_catch+unary+while_loop.Proof.Order.{elifs-at, expression-below, row-below}
-use Rattle.cycle.proofs.Way.{from}
+use Rattle.cycle.proofs.Way.{after-ticked, from}
 use Rattle.meaning.specs.At.{elifs-at as elif-row}
 use Rattle.cycle.proofs.Nodes.{an-elif}
 use Rattle.cycle.proofs.Sizes.{elifs-size, elifs-size-none}
 use Rattle.cycle.proofs.Turns.{Turning, closed, none-turned, turned}
 use Rattle.cycle.proofs.Way.{_▹_, adds, arrive, fits, give-expr, give-row, meanwhile, next, next-leaf, readable, small, spends, stand, twice}
+use Rattle.cycle.proofs.Visited.{elifs-visits, elifs-visits-none}
+use Rattle.meaning.specs.Visits.{visits-elifs, visits-expr, visits-stmts}
+use Rattle.store.proofs.Visiting.{ticked-moves}
+use Rattle.store.proofs.visit.Reads as visit-reads
 use Rattle.cycle.specs.Cycle.{AskElifs, AskExpr, AskRow, LowersElifs, LowersExpr, LowersRow, Ready}
 use Rattle.forward.proofs.Chains.{elif-chain}
 use Rattle.forward.specs.Forward.{end-branch, fwd-code, sure, test-and-jump}
@@ -30,7 +34,7 @@ use Rattle.meaning.specs.Opcode.{no-mark}
 use Rattle.meaning.specs.Weight.{size-elifs, size-expr, size-stmts}
 use Rattle.store.proofs.Compose.{known, settled}
 use Rattle.store.proofs.Runs.{due}
-use Rattle.store.specs.Promise.{Leaf, Room, uses}
+use Rattle.store.specs.Promise.{Leaf, Room, Ticked, takes, uses}
 use Rattle.store.specs.Store.{Fine, while-going, with-result}
 use Rattle.store.specs.declared.Scope.{Scope}
 use Rattle.store.specs.declared.Step.{Step}
@@ -43,11 +47,13 @@ pub record Branching (t w0 o0 : List ℕ) (p : Scope) (s0 : Step) (i from to : �
   pub low : from ≤ k
   pub done : ℕ
   pub size : done + size-elifs (elif-row (fields t) i k to) ≡ size-elifs (elif-row (fields t) i from to)
-  pub turning : Turning w0 o0 p s0 w o s (uses (8 * done) done 0) (fwd-code (lower-elifs (p .mode) (elif-row (fields t) i from to))) (fwd-code (lower-elifs (p .mode) (elif-row (fields t) i k to)))
+  pub seen : ℕ
+  pub count : seen + visits-elifs (elif-row (fields t) i k to) ≡ visits-elifs (elif-row (fields t) i from to)
+  pub turning : Turning w0 o0 p s0 w o s (takes (8 * done) done seen) (fwd-code (lower-elifs (p .mode) (elif-row (fields t) i from to))) (fwd-code (lower-elifs (p .mode) (elif-row (fields t) i k to)))
 
 module _ {t w0 : List ℕ} {p : Scope} {s0 : Step} {i f g : ℕ} (r : AskElifs t w0 p s0 i f g) where
   start : {o0 : List ℕ} → Branching t w0 o0 p s0 i f g w0 o0 s0 f
-  start = record { low = omega arith; done = 0; size = omega arith; turning = none-turned (r .ready .fine) }
+  start = record { low = omega arith; done = 0; size = omega arith; seen = 0; count = omega arith; turning = none-turned (r .ready .fine) }
 
   module _ {o0 w o : List ℕ} {s : Step} {k : ℕ} (v : Branching t w0 o0 p s0 i f g w o s k) where
     here : Ready t w p s (size-elifs (elif-row (fields t) i k g)) 0 0
@@ -93,25 +99,29 @@ module _ {t w0 : List ℕ} {p : Scope} {s0 : Step} {i f g : ℕ} (r : AskElifs t
                       omega (arith, d3 .does .moves .longer),
                 )
 
-            turn : {w4 : List ℕ} {s4 : Step} → Leaf w3 p s3 w4 p s4 (uses 2 0 0) (sure (end-branch (s1 .code) no-mark)) → Branching t w0 o0 p s0 i f g w4 o3 s4 (k + 1)
+            turn : {w4 w5 : List ℕ} {s4 : Step} → Leaf w3 p s3 w4 p s4 (uses 2 0 0) (sure (end-branch (s1 .code) no-mark)) → Ticked w4 w5 → Branching t w0 o0 p s0 i f g w5 o3 s4 (k + 1)
             unfolding lower-expr
-            turn d4 =
+            turn d4 d5 =
                 let n = sizes in
+                let m5 = ticked-moves (d4 .moves .fine) d5 in
+                let l = 1 + (visits-expr (expr-at (fields t) (word-of (fields t) (word-of (fields t) i k) 0)) + visits-stmts (stmts-at (fields t) (word-of (fields t) i k) 1 (count-of (fields t) (word-of (fields t) i k)))) in
                 let z = 1 + (size-expr (expr-at (fields t) (word-of (fields t) (word-of (fields t) i k) 0)) + size-stmts (stmts-at (fields t) (word-of (fields t) i k) 1 (count-of (fields t) (word-of (fields t) i k)))) in
                 record {
                   low = omega (arith, v .low);
                   done = v .done + z;
                   size = omega (arith, v .size);
+                  seen = v .seen + l;
+                  count = omega (arith, v .count, elifs-visits (fields t) i k g h (r .ends) elif);
                   turning =
                       record {
-                        moves = spends (8 * (v .done + z)) (v .done + z) (omega arith) (omega arith) (omega arith) (λ e. omega arith) (from (r .ready) ▹ v .turning .moves ▹ d1 .does .moves ▹ d2 .moves ▹ d3 .does .moves ▹ d4 .moves);
+                        moves = spends (8 * (v .done + z)) (v .done + z) (v .seen + l) (omega arith) (omega arith) (omega arith) (λ e. omega arith) (omega arith) (from (r .ready) ▹ v .turning .moves ▹ d1 .does .moves ▹ d2 .moves ▹ d3 .does .moves ▹ d4 .moves ▹ m5);
                         same = d3 .does .same ∙ d1 .does .same ∙ v .turning .same;
                         does = λ ps y.
                             let a = v .turning .does ps y in
                             let a1 = d1 .does .does (a .protos) (a .image) in
                             let a2 = next-leaf a1 d2 in
                             let a3 = next a2 (d3 .does) in
-                            let a4 = next-leaf a3 d4 in
+                            let a4 = after-ticked (d4 .moves .fine) d5 (next-leaf a3 d4) in
                             turned a a4 (λ x e. rw (elifs-more (fields t) i k g h (r .ends), elif .is (elif-row (fields t) i (k + 1) g)) (elif-chain _ _ _ _ _ (a1 .runs) _ (known _ _ _ (a1 .protos)) _ (a2 .runs) _ (a3 .runs) _ (a4 .runs) x e));
                       };
                 }
@@ -121,7 +131,7 @@ module _ {t w0 : List ℕ} {p : Scope} {s0 : Step} {i f g : ℕ} (r : AskElifs t
     lowers h =
         let n = v .size in
         let m = elifs-size-none (fields t) i k g h in
-        arrive _ _ (from (r .ready) ▹ v .turning .moves ▹ settled s 0 (lit< tt) (v .turning .moves .fine) .moves) (omega arith) (omega arith) (omega arith) (λ z. omega arith)
+        arrive _ _ _ (from (r .ready) ▹ v .turning .moves ▹ settled s 0 (lit< tt) (v .turning .moves .fine) .moves) (omega arith) (omega arith) (omega arith) (λ z. omega arith) (omega (arith, v .count, elifs-visits-none (fields t) i k g h))
         (v .turning .same) (small (with-result s 0) (lit< tt)) λ ps z.
         closed (rw (elifs-none (fields t) i k g h) at (v .turning)) ps z
 
@@ -131,7 +141,7 @@ one-more h l = omega arith
 
 -- what each function that is called asks and promises; a member of the cycle at a smaller measure
 abbrev pub claims : ℕ → lts.Claims
-claims t = (payload-of-reads.Asked, payload-of-reads.Learnt, child-reads.Asked, child-reads.Learnt, words-of-reads.Asked, words-of-reads.Learnt, count-of-reads.Asked, count-of-reads.Learnt, expression-below t, expression.Post, test-and-jump-reads.Asked, test-and-jump-reads.Learnt, row-below t, row.Post, end-branch-reads.Asked, end-branch-reads.Learnt, settle-reads.Asked, settle-reads.Learnt)
+claims t = (payload-of-reads.Asked, payload-of-reads.Learnt, child-reads.Asked, child-reads.Learnt, words-of-reads.Asked, words-of-reads.Learnt, count-of-reads.Asked, count-of-reads.Learnt, expression-below t, expression.Post, test-and-jump-reads.Asked, test-and-jump-reads.Learnt, row-below t, row.Post, end-branch-reads.Asked, end-branch-reads.Learnt, visit-reads.Asked, visit-reads.Learnt, settle-reads.Asked, settle-reads.Learnt)
 
 abbrev pub Inv-loop : lts.InvT-loop
 Inv-loop tree work₀ out₀ scope node from to payload last₀ k₀ work out last k = Branching tree work₀ out₀ scope last₀ node from to work out last k
@@ -182,16 +192,19 @@ end-branch-requires t c κs =
     let e = rw ((c .before .before .before .before .before .before .before .before .before .before .before .before .before .before .before .before .before .before .before .before .before .before .before .before .before .before .payload-of) .ensures) at ((c .before .before .before .before .before .before .before .before .before .before .before .before .before .before .before .before .before .before .before .before .before .before .before .child) .ensures .0) in
     at-end ((c .before .before .before .before .before .before .before .before .before .before .before .before .before .before .before .before .before .before .before .before .before .before .before .before .before .before .before .before .before .before .before) .pre .1) ((c .before .before .before .before .before .before .before .before .before .before .before .before .before .before .before .before .before .before .before .before .before .before .before .before .before .loop) .inv) ((c .before .before .before .before .before .before .before .before .before .before .before .before .before .before .before .before .before .before .before .before .before .before .before .before .loop-test) .taken) (rw ((c .before .before .before .before .before .before .before .before .before .before .before .before .before .before .before .before .before .before .before .before .before .words-of) .ensures .0, e) at ((c .before .before .before .before .before .before .before .before .before .before .before .before .before .before .before .before .expression) .ensures)) ((c .before .before .before .before .before .before .before .before .before .before .test-and-jump) .ensures) (rw ((c .before .before .before .before .before .before .before .before .before .before .before .before .before .before .before .before .before .before .before .count-of) .ensures .0, e) at ((c .before .before .before .before .before .row) .ensures))
 
+pub visit-requires : (t : ℕ) → lts.Need-visit-requires (claims t) (elifs-at t) elifs.Post Inv-loop μ-loop
+visit-requires t c κs = omega (arith, (c .before .before .before .end-branch) .ensures .moves .fine .sound .long)
+
 pub add-k : (t : ℕ) → lts.Need-add-k (claims t) (elifs-at t) elifs.Post Inv-loop μ-loop
-add-k t c = record { fits = one-more ((c .before .before .before .before .before .before .before .before .before .before .before .before .before .before .before .before .before .before .before .before .before .before .before .before .before .before .before .loop-test) .taken) ((c .before .before .before .before .before .before .before .before .before .before .before .before .before .before .before .before .before .before .before .before .before .before .before .before .before .before .before .before .before .before .before .before .before .before) .fits .to .fits) }
+add-k t c = record { fits = one-more ((c .before .before .before .before .before .before .before .before .before .before .before .before .before .before .before .before .before .before .before .before .before .before .before .before .before .before .before .before .before .before .before .loop-test) .taken) ((c .before .before .before .before .before .before .before .before .before .before .before .before .before .before .before .before .before .before .before .before .before .before .before .before .before .before .before .before .before .before .before .before .before .before .before .before .before .before) .fits .to .fits) }
 
 pub loop-less : (t : ℕ) → lts.Need-loop-less (claims t) (elifs-at t) elifs.Post Inv-loop μ-loop
-loop-less t c = omega (arith, (c .before .before .before .before .before .before .before .before .before .before .before .before .before .before .before .before .before .before .before .before .before .before .before .before .before .before .before .loop-test) .taken)
+loop-less t c = omega (arith, (c .before .before .before .before .before .before .before .before .before .before .before .before .before .before .before .before .before .before .before .before .before .before .before .before .before .before .before .before .before .before .before .loop-test) .taken)
 
 pub loop-again : (t : ℕ) → lts.Need-loop-again (claims t) (elifs-at t) elifs.Post Inv-loop μ-loop
 loop-again t c =
-    let e = rw ((c .before .before .before .before .before .before .before .before .before .before .before .before .before .before .before .before .before .before .before .before .before .before .before .before .before .before .before .before .before .payload-of) .ensures) at ((c .before .before .before .before .before .before .before .before .before .before .before .before .before .before .before .before .before .before .before .before .before .before .before .before .before .before .child) .ensures .0) in
-    turn ((c .before .before .before .before .before .before .before .before .before .before .before .before .before .before .before .before .before .before .before .before .before .before .before .before .before .before .before .before .before .before .before .before .before .before) .pre .1) ((c .before .before .before .before .before .before .before .before .before .before .before .before .before .before .before .before .before .before .before .before .before .before .before .before .before .before .before .before .loop) .inv) ((c .before .before .before .before .before .before .before .before .before .before .before .before .before .before .before .before .before .before .before .before .before .before .before .before .before .before .before .loop-test) .taken) (rw ((c .before .before .before .before .before .before .before .before .before .before .before .before .before .before .before .before .before .before .before .before .before .before .before .before .words-of) .ensures .0, e) at ((c .before .before .before .before .before .before .before .before .before .before .before .before .before .before .before .before .before .before .before .expression) .ensures)) ((c .before .before .before .before .before .before .before .before .before .before .before .before .before .test-and-jump) .ensures) (rw ((c .before .before .before .before .before .before .before .before .before .before .before .before .before .before .before .before .before .before .before .before .before .before .count-of) .ensures .0, e) at ((c .before .before .before .before .before .before .before .before .row) .ensures)) ((c .before .before .end-branch) .ensures)
+    let e = rw ((c .before .before .before .before .before .before .before .before .before .before .before .before .before .before .before .before .before .before .before .before .before .before .before .before .before .before .before .before .before .before .before .before .before .payload-of) .ensures) at ((c .before .before .before .before .before .before .before .before .before .before .before .before .before .before .before .before .before .before .before .before .before .before .before .before .before .before .before .before .before .before .child) .ensures .0) in
+    turn ((c .before .before .before .before .before .before .before .before .before .before .before .before .before .before .before .before .before .before .before .before .before .before .before .before .before .before .before .before .before .before .before .before .before .before .before .before .before .before) .pre .1) ((c .before .before .before .before .before .before .before .before .before .before .before .before .before .before .before .before .before .before .before .before .before .before .before .before .before .before .before .before .before .before .before .before .loop) .inv) ((c .before .before .before .before .before .before .before .before .before .before .before .before .before .before .before .before .before .before .before .before .before .before .before .before .before .before .before .before .before .before .before .loop-test) .taken) (rw ((c .before .before .before .before .before .before .before .before .before .before .before .before .before .before .before .before .before .before .before .before .before .before .before .before .before .before .before .before .words-of) .ensures .0, e) at ((c .before .before .before .before .before .before .before .before .before .before .before .before .before .before .before .before .before .before .before .before .before .before .before .expression) .ensures)) ((c .before .before .before .before .before .before .before .before .before .before .before .before .before .before .before .before .before .test-and-jump) .ensures) (rw ((c .before .before .before .before .before .before .before .before .before .before .before .before .before .before .before .before .before .before .before .before .before .before .before .before .before .before .count-of) .ensures .0, e) at ((c .before .before .before .before .before .before .before .before .before .before .before .before .row) .ensures)) ((c .before .before .before .before .before .before .end-branch) .ensures) ((c .before .before .visit) .ensures)
 
 pub settle-requires : (t : ℕ) → lts.Need-settle-requires (claims t) (elifs-at t) elifs.Post Inv-loop μ-loop
 settle-requires t c κs = tt

@@ -6,9 +6,10 @@ use Rattle.cycle.proofs.expression.Reads as expression
 use Rattle.cycle.proofs.reading.words_of.Reads as words-of-reads
 use Rattle.cycle.proofs.+addi+arguments+binary+block+body+both+call+class+elifs+expr_stmt+expression+fn_stmt+for_in+for_loop+function+if_stmt+let_stmt+logical+methods+minus+return_stmt+row+statement+try_catch+unary+while_loop.Proof.Order.{expr-stmt-at, expression-below}
 use Rattle.cycle.proofs.Nodes.{an-expression}
+use Rattle.cycle.proofs.Visited.{expression-visits}
 use Rattle.cycle.proofs.Sizes.{expression-size}
 use Rattle.cycle.proofs.Way.{_▹_, arrive, ends, from, give-expr, readable}
-use Rattle.cycle.specs.Cycle.{AskExpr, GivenStmt, LowersExpr, LowersStmt}
+use Rattle.cycle.specs.Cycle.{AskExpr, GivenStmt, LowersExpr, UnderStmt}
 use Rattle.meaning.proofs.Reading.{Expression}
 use Rattle.meaning.specs.At.{word-of}
 use Rattle.meaning.specs.Fields.{fields}
@@ -22,11 +23,11 @@ module _ {t w : List ℕ} {p : Scope} {s : Step} {i : ℕ} (g : GivenStmt t w p 
   value : AskExpr t w p s (word-of (fields t) i 0)
   value = let n = expression-size x in give-expr (from (g .ready)) (g .known) (x .value) (omega arith) (omega arith) (omega arith) (omega arith)
 
-  lowers : {o w1 o1 : List ℕ} {s1 : Step} → LowersExpr t (word-of (fields t) i 0) w o p s w1 o1 s1 → LowersStmt t i w o p s w1 o1 s1
+  lowers : {o w1 o1 : List ℕ} {s1 : Step} → LowersExpr t (word-of (fields t) i 0) w o p s w1 o1 s1 → UnderStmt t i w o p s w1 o1 s1
   unfolding lower-expr
   lowers d1 =
       let n = expression-size x in
-      arrive _ _ (from (g .ready) ▹ d1 .does .moves) (omega arith) (omega arith) (omega arith) (λ z. omega arith) (d1 .does .same) (d1 .small) λ ps z.
+      arrive _ _ _ (from (g .ready) ▹ d1 .does .moves) (omega arith) (omega arith) (omega arith) (λ z. omega arith) (omega (arith, expression-visits x)) (d1 .does .same) (d1 .small) λ ps z.
       let a1 = d1 .does .does ps z in
       ends a1 (rw (x .is) (a1 .runs))
 

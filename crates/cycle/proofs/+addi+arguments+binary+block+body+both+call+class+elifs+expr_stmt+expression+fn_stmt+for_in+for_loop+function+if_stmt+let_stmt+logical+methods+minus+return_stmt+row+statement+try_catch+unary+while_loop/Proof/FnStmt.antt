@@ -15,6 +15,7 @@ use Rattle.cycle.proofs.Nested.{begun, cut-owing, ended}
 use Rattle.cycle.proofs.Nodes.{a-define}
 use Rattle.cycle.proofs.Sizes.{fun-size, tokens-same}
 use Rattle.cycle.proofs.Way.{_▹_, arrive, ends, from, meanwhile, next, next-leaf, readable, stand, stand-at, to}
+use Rattle.cycle.proofs.Visited.{fun-visits}
 use Rattle.cycle.specs.Cycle.{AskBody, AskFun, LowersBody, LowersFun, Ready}
 use Rattle.forward.proofs.Chains.{fun-chain}
 use Rattle.forward.specs.Forward.{bind, declare, end-fun, open-fun}
@@ -84,7 +85,7 @@ module _ {t w : List ℕ} {p : Scope} {s : Step} {i : ℕ} (g : AskFun t w p s i
             lowers =
                 let l1 = d1 .0 (word-of (fields t) i 1) in
                 let m = moves-then refl (omega arith) (omega arith) (d3 .0 .moves) (d4 .moves) in
-                arrive _ _ (from (g .0 .ready) ▹ ended (l1 .moves) d2 m (omega arith) (d5 .0 .leaves)) (omega arith) (omega arith) (omega arith) (λ z. absurd (omega arith)) (d5 .0 .same ∙ d4 .same) (d5 .1) λ ps z.
+                arrive _ _ _ (from (g .0 .ready) ▹ ended (l1 .moves) d2 m (omega arith) (d5 .0 .leaves)) (omega arith) (omega arith) (omega arith) (λ z. absurd (omega arith)) (omega (arith, fun-visits x)) (d5 .0 .same ∙ d4 .same) (d5 .1) λ ps z.
                 let a1 = leaf-after l1 o ps z in
                 let a2 = next-leaf a1 (d2 .leaf) in
                 let a3 = next-leaf a2 (d3 .0) in

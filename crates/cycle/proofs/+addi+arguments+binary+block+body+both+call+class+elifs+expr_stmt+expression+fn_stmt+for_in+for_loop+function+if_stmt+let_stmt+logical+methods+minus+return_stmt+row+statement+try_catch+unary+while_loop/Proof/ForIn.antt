@@ -14,9 +14,10 @@ use Rattle.parts.proofs.open_for_in.Reads as open-for-in-reads
 use Rattle.cycle.proofs.+addi+arguments+binary+block+body+both+call+class+elifs+expr_stmt+expression+fn_stmt+for_in+for_loop+function+if_stmt+let_stmt+logical+methods+minus+return_stmt+row+statement+try_catch+unary+while_loop.Proof.Order.{expression-below, for-in-at, statement-below}
 use Rattle.cycle.proofs.Counts.{few-words}
 use Rattle.cycle.proofs.Nodes.{a-for-in}
+use Rattle.cycle.proofs.Visited.{for-in-visits}
 use Rattle.cycle.proofs.Sizes.{for-in-size, tokens-same}
 use Rattle.cycle.proofs.Way.{_▹_, arrive, ends, from, give-expr, give-looped, inside, leaf-known, meanwhile, next, next-leaf, readable, sets, stand}
-use Rattle.cycle.specs.Cycle.{AskExpr, AskStmt, GivenStmt, LowersExpr, LowersStmt}
+use Rattle.cycle.specs.Cycle.{AskExpr, AskStmt, GivenStmt, LowersExpr, LowersStmt, UnderStmt}
 use Rattle.forward.proofs.Chains.{for-in-chain}
 use Rattle.forward.specs.Forward.{Config, config, emit, end-for-in, end-loop, fwd-by, give, going, head-for-in, on, open-for-in, sure, test-and-jump}
 use Rattle.meaning.proofs.Reading.{ForIn}
@@ -117,12 +118,12 @@ module _ {t w : List ℕ} {p : Scope} {s : Step} {i : ℕ} (g : GivenStmt t w p 
               )
 
           module _ {w5 : List ℕ} {s5 : Step} (d5 : Leaf w4 p s4 w5 p s5 (uses 4 0 0) (sure (end-for-in (p .mode) (s .code) (s2 .code) (s1 .result) (word-of (fields t) i 0)))) where
-            lowers : LowersStmt t i w o p s w5 o4 s5
+            lowers : UnderStmt t i w o p s w5 o4 s5
             unfolding lower-expr end-for-in end-loop
             lowers =
                 let n = for-in-size x in
                 let m4 = loop-around p (d3 .moves .fine) (d4 .does .moves) in
-                arrive _ _ (from (g .ready) ▹ d1 .moves ▹ d2 .does .moves ▹ d3 .moves ▹ m4 ▹ d5 .moves) (omega arith) (omega arith) (omega arith) (λ z. omega arith)
+                arrive _ _ _ (from (g .ready) ▹ d1 .moves ▹ d2 .does .moves ▹ d3 .moves ▹ m4 ▹ d5 .moves) (omega arith) (omega arith) (omega arith) (λ z. omega arith) (omega (arith, for-in-visits x))
                 (d4 .does .same ∙ d2 .does .same) (sets d5 0 (λ c. refl) (λ e. lit< tt)) λ ps z.
                 let a1 = leaf-after d1 o ps z in
                 let a2 = next a1 (d2 .does) in

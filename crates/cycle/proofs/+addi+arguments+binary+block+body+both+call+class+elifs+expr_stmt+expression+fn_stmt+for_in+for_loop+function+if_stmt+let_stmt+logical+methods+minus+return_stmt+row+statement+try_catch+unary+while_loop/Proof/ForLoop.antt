@@ -14,7 +14,9 @@ use Rattle.cycle.proofs.+addi+arguments+binary+block+body+both+call+cla
 use Rattle.cycle.proofs.Nodes.{a-for}
 use Rattle.cycle.proofs.Sizes.{for-size}
 use Rattle.cycle.proofs.Way.{_▹_, adds, arrive, ends, from, give-expr, give-looped, give-row, meanwhile, next, next-leaf, readable, sets, stand, twice}
-use Rattle.cycle.specs.Cycle.{AskExpr, AskRow, AskStmt, GivenStmt, LowersExpr, LowersRow, LowersStmt}
+use Rattle.cycle.proofs.Visited.{for-visits}
+use Rattle.meaning.specs.Visits.{under-stmt, visits-expr, visits-stmt, visits-stmts}
+use Rattle.cycle.specs.Cycle.{AskExpr, AskRow, AskStmt, GivenStmt, LowersExpr, LowersRow, LowersStmt, UnderStmt}
 use Rattle.forward.proofs.Chains.{for-chain}
 use Rattle.forward.specs.Forward.{end-loop, sure, test-and-jump}
 use Rattle.meaning.proofs.Reading.{For}
@@ -57,6 +59,9 @@ module _ {fs : List Field} {i : ℕ} (x : For fs i) where
 
   for-size-of : size-stmt (stmt-at fs i) ≡ 1 + (size-stmts (stmts-at fs i 1 (until fs i)) + (size-expr (expr-at fs (word-of fs i 2)) + (size-expr (expr-at fs (word-of fs i 3)) + size-stmt (stmt-at fs (word-of fs i 4)))))
   for-size-of = rw (initializer-is _ refl) at (for-size x)
+
+  for-visits-of : under-stmt (stmt-at fs i) ≡ visits-stmts (stmts-at fs i 1 (until fs i)) + (visits-expr (expr-at fs (word-of fs i 2)) + (visits-expr (expr-at fs (word-of fs i 3)) + visits-stmt (stmt-at fs (word-of fs i 4))))
+  for-visits-of = rw (initializer-is _ refl) at (for-visits x)
 
 module _ {t w : List ℕ} {p : Scope} {s : Step} {i : ℕ} (g : GivenStmt t w p s i) (x : For (fields t) i) where
   first : AskRow t w p s i 1 (until (fields t) i)
@@ -107,12 +112,12 @@ module _ {t w : List ℕ} {p : Scope} {s : Step} {i : ℕ} (g : GivenStmt t w p 
                 )
 
             module _ {w6 : List ℕ} {s6 : Step} (d6 : Leaf w5 p s5 w6 p s6 (uses 2 0 0) (sure (end-loop (p .mode) (s .code) (s4 .code) (s1 .code) (s2 .code) 0 (word-of (fields t) i 0)))) where
-              lowers : LowersStmt t i w o p s w6 o5 s6
+              lowers : UnderStmt t i w o p s w6 o5 s6
               unfolding lower-expr end-loop
               lowers =
                   let n = for-size-of x in
                   let m4 = loop-around p (d3 .moves .fine) (d4 .does .moves) in
-                  arrive _ _ (from (g .ready) ▹ d1 .does .moves ▹ d2 .does .moves ▹ d3 .moves ▹ m4 ▹ d5 .does .moves ▹ d6 .moves) (omega arith) (omega arith) (omega arith) (λ z. omega arith)
+                  arrive _ _ _ (from (g .ready) ▹ d1 .does .moves ▹ d2 .does .moves ▹ d3 .moves ▹ m4 ▹ d5 .does .moves ▹ d6 .moves) (omega arith) (omega arith) (omega arith) (λ z. omega arith) (omega (arith, for-visits-of x))
                   (d5 .does .same ∙ d4 .does .same ∙ d2 .does .same ∙ d1 .does .same) (sets d6 0 (λ c. refl) (λ e. lit< tt)) λ ps z.
                   let a1 = d1 .does .does ps z in
                   let a2 = next a1 (d2 .does) in

@@ -14,9 +14,10 @@ use Rattle.cycle.proofs.+addi+arguments+binary+block+body+both+call+cla
 use Rattle.code.specs.Cuts.{Ends, cut-step}
 use Rattle.cycle.proofs.Nested.{begun, cut-room, ended}
 use Rattle.cycle.proofs.Nodes.{a-function}
+use Rattle.cycle.proofs.Visited.{function-visits}
 use Rattle.cycle.proofs.Sizes.{function-size, tokens-same}
 use Rattle.cycle.proofs.Way.{_▹_, arrive, ends, from, meanwhile, next, next-leaf, readable, stand, stand-at, to}
-use Rattle.cycle.specs.Cycle.{AskBody, GivenExpr, LowersBody, LowersExpr, Ready}
+use Rattle.cycle.specs.Cycle.{AskBody, GivenExpr, LowersBody, Ready, UnderExpr}
 use Rattle.forward.proofs.Chains.{function-chain}
 use Rattle.forward.specs.Forward.{bind, end-function, fwd-number, open-function}
 use Rattle.meaning.proofs.Reading.{Function}
@@ -77,12 +78,12 @@ module _ {t w : List ℕ} {p : Scope} {s : Step} {i : ℕ} (g : GivenExpr t w p 
               (d4 .moves .fine, leavable (d1 .0 .moves .fine) d2 m, cut-room (d1 .0 .moves) d2 m (omega arith) 0 2 0 (g .ready) (omega arith) (omega arith) (omega arith), meanwhile (s4 .outcome) ((s1 .code ≤ s4 .code) × (s1 .result < 255)) λ e. (begun (d1 .0 .moves) d2 m (omega arith), d1 .1))
 
           module _ {w5 o5 : List ℕ} {s5 : Step} (d5 : Ends (s1 .code) w4 o4 p s4 w5 o5 s5 (uses 2 0 0) (end-function (s1 .code) i (word-of (fields t) i 0) (s1 .result) (first-mark (tokens-at (fields t) i 1 (1 + 2 * word-of (fields t) i 0)))) × Small s5) where
-            lowers : LowersExpr t i w o p s w5 o5 s5
+            lowers : UnderExpr t i w o p s w5 o5 s5
             unfolding lower-expr
             lowers =
                 let n = function-size x in
                 let m = moves-then refl (omega arith) (omega arith) (d3 .0 .moves) (d4 .moves) in
-                arrive _ _ (from (g .ready) ▹ ended (d1 .0 .moves) d2 m (omega arith) (d5 .0 .leaves)) (omega arith) (omega arith) (omega arith) (λ z. refl) (d5 .0 .same ∙ d4 .same) (d5 .1) λ ps z.
+                arrive _ _ _ (from (g .ready) ▹ ended (d1 .0 .moves) d2 m (omega arith) (d5 .0 .leaves)) (omega arith) (omega arith) (omega arith) (λ z. refl) (omega (arith, function-visits x)) (d5 .0 .same ∙ d4 .same) (d5 .1) λ ps z.
                 let a1 = leaf-after (d1 .0) o ps z in
                 let a2 = next-leaf a1 (d2 .leaf) in
                 let a3 = next-leaf a2 (d3 .0) in

@@ -12,9 +12,10 @@ use Rattle.cycle.proofs.reading.branches_of.Reads as branches-of-reads
 use Rattle.cycle.proofs.reading.words_of.Reads as words-of-reads
 use Rattle.cycle.proofs.+addi+arguments+binary+block+body+both+call+class+elifs+expr_stmt+expression+fn_stmt+for_in+for_loop+function+if_stmt+let_stmt+logical+methods+minus+return_stmt+row+statement+try_catch+unary+while_loop.Proof.Order.{elifs-below, expression-below, if-stmt-at, row-below}
 use Rattle.cycle.proofs.Nodes.{an-if}
+use Rattle.cycle.proofs.Visited.{if-visits}
 use Rattle.cycle.proofs.Sizes.{if-size}
 use Rattle.cycle.proofs.Way.{_▹_, adds, arrive, ends, from, give-expr, give-row, meanwhile, next, next-leaf, readable, sets, stand, twice}
-use Rattle.cycle.specs.Cycle.{AskElifs, AskExpr, AskRow, GivenStmt, LowersElifs, LowersExpr, LowersRow, LowersStmt}
+use Rattle.cycle.specs.Cycle.{AskElifs, AskExpr, AskRow, GivenStmt, LowersElifs, LowersExpr, LowersRow, UnderStmt}
 use Rattle.forward.proofs.Chains.{if-chain}
 use Rattle.forward.specs.Forward.{end-branch, end-if, sure, test-and-jump}
 use Rattle.meaning.proofs.Reading.{If}
@@ -85,11 +86,11 @@ module _ {t w : List ℕ} {p : Scope} {s : Step} {i n m : ℕ} (g : GivenStmt t 
                   (y .fine, meanwhile (s6 .outcome) (s .code ≤ s6 .code) λ e. y .longer)
 
               module _ {w7 : List ℕ} {s7 : Step} (d7 : Leaf w6 p s6 w7 p s7 (uses 0 0 0) (sure (end-if (s .code)))) where
-                lowers : LowersStmt t i w o p s w7 o6 s7
+                lowers : UnderStmt t i w o p s w7 o6 s7
                 unfolding lower-expr end-if
                 lowers =
                     let z = if-size x in
-                    arrive _ _ (from (g .ready) ▹ d1 .does .moves ▹ d2 .moves ▹ d3 .does .moves ▹ d4 .moves ▹ d5 .does .moves ▹ d6 .does .moves ▹ d7 .moves) (omega arith) (omega arith) (omega arith) (λ e. omega arith)
+                    arrive _ _ _ (from (g .ready) ▹ d1 .does .moves ▹ d2 .moves ▹ d3 .does .moves ▹ d4 .moves ▹ d5 .does .moves ▹ d6 .does .moves ▹ d7 .moves) (omega arith) (omega arith) (omega arith) (λ e. omega arith) (omega (arith, if-visits x))
                     (d6 .does .same ∙ d5 .does .same ∙ d3 .does .same ∙ d1 .does .same) (sets d7 0 (λ c. refl) (λ e. lit< tt)) λ ps y.
                     let a1 = d1 .does .does ps y in
                     let a2 = next-leaf a1 d2 in

@@ -14,7 +14,8 @@ use Rattle.cycle.proofs.+addi+arguments+binary+block+body+both+call+cla
 use Rattle.cycle.proofs.Nodes.{a-let}
 use Rattle.cycle.proofs.Sizes.{let-as-size, let-only-size}
 use Rattle.cycle.proofs.Way.{_▹_, arrive, ends, from, give-expr, keeps, leaf-lowers, meanwhile, next, next-leaf, on-node, readable, stand}
-use Rattle.cycle.specs.Cycle.{AskExpr, GivenStmt, LowersExpr, LowersStmt}
+use Rattle.cycle.proofs.Visited.{let-as-visits, let-only-visits}
+use Rattle.cycle.specs.Cycle.{AskExpr, GivenStmt, LowersExpr, UnderStmt}
 use Rattle.forward.proofs.Chains.{let-as-chain}
 use Rattle.forward.specs.Forward.{emit, fwd-number, fwd-unit, sure}
 use Rattle.meaning.proofs.Lists.{and-right}
@@ -60,11 +61,11 @@ module _ {t w : List ℕ} {p : Scope} {s : Step} {i : ℕ} (g : GivenStmt t w p 
           let y = stand 0 1 1 (from (g .ready) ▹ d1 .does .moves) (omega arith) (omega arith) (omega arith) (omega arith) in
           (y .fine, y .room, omega (arith, x .name), d1 .small)
 
-      lowers-local : {w2 : List ℕ} → Leaf w1 p s1 w2 p s1 a-local (fwd-unit (allocate-register (word-of (fields t) i 0) (s1 .result))) → LowersStmt t i w o p s w2 o1 s1
+      lowers-local : {w2 : List ℕ} → Leaf w1 p s1 w2 p s1 a-local (fwd-unit (allocate-register (word-of (fields t) i 0) (s1 .result))) → UnderStmt t i w o p s w2 o1 s1
       unfolding lower-expr
       lowers-local d2 =
           let n = let-as-size x three in
-          arrive _ _ (from (g .ready) ▹ d1 .does .moves ▹ d2 .moves) (omega arith) (omega arith) (omega arith) (λ z. omega arith) (d1 .does .same) (d1 .small) λ ps z.
+          arrive _ _ _ (from (g .ready) ▹ d1 .does .moves ▹ d2 .moves) (omega arith) (omega arith) (omega arith) (λ z. omega arith) (omega (arith, let-as-visits x three)) (d1 .does .same) (d1 .small) λ ps z.
           let a1 = d1 .does .does ps z in
           let a2 = next-leaf a1 d2 in
           ends a2 (rw (x .is-as three) (let-as-chain _ _ _ _ _ _ (tells ps) .1 local _ (a1 .runs) _ (known _ _ _ (a1 .protos)) _ (a2 .runs)))
@@ -81,11 +82,11 @@ module _ {t w : List ℕ} {p : Scope} {s : Step} {i : ℕ} (g : GivenStmt t w p 
             let y = stand 0 2 0 (from (g .ready) ▹ d1 .moves ▹ d2 .does .moves) (omega arith) (omega arith) (omega arith) (omega arith) in
             (y .fine, y .room, meanwhile (s2 .outcome) ((45 < 256) × (s2 .result < 256)) λ e. let v = due (s2 .outcome) (d2 .small) e in (omega arith, omega arith))
 
-        lowers-global : {w3 : List ℕ} {s3 : Step} → Leaf w2 p s2 w3 p s3 (uses 2 0 0) (sure (emit (wide SetGlobal (s2 .result) (s1 .result) (word-of (fields t) i 1)))) → LowersStmt t i w o p s w3 o2 s3
+        lowers-global : {w3 : List ℕ} {s3 : Step} → Leaf w2 p s2 w3 p s3 (uses 2 0 0) (sure (emit (wide SetGlobal (s2 .result) (s1 .result) (word-of (fields t) i 1)))) → UnderStmt t i w o p s w3 o2 s3
         unfolding lower-expr
         lowers-global d3 =
             let n = let-as-size x three in
-            arrive _ _ (from (g .ready) ▹ d1 .moves ▹ d2 .does .moves ▹ d3 .moves) (omega arith) (omega arith) (omega arith) (λ z. omega arith) (d2 .does .same) (keeps d3 (λ c. refl) (d2 .small)) λ ps z.
+            arrive _ _ _ (from (g .ready) ▹ d1 .moves ▹ d2 .does .moves ▹ d3 .moves) (omega arith) (omega arith) (omega arith) (λ z. omega arith) (omega (arith, let-as-visits x three)) (d2 .does .same) (keeps d3 (λ c. refl) (d2 .small)) λ ps z.
             let a1 = leaf-after d1 o ps z in
             let a2 = next a1 (d2 .does) in
             let a3 = next-leaf a2 d3 in
@@ -111,7 +112,8 @@ pub returns : (t : ℕ) → lts.Need-returns (claims t) (let-stmt-at t) let-stmt
 returns t c =
     let g = (c .before .before .before .before .before .before .before .before .before .before) .pre .1 .0 in
     let n = let-only-size (a-let (g .ready .lawful) (g .known) ((c .before .before .before .before .before .before .before .before .before .before) .pre .1 .1)) (sym ((c .before .before .before .before .before .count-of) .ensures .0) ∙ (c .before .before .before .before .if1) .taken) in
-    leaf-lowers _ _ (ap (λ n. 8 * n) n) n ((c .before .before .let-only) .ensures)
+    let v = let-only-visits (a-let (g .ready .lawful) (g .known) ((c .before .before .before .before .before .before .before .before .before .before) .pre .1 .1)) (sym ((c .before .before .before .before .before .count-of) .ensures .0) ∙ (c .before .before .before .before .if1) .taken) in
+    leaf-lowers _ _ _ (ap (λ n. 8 * n) n) n v ((c .before .before .let-only) .ensures)
 
 pub words-of-requires : (t : ℕ) → lts.Need-words-of-requires (claims t) (let-stmt-at t) let-stmt.Post
 words-of-requires t c κs = readable ((c .before .before .before .before .before .before .before) .pre .1 .0 .ready) ((c .before .before .before .before .before .before .before) .pre .1 .0 .known)

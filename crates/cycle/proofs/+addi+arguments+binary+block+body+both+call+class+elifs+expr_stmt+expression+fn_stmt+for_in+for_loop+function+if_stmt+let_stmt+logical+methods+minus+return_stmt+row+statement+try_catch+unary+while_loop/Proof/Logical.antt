@@ -9,9 +9,10 @@ use Rattle.cycle.proofs.operators.or_flag.Reads as or-flag-reads
 use Rattle.cycle.proofs.reading.words_of.Reads as words-of-reads
 use Rattle.cycle.proofs.+addi+arguments+binary+block+body+both+call+class+elifs+expr_stmt+expression+fn_stmt+for_in+for_loop+function+if_stmt+let_stmt+logical+methods+minus+return_stmt+row+statement+try_catch+unary+while_loop.Proof.Order.{expression-below, logical-at}
 use Rattle.cycle.proofs.Nodes.{a-logical}
+use Rattle.cycle.proofs.Visited.{logical-visits}
 use Rattle.cycle.proofs.Sizes.{logical-size}
 use Rattle.cycle.proofs.Way.{_▹_, adds, arrive, ends, from, give-expr, meanwhile, next, next-leaf, readable, sets, stand, twice}
-use Rattle.cycle.specs.Cycle.{AskExpr, GivenExpr, LowersExpr}
+use Rattle.cycle.specs.Cycle.{AskExpr, GivenExpr, LowersExpr, UnderExpr}
 use Rattle.forward.proofs.Chains.{logical-chain}
 use Rattle.forward.specs.Forward.{end-logical, sure, test-and-jump}
 use Rattle.meaning.proofs.Reading.{Logical}
@@ -65,10 +66,10 @@ module _ {t w : List ℕ} {p : Scope} {s : Step} {i : ℕ} (g : GivenExpr t w p 
             )
 
         module _ {w4 : List ℕ} {s4 : Step} (d4 : Leaf w3 p s3 w4 p s4 (uses 2 0 0) (sure (end-logical (s1 .code) (s1 .result) (word-of (fields t) i 1)))) where
-          lowers : LowersExpr t i w o p s w4 o3 s4
+          lowers : UnderExpr t i w o p s w4 o3 s4
           unfolding lower-expr end-logical
           lowers =
-              arrive _ _ (from (g .ready) ▹ d1 .does .moves ▹ d2 .moves ▹ d3 .does .moves ▹ d4 .moves) (omega (arith, logical-size x)) (omega arith) (omega arith) (λ z. refl)
+              arrive _ _ _ (from (g .ready) ▹ d1 .does .moves ▹ d2 .moves ▹ d3 .does .moves ▹ d4 .moves) (omega (arith, logical-size x)) (omega arith) (omega arith) (λ z. refl) (omega (arith, logical-visits x))
               (d3 .does .same ∙ d1 .does .same) (sets d4 (s1 .result) (λ c. refl) (λ e. due (s1 .outcome) (d1 .small) (d2 .moves .back (d3 .does .moves .back (d4 .moves .back e))))) λ ps z.
               let a1 = d1 .does .does ps z in
               let a2 = next-leaf a1 d2 in

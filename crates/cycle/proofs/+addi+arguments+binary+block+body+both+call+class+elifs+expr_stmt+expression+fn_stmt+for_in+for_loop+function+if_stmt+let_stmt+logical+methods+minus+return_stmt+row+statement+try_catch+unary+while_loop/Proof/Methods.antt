@@ -9,11 +9,15 @@ use Rattle.nodes.proofs.child.Reads as child-reads
 use Rattle.parts.proofs.add_method.Reads as add-method-reads
 use Rattle.store.proofs.settle.Reads as settle-reads
 use Rattle.cycle.proofs.+addi+arguments+binary+block+body+both+call+class+elifs+expr_stmt+expression+fn_stmt+for_in+for_loop+function+if_stmt+let_stmt+logical+methods+minus+return_stmt+row+statement+try_catch+unary+while_loop.Proof.Order.{fn-stmt-below, methods-at}
-use Rattle.cycle.proofs.Way.{from}
+use Rattle.cycle.proofs.Way.{after-ticked, from}
 use Rattle.cycle.proofs.Nodes.{a-define}
 use Rattle.cycle.proofs.Sizes.{fun-size, funs-size, funs-size-none}
 use Rattle.cycle.proofs.Turns.{Turning, closed, none-turned, turned}
 use Rattle.cycle.proofs.Way.{_▹_, arrive, meanwhile, next-leaf, readable, small, spends, stand}
+use Rattle.cycle.proofs.Visited.{funs-visits, funs-visits-none}
+use Rattle.meaning.specs.Visits.{visits-fun, visits-funs}
+use Rattle.store.proofs.Visiting.{ticked-moves}
+use Rattle.store.proofs.visit.Reads as visit-reads
 use Rattle.cycle.specs.Cycle.{AskFun, AskMethods, LowersFun, LowersMethods}
 use Rattle.forward.proofs.Chains.{method-chain}
 use Rattle.forward.specs.Forward.{add-method, fwd-code}
@@ -25,7 +29,7 @@ use Rattle.meaning.specs.Lower.{fun-name, lower-expr, lower-methods}
 use Rattle.meaning.specs.Weight.{size-fun, size-funs}
 use Rattle.store.proofs.Compose.{settled}
 use Rattle.store.proofs.Runs.{due}
-use Rattle.store.specs.Promise.{Leaf, Room, uses}
+use Rattle.store.specs.Promise.{Leaf, Room, Ticked, takes, uses}
 use Rattle.store.specs.Store.{Fine, while-going, with-result}
 use Rattle.store.specs.declared.Scope.{Scope}
 use Rattle.store.specs.declared.Step.{Step}
@@ -38,11 +42,13 @@ pub record Methoding (t w0 o0 : List ℕ) (p : Scope) (s0 : Step) (i from to mar
   pub low : from ≤ k
   pub done : ℕ
   pub size : done + size-funs (funs-at (fields t) i k to) ≡ size-funs (funs-at (fields t) i from to)
-  pub turning : Turning w0 o0 p s0 w o s (uses (8 * done) done 0) (fwd-code (lower-methods (p .mode) (funs-at (fields t) i from to) i mark op class (class + 1))) (fwd-code (lower-methods (p .mode) (funs-at (fields t) i k to) i mark op class (class + 1)))
+  pub seen : ℕ
+  pub count : seen + visits-funs (funs-at (fields t) i k to) ≡ visits-funs (funs-at (fields t) i from to)
+  pub turning : Turning w0 o0 p s0 w o s (takes (8 * done) done seen) (fwd-code (lower-methods (p .mode) (funs-at (fields t) i from to) i mark op class (class + 1))) (fwd-code (lower-methods (p .mode) (funs-at (fields t) i k to) i mark op class (class + 1)))
 
 module _ {t w0 : List ℕ} {p : Scope} {s0 : Step} {i f g op class : ℕ} (r : AskMethods t w0 p s0 i f g op class) (mark : ℕ) where
   start : {o0 : List ℕ} → Methoding t w0 o0 p s0 i f g mark op class w0 o0 s0 f
-  start = record { low = omega arith; done = 0; size = omega arith; turning = none-turned (r .0 .ready .fine) }
+  start = record { low = omega arith; done = 0; size = omega arith; seen = 0; count = omega arith; turning = none-turned (r .0 .ready .fine) }
 
   module _ {o0 w o : List ℕ} {s : Step} {k : ℕ} (v : Methoding t w0 o0 p s0 i f g mark op class w o s k) where
     module _ (h : k < g) where
@@ -73,23 +79,27 @@ module _ {t w0 : List ℕ} {p : Scope} {s0 : Step} {i f g op class : ℕ} (r : A
                   (r .2, omega arith, omega arith, omega arith),
             )
 
-        turn : {w2 : List ℕ} {s2 : Step} → Leaf w1 p s1 w2 p s2 (uses 4 0 0) (add-method i mark op class (class + 1) (word-of (fields t) (word-of (fields t) i k) 0)) → Methoding t w0 o0 p s0 i f g mark op class w2 o1 s2 (k + 1)
+        turn : {w2 w3 : List ℕ} {s2 : Step} → Leaf w1 p s1 w2 p s2 (uses 4 0 0) (add-method i mark op class (class + 1) (word-of (fields t) (word-of (fields t) i k) 0)) → Ticked w2 w3 → Methoding t w0 o0 p s0 i f g mark op class w3 o1 s2 (k + 1)
         unfolding lower-expr fun-name
-        turn d2 =
+        turn d2 d3 =
             let z = size-fun (fun-at (fields t) (word-of (fields t) i k)) in
+            let y = visits-fun (fun-at (fields t) (word-of (fields t) i k)) in
+            let m3 = ticked-moves (d2 .moves .fine) d3 in
             let l = fun-size defined in
             record {
               low = omega (arith, v .low);
               done = v .done + z;
               size = omega (arith, v .size, funs-size (fields t) i k g h (r .0 .ends));
+              seen = v .seen + y;
+              count = omega (arith, v .count, funs-visits (fields t) i k g h (r .0 .ends));
               turning =
                   record {
-                    moves = spends (8 * (v .done + z)) (v .done + z) (omega arith) (omega arith) (omega arith) (λ e. absurd (omega arith)) (from (r .0 .ready) ▹ v .turning .moves ▹ d .does .moves ▹ d2 .moves);
+                    moves = spends (8 * (v .done + z)) (v .done + z) (v .seen + y) (omega arith) (omega arith) (omega arith) (λ e. absurd (omega arith)) (omega arith) (from (r .0 .ready) ▹ v .turning .moves ▹ d .does .moves ▹ d2 .moves ▹ m3);
                     same = d .does .same ∙ v .turning .same;
-                    does = λ ps y.
-                        let a = v .turning .does ps y in
+                    does = λ ps j.
+                        let a = v .turning .does ps j in
                         let b = d .does .does (a .protos) (a .image) in
-                        let b2 = next-leaf b d2 in
+                        let b2 = after-ticked (d2 .moves .fine) d3 (next-leaf b d2) in
                         let e = ap fun-name (defined .is-fun) in
                         turned a b2 (λ x q. rw (funs-more (fields t) i k g h (r .0 .ends), e) (method-chain _ _ _ _ _ _ _ _ _ _ (b .runs) _ (b2 .runs) x q));
                   };
@@ -101,11 +111,11 @@ module _ {t w0 : List ℕ} {p : Scope} {s0 : Step} {i f g op class : ℕ} (r : A
         let n = size-funs (funs-at (fields t) i f g) in
         let m = funs-size-none (fields t) i k g h in
         let l = settled s 0 (lit< tt) (v .turning .moves .fine) in
-        arrive (8 * n) n (from (r .0 .ready) ▹ v .turning .moves ▹ l .moves) (omega (arith, v .size)) (omega (arith, v .size)) (omega arith) (λ e. omega (arith, v .size)) (v .turning .same) (small (with-result s 0) (lit< tt)) (closed (rw (funs-none (fields t) i k g h) at (v .turning)))
+        arrive (8 * n) n _ (from (r .0 .ready) ▹ v .turning .moves ▹ l .moves) (omega (arith, v .size)) (omega (arith, v .size)) (omega arith) (λ e. omega (arith, v .size)) (omega (arith, v .count, funs-visits-none (fields t) i k g h)) (v .turning .same) (small (with-result s 0) (lit< tt)) (closed (rw (funs-none (fields t) i k g h) at (v .turning)))
 
 -- what each function that is called asks and promises; a member of the cycle at a smaller measure
 abbrev pub claims : ℕ → lts.Claims
-claims t = (payload-of-reads.Asked, payload-of-reads.Learnt, child-reads.Asked, child-reads.Learnt, words-of-reads.Asked, words-of-reads.Learnt, fn-stmt-below t, fn-stmt.Post, add-method-reads.Asked, add-method-reads.Learnt, settle-reads.Asked, settle-reads.Learnt)
+claims t = (payload-of-reads.Asked, payload-of-reads.Learnt, child-reads.Asked, child-reads.Learnt, words-of-reads.Asked, words-of-reads.Learnt, fn-stmt-below t, fn-stmt.Post, add-method-reads.Asked, add-method-reads.Learnt, visit-reads.Asked, visit-reads.Learnt, settle-reads.Asked, settle-reads.Learnt)
 
 abbrev pub Inv-loop : lts.InvT-loop
 Inv-loop tree work₀ out₀ scope node from to mark op class payload last₀ k₀ work out last k = Methoding tree work₀ out₀ scope last₀ node from to mark op class work out last k
@@ -143,16 +153,19 @@ add-method-requires t c κs =
     let y = at-add ((c .before .before .before .before .before .before .before .before .before .before .before .before .before .before .before .before .before .before) .pre .1) _ ((c .before .before .before .before .before .before .before .before .before .before .before .before .loop) .inv) ((c .before .before .before .before .before .before .before .before .before .before .before .loop-test) .taken) (rw e at ((c .before .before .before .before .before .fn-stmt) .ensures)) in
     (y .0, y .1, (c .before .before .before .before .before .before .before .before .words-of) .ensures .1, y .2)
 
+pub visit-requires : (t : ℕ) → lts.Need-visit-requires (claims t) (methods-at t) methods.Post Inv-loop μ-loop
+visit-requires t c κs = omega (arith, (c .before .before .before .add-method) .ensures .moves .fine .sound .long)
+
 pub add-k : (t : ℕ) → lts.Need-add-k (claims t) (methods-at t) methods.Post Inv-loop μ-loop
-add-k t c = omega (arith, (c .before .before .before .before .before .before .before .before .before .before .before .before .before .before .loop-test) .taken, (c .before .before .before .before .before .before .before .before .before .before .before .before .before .before .before .before .before .before .before .before .before) .fits .to .fits)
+add-k t c = omega (arith, (c .before .before .before .before .before .before .before .before .before .before .before .before .before .before .before .before .before .before .loop-test) .taken, (c .before .before .before .before .before .before .before .before .before .before .before .before .before .before .before .before .before .before .before .before .before .before .before .before .before) .fits .to .fits)
 
 pub loop-less : (t : ℕ) → lts.Need-loop-less (claims t) (methods-at t) methods.Post Inv-loop μ-loop
-loop-less t c = omega (arith, (c .before .before .before .before .before .before .before .before .before .before .before .before .before .before .loop-test) .taken)
+loop-less t c = omega (arith, (c .before .before .before .before .before .before .before .before .before .before .before .before .before .before .before .before .before .before .loop-test) .taken)
 
 pub loop-again : (t : ℕ) → lts.Need-loop-again (claims t) (methods-at t) methods.Post Inv-loop μ-loop
 loop-again t c =
-    let e = rw ((c .before .before .before .before .before .before .before .before .before .before .before .before .before .before .before .before .payload-of) .ensures) at ((c .before .before .before .before .before .before .before .before .before .before .before .before .before .child) .ensures .0) in
-    turn ((c .before .before .before .before .before .before .before .before .before .before .before .before .before .before .before .before .before .before .before .before .before) .pre .1) _ ((c .before .before .before .before .before .before .before .before .before .before .before .before .before .before .before .loop) .inv) ((c .before .before .before .before .before .before .before .before .before .before .before .before .before .before .loop-test) .taken) (rw e at ((c .before .before .before .before .before .before .before .before .fn-stmt) .ensures)) (rw ((c .before .before .before .before .before .before .before .before .before .before .before .words-of) .ensures .0, e) at ((c .before .before .add-method) .ensures))
+    let e = rw ((c .before .before .before .before .before .before .before .before .before .before .before .before .before .before .before .before .before .before .before .before .payload-of) .ensures) at ((c .before .before .before .before .before .before .before .before .before .before .before .before .before .before .before .before .before .child) .ensures .0) in
+    turn ((c .before .before .before .before .before .before .before .before .before .before .before .before .before .before .before .before .before .before .before .before .before .before .before .before .before) .pre .1) _ ((c .before .before .before .before .before .before .before .before .before .before .before .before .before .before .before .before .before .before .before .loop) .inv) ((c .before .before .before .before .before .before .before .before .before .before .before .before .before .before .before .before .before .before .loop-test) .taken) (rw e at ((c .before .before .before .before .before .before .before .before .before .before .before .before .fn-stmt) .ensures)) (rw ((c .before .before .before .before .before .before .before .before .before .before .before .before .before .before .before .words-of) .ensures .0, e) at ((c .before .before .before .before .before .before .add-method) .ensures)) ((c .before .before .visit) .ensures)
 
 pub settle-requires : (t : ℕ) → lts.Need-settle-requires (claims t) (methods-at t) methods.Post Inv-loop μ-loop
 settle-requires t c κs = tt

@@ -1,5 +1,5 @@
 -- fn binary_literal at Minus: the right side and a register, whose code is cut off, then both sides.
-use Prim.Native.Nat.{ℕ, _≤_}
+use Prim.Native.Nat.{ℕ, _+_, _≤_}
 use Rattle.cycle.proofs.both.Reads as both
 use Rattle.cycle.proofs.expression.Reads as expression
 use Rattle.cycle.proofs.minus.Reads as minus
@@ -12,7 +12,7 @@ use Rattle.cycle.proofs.Dropped.{Rolls, next-rolled, rolled, rolls}
 use Rattle.cycle.proofs.Nodes.{a-binary}
 use Rattle.cycle.proofs.Sizes.{binary-size}
 use Rattle.cycle.proofs.Way.{Way, _▹_, arrive, ends, from, give-expr, next, next-leaf, readable, stand}
-use Rattle.cycle.specs.Cycle.{AskExpr, GivenExpr, LowersBoth, LowersExpr, LowersMinus}
+use Rattle.cycle.specs.Cycle.{AskExpr, GivenExpr, LowersBoth, LowersExpr, LowersMinus, seen}
 use Rattle.forward.proofs.Chains.{minus-chain}
 use Rattle.forward.specs.Forward.{fwd-number}
 use Rattle.meaning.proofs.Reading.{Binary}
@@ -21,7 +21,7 @@ use Rattle.meaning.specs.Fields.{fields}
 use Rattle.meaning.specs.State.{next-register}
 use Rattle.meaning.specs.Weight.{size-expr}
 use Rattle.store.proofs.Compose.{known}
-use Rattle.store.specs.Promise.{Leaf, a-register, nothing}
+use Rattle.store.specs.Promise.{Leaf, a-register, takes}
 use Rattle.store.specs.declared.Scope.{Scope}
 use Rattle.store.specs.declared.Step.{Step}
 use mathlib.Core.List.{List}
@@ -38,8 +38,8 @@ module _ {t w : List ℕ} {p : Scope} {s : Step} {i : ℕ} (g : GivenExpr t w p 
       longer = omega (arith, d1 .does .moves .longer, d2 .moves .longer)
 
       module _ {s3 : Step} (d3 : Rolls s2 (s .code) s3) where
-        -- nothing was used so far
-        again : Way t w p s (size-expr (expr-at (fields t) i)) 0 0 w2 p s3 nothing
+        -- nothing was used so far, but the right side was visited
+        again : Way t w p s (size-expr (expr-at (fields t) i)) 0 0 w2 p s3 (takes 0 0 (0 + seen t i 3 + 0))
         again = rolled d3 refl (omega arith) (from (g .ready) ▹ d1 .does .moves ▹ d2 .moves)
 
         all : GivenExpr t w2 p s3 i
@@ -48,7 +48,7 @@ module _ {t w : List ℕ} {p : Scope} {s : Step} {i : ℕ} (g : GivenExpr t w p 
         module _ {w4 o4 : List ℕ} {s4 : Step} (d4 : LowersBoth t i w2 o1 p s3 w4 o4 s4) where
           lowers : LowersMinus t i w o p s w4 o4 s4
           lowers =
-              arrive _ _ (again ▹ d4 .does .moves) (omega arith) (omega arith) (omega arith) (λ z. refl) (d4 .does .same ∙ d1 .does .same) (d4 .small) λ ps z.
+              arrive _ _ _ (again ▹ d4 .does .moves) (omega arith) (omega arith) (omega arith) (λ z. refl) (omega arith) (d4 .does .same ∙ d1 .does .same) (d4 .small) λ ps z.
               let a1 = d1 .does .does ps z in
               let a2 = next-leaf a1 d2 in
               let a3 = next-rolled d3 a2 in

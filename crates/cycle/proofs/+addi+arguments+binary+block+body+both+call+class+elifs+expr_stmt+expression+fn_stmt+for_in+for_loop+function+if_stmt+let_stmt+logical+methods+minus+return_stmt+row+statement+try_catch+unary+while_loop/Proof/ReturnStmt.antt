@@ -12,7 +12,8 @@ use Rattle.meaning.proofs.Reading.{Return as ReturnNode}
 use Rattle.cycle.proofs.Nodes.{a-return}
 use Rattle.cycle.proofs.Sizes.{return-none-size, return-size}
 use Rattle.cycle.proofs.Way.{_▹_, arrive, ends, from, give-expr, leaf-lowers, next-leaf, on-node, readable, sets-by, stand}
-use Rattle.cycle.specs.Cycle.{AskExpr, GivenStmt, LowersExpr, LowersStmt}
+use Rattle.cycle.proofs.Visited.{return-none-visits, return-visits}
+use Rattle.cycle.specs.Cycle.{AskExpr, GivenStmt, LowersExpr, UnderStmt}
 use Rattle.forward.proofs.Chains.{return-chain}
 use Rattle.forward.specs.Forward.{Config, end-return, going, pick, put, stopped}
 use Rattle.meaning.specs.At.{count-of, word-of}
@@ -54,11 +55,11 @@ module _ {t w : List ℕ} {p : Scope} {s : Step} {i : ℕ} (g : GivenStmt t w p 
         let y = stand 0 2 0 (from (g .ready) ▹ d1 .does .moves) (omega arith) (omega arith) (omega arith) (omega arith) in
         (y .fine, y .room, d1 .small)
 
-    lowers : {w2 : List ℕ} {s2 : Step} → Leaf w1 p s1 w2 p s2 (uses 2 0 0) (end-return i (word-of (fields t) i 0)) → LowersStmt t i w o p s w2 o1 s2
+    lowers : {w2 : List ℕ} {s2 : Step} → Leaf w1 p s1 w2 p s2 (uses 2 0 0) (end-return i (word-of (fields t) i 0)) → UnderStmt t i w o p s w2 o1 s2
     unfolding lower-expr
     lowers d2 =
         let n = return-size x two in
-        arrive _ _ (from (g .ready) ▹ d1 .does .moves ▹ d2 .moves) (omega arith) (omega arith) (omega arith) (λ z. omega arith)
+        arrive _ _ _ (from (g .ready) ▹ d1 .does .moves ▹ d2 .moves) (omega arith) (omega arith) (omega arith) (λ z. omega arith) (omega (arith, return-visits x two))
         (d1 .does .same) (sets-by 0 d2 (end-zero i (word-of (fields t) i 0)) (λ e. omega arith)) λ ps z.
         let a1 = d1 .does .does ps z in
         let a2 = next-leaf a1 d2 in
@@ -85,7 +86,8 @@ pub returns : (t : ℕ) → lts.Need-returns (claims t) (return-stmt-at t) retur
 returns t c =
     let g = (c .before .before .before .before .before .before .before .before .before .before) .pre .1 .0 in
     let n = return-none-size (a-return (g .ready .lawful) (g .known) ((c .before .before .before .before .before .before .before .before .before .before) .pre .1 .1)) (sym ((c .before .before .before .before .before .count-of) .ensures .0) ∙ (c .before .before .before .before .if1) .taken) in
-    leaf-lowers _ _ (ap (λ n. 8 * n) n) n ((c .before .before .return-none) .ensures)
+    let v = return-none-visits (a-return (g .ready .lawful) (g .known) ((c .before .before .before .before .before .before .before .before .before .before) .pre .1 .1)) (sym ((c .before .before .before .before .before .count-of) .ensures .0) ∙ (c .before .before .before .before .if1) .taken) in
+    leaf-lowers _ _ _ (ap (λ n. 8 * n) n) n v ((c .before .before .return-none) .ensures)
 
 pub words-of-requires : (t : ℕ) → lts.Need-words-of-requires (claims t) (return-stmt-at t) return-stmt.Post
 words-of-requires t c κs = readable ((c .before .before .before .before .before .before .before) .pre .1 .0 .ready) ((c .before .before .before .before .before .before .before) .pre .1 .0 .known)

@@ -10,6 +10,8 @@ use Rattle.cycle.proofs.Way.{from}
 use Rattle.cycle.proofs.Sizes.{stmts-size, stmts-size-none}
 use Rattle.cycle.proofs.Turns.{Turning, none-turned, turned}
 use Rattle.cycle.proofs.Way.{_▹_, give-stmt, readable, spends}
+use Rattle.cycle.proofs.Visited.{stmts-visits, stmts-visits-none}
+use Rattle.meaning.specs.Visits.{visits-stmt, visits-stmts}
 use Rattle.cycle.specs.Cycle.{AskRow, AskStmt, LowersRow, LowersStmt}
 use Rattle.forward.proofs.Chains.{row-chain, row-end}
 use Rattle.forward.specs.Forward.{fwd-row}
@@ -19,7 +21,7 @@ use Rattle.meaning.specs.Fields.{fields}
 use Rattle.meaning.specs.Lower.{lower-expr, lower-stmts}
 use Rattle.meaning.specs.Weight.{size-stmt, size-stmts}
 use Rattle.parts.specs.Parts.{Small}
-use Rattle.store.specs.Promise.{uses}
+use Rattle.store.specs.Promise.{takes}
 use Rattle.store.specs.declared.Scope.{Scope}
 use Rattle.store.specs.declared.Step.{Step}
 use mathlib.Core.List.{List}
@@ -30,12 +32,14 @@ pub record Rowing (t w0 o0 : List ℕ) (p : Scope) (s0 : Step) (i from to : ℕ)
   pub low : from ≤ k
   pub done : ℕ
   pub size : done + size-stmts (stmts-at (fields t) i k to) ≡ size-stmts (stmts-at (fields t) i from to)
-  pub turning : Turning w0 o0 p s0 w o s (uses (8 * done) done 0) (fwd-row (lower-stmts (p .mode) (stmts-at (fields t) i from to))) (fwd-row (lower-stmts (p .mode) (stmts-at (fields t) i k to)))
+  pub seen : ℕ
+  pub count : seen + visits-stmts (stmts-at (fields t) i k to) ≡ visits-stmts (stmts-at (fields t) i from to)
+  pub turning : Turning w0 o0 p s0 w o s (takes (8 * done) done seen) (fwd-row (lower-stmts (p .mode) (stmts-at (fields t) i from to))) (fwd-row (lower-stmts (p .mode) (stmts-at (fields t) i k to)))
   pub small : Small s0 → Small s
 
 module _ {t w0 : List ℕ} {p : Scope} {s0 : Step} {i f g : ℕ} (r : AskRow t w0 p s0 i f g) where
   start : {o0 : List ℕ} → Rowing t w0 o0 p s0 i f g w0 o0 s0 f
-  start = record { low = omega arith; done = 0; size = omega arith; turning = none-turned (r .ready .fine); small = λ m. m }
+  start = record { low = omega arith; done = 0; size = omega arith; seen = 0; count = omega arith; turning = none-turned (r .ready .fine); small = λ m. m }
 
   module _ {o0 w o : List ℕ} {s : Step} {k : ℕ} (v : Rowing t w0 o0 p s0 i f g w o s k) where
     module _ (h : k < g) where
@@ -52,16 +56,19 @@ module _ {t w0 : List ℕ} {p : Scope} {s0 : Step} {i f g : ℕ} (r : AskRow t w
       unfolding lower-expr
       turn d =
           let z = size-stmt (stmt-at (fields t) (word-of (fields t) i k)) in
+          let y = visits-stmt (stmt-at (fields t) (word-of (fields t) i k)) in
           record {
             low = omega (arith, v .low);
             done = v .done + z;
             size = omega (arith, v .size, stmts-size (fields t) i k g h (r .ends));
+            seen = v .seen + y;
+            count = omega (arith, v .count, stmts-visits (fields t) i k g h (r .ends));
             turning =
                 record {
-                  moves = spends (8 * (v .done + z)) (v .done + z) (omega arith) (omega arith) (omega arith) (λ e. omega arith) (from (r .ready) ▹ v .turning .moves ▹ d .does .moves);
+                  moves = spends (8 * (v .done + z)) (v .done + z) (v .seen + y) (omega arith) (omega arith) (omega arith) (λ e. omega arith) (omega arith) (from (r .ready) ▹ v .turning .moves ▹ d .does .moves);
                   same = d .does .same ∙ v .turning .same;
-                  does = λ ps y.
-                      let a = v .turning .does ps y in
+                  does = λ ps q.
+                      let a = v .turning .does ps q in
                       let b = d .does .does (a .protos) (a .image) in
                       turned a b (λ x e. rw (stmts-more (fields t) i k g h (r .ends)) (row-chain _ _ _ _ (b .runs) x e));
                 };
@@ -76,7 +83,7 @@ module _ {t w0 : List ℕ} {p : Scope} {s0 : Step} {i f g : ℕ} (r : AskRow t w
         record {
           does =
               record {
-                moves = spends (8 * n) n (omega (arith, v .size)) (omega (arith, v .size)) (omega arith) (λ e. omega (arith, v .size)) (from (r .ready) ▹ v .turning .moves);
+                moves = spends (8 * n) n _ (omega (arith, v .size)) (omega (arith, v .size)) (omega arith) (λ e. omega (arith, v .size)) (omega (arith, v .count, stmts-visits-none (fields t) i k g h)) (from (r .ready) ▹ v .turning .moves);
                 same = v .turning .same;
                 does = λ ps y.
                     let a = v .turning .does ps y in

@@ -12,9 +12,10 @@ use Rattle.store.proofs.enter_block.Reads as enter-block-reads
 use Rattle.store.proofs.leave_block.Reads as leave-block-reads
 use Rattle.cycle.proofs.+addi+arguments+binary+block+body+both+call+class+elifs+expr_stmt+expression+fn_stmt+for_in+for_loop+function+if_stmt+let_stmt+logical+methods+minus+return_stmt+row+statement+try_catch+unary+while_loop.Proof.Order.{statement-below, try-catch-at}
 use Rattle.cycle.proofs.Nodes.{a-try}
+use Rattle.cycle.proofs.Visited.{try-visits}
 use Rattle.cycle.proofs.Sizes.{try-size}
 use Rattle.cycle.proofs.Way.{_▹_, adds, arrive, ends, from, give-stmt, meanwhile, next, next-leaf, next-left, readable, sets, stand, stand-at, to, twice}
-use Rattle.cycle.specs.Cycle.{AskStmt, GivenStmt, LowersStmt, Ready}
+use Rattle.cycle.specs.Cycle.{AskStmt, GivenStmt, LowersStmt, Ready, UnderStmt}
 use Rattle.forward.proofs.Chains.{try-chain}
 use Rattle.forward.specs.Forward.{end-try, end-try-body, fwd-unit, open-catch, open-try-body, sure}
 use Rattle.meaning.proofs.Reading.{Try}
@@ -78,12 +79,12 @@ module _ {t w : List ℕ} {p : Scope} {s : Step} {i : ℕ} (g : GivenStmt t w p 
                     )
 
                 module _ {w8 : List ℕ} {s8 : Step} (d8 : Leaf w7 p s6 w8 p s8 (uses 0 0 0) (sure (end-try (s .code) (s2 .code)))) where
-                  lowers : LowersStmt t i w o p s w8 o6 s8
+                  lowers : UnderStmt t i w o p s w8 o6 s8
                   unfolding lower-expr end-try
                   lowers =
                       let n = try-size x in
                       let m = (from inner-ready ▹ d5 .moves ▹ d6 .does .moves) .moves in
-                      arrive _ _ (from (g .ready) ▹ d1 .moves ▹ d2 .does .moves ▹ d3 .moves ▹ block-around (d3 .moves .fine) k4 (d4 .moves) m d7 ▹ d8 .moves) (omega arith) (omega arith) (omega arith) (λ z. omega arith)
+                      arrive _ _ _ (from (g .ready) ▹ d1 .moves ▹ d2 .does .moves ▹ d3 .moves ▹ block-around (d3 .moves .fine) k4 (d4 .moves) m d7 ▹ d8 .moves) (omega arith) (omega arith) (omega arith) (λ z. omega arith) (omega (arith, try-visits x))
                       (d6 .does .same ∙ d2 .does .same) (sets d8 0 (λ c. refl) (λ e. lit< tt)) λ ps z.
                       let a1 = leaf-after d1 o ps z in
                       let a2 = next a1 (d2 .does) in

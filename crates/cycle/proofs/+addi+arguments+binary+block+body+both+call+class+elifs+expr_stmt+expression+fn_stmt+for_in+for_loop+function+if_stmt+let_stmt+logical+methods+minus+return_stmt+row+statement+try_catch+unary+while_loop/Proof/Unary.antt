@@ -9,9 +9,10 @@ use Rattle.cycle.proofs.reading.words_of.Reads as words-of-reads
 use Rattle.cycle.proofs.+addi+arguments+binary+block+body+both+call+class+elifs+expr_stmt+expression+fn_stmt+for_in+for_loop+function+if_stmt+let_stmt+logical+methods+minus+return_stmt+row+statement+try_catch+unary+while_loop.Proof.Order.{expression-below, unary-at}
 use Rattle.code.specs.Words.{Bytes}
 use Rattle.cycle.proofs.Nodes.{a-unary}
+use Rattle.cycle.proofs.Visited.{unary-visits}
 use Rattle.cycle.proofs.Sizes.{unary-size}
 use Rattle.cycle.proofs.Way.{_▹_, arrive, ends, fits, from, give-expr, keeps, next-leaf, readable, stand}
-use Rattle.cycle.specs.Cycle.{AskExpr, GivenExpr, LowersExpr}
+use Rattle.cycle.specs.Cycle.{AskExpr, GivenExpr, LowersExpr, UnderExpr}
 use Rattle.forward.proofs.Chains.{unary-chain}
 use Rattle.forward.specs.Forward.{emit, sure}
 use Rattle.meaning.proofs.Reading.{Unary}
@@ -41,10 +42,10 @@ module _ {t w : List ℕ} {p : Scope} {s : Step} {i : ℕ} (g : GivenExpr t w p 
         (y .fine, y .room, fits (s1 .outcome) op (s1 .result) (s1 .result) 0 λ e. let v = due (s1 .outcome) (d1 .small) e in (h, omega arith, omega arith, omega arith))
 
     module _ {w2 : List ℕ} {s2 : Step} (d2 : Leaf w1 p s1 w2 p s2 (uses 2 0 0) (sure (emit (inst (unary-opcode (word-of (fields t) i 0)) (s1 .result) (s1 .result) 0 (word-of (fields t) i 1))))) where
-      lowers : LowersExpr t i w o p s w2 o1 s2
+      lowers : UnderExpr t i w o p s w2 o1 s2
       unfolding lower-expr
       lowers =
-          arrive _ _ (from (g .ready) ▹ d1 .does .moves ▹ d2 .moves) (omega (arith, unary-size x)) (omega arith) (omega arith) (λ z. refl)
+          arrive _ _ _ (from (g .ready) ▹ d1 .does .moves ▹ d2 .moves) (omega (arith, unary-size x)) (omega arith) (omega arith) (λ z. refl) (omega (arith, unary-visits x))
           (d1 .does .same) (keeps d2 (λ c. refl) (d1 .small)) λ ps z.
           let a1 = d1 .does .does ps z in
           let a2 = next-leaf a1 d2 in

@@ -10,9 +10,10 @@ use Rattle.cycle.proofs.scopes.in_loop.Reads as in-loop-reads
 use Rattle.cycle.proofs.reading.words_of.Reads as words-of-reads
 use Rattle.cycle.proofs.+addi+arguments+binary+block+body+both+call+class+elifs+expr_stmt+expression+fn_stmt+for_in+for_loop+function+if_stmt+let_stmt+logical+methods+minus+return_stmt+row+statement+try_catch+unary+while_loop.Proof.Order.{expression-below, statement-below, while-loop-at}
 use Rattle.cycle.proofs.Nodes.{a-while}
+use Rattle.cycle.proofs.Visited.{while-visits}
 use Rattle.cycle.proofs.Sizes.{while-size}
 use Rattle.cycle.proofs.Way.{_▹_, adds, arrive, ends, from, give-expr, give-looped, meanwhile, next, next-leaf, readable, sets, stand, twice}
-use Rattle.cycle.specs.Cycle.{AskExpr, AskStmt, GivenStmt, LowersExpr, LowersStmt}
+use Rattle.cycle.specs.Cycle.{AskExpr, AskStmt, GivenStmt, LowersExpr, LowersStmt, UnderStmt}
 use Rattle.forward.proofs.Chains.{while-chain}
 use Rattle.forward.specs.Forward.{end-loop, sure, test-and-jump}
 use Rattle.meaning.proofs.Reading.{While}
@@ -67,12 +68,12 @@ module _ {t w : List ℕ} {p : Scope} {s : Step} {i : ℕ} (g : GivenStmt t w p 
             )
 
         module _ {w4 : List ℕ} {s4 : Step} (d4 : Leaf w3 p s3 w4 p s4 (uses 2 0 0) (sure (end-loop (p .mode) (s .code) (s .code) (s .code) (s1 .code) (s1 .result) (word-of (fields t) i 0)))) where
-          lowers : LowersStmt t i w o p s w4 o3 s4
+          lowers : UnderStmt t i w o p s w4 o3 s4
           unfolding lower-expr end-loop
           lowers =
               let n = while-size x in
               let m3 = loop-around p (d2 .moves .fine) (d3 .does .moves) in
-              arrive _ _ (from (g .ready) ▹ d1 .does .moves ▹ d2 .moves ▹ m3 ▹ d4 .moves) (omega arith) (omega arith) (omega arith) (λ z. omega arith)
+              arrive _ _ _ (from (g .ready) ▹ d1 .does .moves ▹ d2 .moves ▹ m3 ▹ d4 .moves) (omega arith) (omega arith) (omega arith) (λ z. omega arith) (omega (arith, while-visits x))
               (d3 .does .same ∙ d1 .does .same) (sets d4 (s1 .result) (λ c. refl) (λ e. due (s1 .outcome) (d1 .small) (d2 .moves .back (m3 .back (d4 .moves .back e))))) λ ps z.
               let a1 = d1 .does .does ps z in
               let a2 = next-leaf a1 d2 in

@@ -94,7 +94,7 @@ returns c =
     let a = next-register .ensures .0 in
     let b = emit .ensures in
     let d = put-wide .ensures in
-    gives (uses 8 1 0) (one k ▹ one a ▹ one b ▹ one d) (omega arith) (omega arith) (omega arith) (λ z. omega arith)
+    gives (uses 8 1 0) (one k ▹ one a ▹ one b ▹ one d) (omega arith) (omega arith) (omega arith) (λ z. omega arith) (omega arith)
     (λ ps. rw (held .is-only (start .pre .2)) (rw (name, mark) at (let-only-chain _ _ _ _ _ (is-global-context .ensures .1 _ (start .args .step) (given .fine .sound) ps) .0 (if1 .taken) _ (k .runs ps) _ (known _ _ _ ps) _ (a .runs ps) _ (known _ _ _ ps) _ (b .runs ps) _ (d .runs ps))))
     (small-put d (lit< tt))
 
@@ -123,7 +123,7 @@ returns-2 c =
     let mark = word .ensures .0 ∙ ap (λ p. at (words p) 1) (payload-of .ensures) in
     let a = next-register2 .ensures .0 in
     let d = allocate-register .ensures in
-    gives (uses 8 1 0) (one a ▹ one d) (omega arith) (omega arith) (omega arith) (λ z. omega arith)
+    gives (uses 8 1 0) (one a ▹ one d) (omega arith) (omega arith) (omega arith) (λ z. omega arith) (omega arith)
     (λ ps. rw (held .is-only (start .pre .2)) (rw (name, mark) at (let-only-chain _ (token (child .result) (word .result)) _ _ _ (is-global-context .ensures .1 _ (start .args .step) (given .fine .sound) ps) .1 (if1 .left) _ (a .runs ps) _ (known _ _ _ ps) _ (d .runs ps))))
     (always (next-register2 .result .outcome) (next-register2 .ensures .1))
 

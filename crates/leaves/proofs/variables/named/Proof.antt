@@ -29,7 +29,7 @@ returns c =
     let a = next-register .ensures .0 in
     let b = add-name .ensures in
     let d = put-wide .ensures in
-    gives nothing (one a ▹ one b ▹ one d) (omega arith) (omega arith) (omega arith) (λ z. omega arith)
+    gives nothing (one a ▹ one b ▹ one d) (omega arith) (omega arith) (omega arith) (λ z. omega arith) (omega arith)
     (λ ps. named-chain _ _ _ _ _ (a .runs ps) _ (known _ _ _ ps) _ (b .runs ps) _ (known _ _ _ ps) _ (d .runs ps))
     (small-put d (next-register .ensures .1))
 

@@ -1,4 +1,4 @@
--- The class node's third word: a variable's node, or none.
+-- The class node's third word: a variable's node, which is visited, or none.
 use borrow.Author.Needs.{needs}
 use mathlib.Core.Path.{_≡_, sym, ap, _∙_}
 use native.Mathlib.Omega.{arith}
@@ -8,14 +8,16 @@ use Rattle.meaning.specs.Fields.{fields, words}
 use Rattle.meaning.specs.Read.{at}
 use Rattle.meaning.specs.At.{word-of, expr-at}
 use Rattle.meaning.specs.Weight.{weight-super}
+use Rattle.meaning.specs.Visits.{visits-super}
 use Rattle.meaning.specs.Lower.{lower-expr}
 use Rattle.meaning.proofs.Reading.{variable-node, class-node}
 use Rattle.forward.proofs.Chains.{super-chain, super-none-chain}
-use Rattle.store.specs.Promise.{nothing, uses}
+use Rattle.store.specs.Promise.{nothing, takes}
+use Rattle.store.proofs.Visiting.{ticked-runs}
 use Rattle.store.proofs.Compose.{known}
 use Rattle.code.specs.Words.{Bytes}
-use Rattle.leaves.proofs.Held.{inside, readable, super-none, super-some}
-use Rattle.leaves.proofs.Line.{one, _▹_, room-after, always, small-emit, gives}
+use Rattle.leaves.proofs.Held.{inside, readable, lawful-kept, super-none, super-some}
+use Rattle.leaves.proofs.Line.{one, counting, _▹_, room-after, always, small-emit, gives}
 use Rattle.leaves.proofs.variables.superclass.Statement.{statement}
 use Rattle.leaves.proofs.variables.superclass.Tie as tie
 
@@ -40,28 +42,36 @@ child-requires c κs =
     let held = class-node (fields (now (start .args .tree))) (given .lawful .shapes) (start .args .node) (inside (given .lawful) (given .known)) (start .pre .1) in
     rw (payload-of .ensures) (omega (arith, held .size))
 
+visit-requires : tie.Need-visit-requires
+visit-requires c κs =
+    let start = c .before .before .before .before .before .before .before .before .before in
+    omega (arith, start .pre .0 .fine .sound .long)
+
 variable-requires : tie.Need-variable-requires
 unfolding weight-super
 variable-requires c κs =
-    let start = c .before .before .before .before .before .before .before .before .before in
-    let child = c .before .before .child in
-    let payload-of = c .before .before .before .before .payload-of in
-    let if1 = c .before .if1 in
+    let start = c .before .before .before .before .before .before .before .before .before .before .before .before .before in
+    let child = c .before .before .before .before .before .before .child in
+    let payload-of = c .before .before .before .before .before .before .before .before .payload-of in
+    let if1 = c .before .before .before .before .before .if1 in
+    let visit = c .before .before .before .visit in
     let given = start .pre .0 in
     let fs = fields (now (start .args .tree)) in
     let held = class-node fs (given .lawful .shapes) (start .args .node) (inside (given .lawful) (given .known)) (start .pre .1) in
     let parent = child .ensures .0 ∙ ap (λ p. at (words p) 2) (payload-of .ensures) in
     let below = held .superclass (λ e. if1 .taken (parent ∙ e)) in
     let is = super-some fs (word-of fs (start .args .node) 2) (λ e. if1 .taken (parent ∙ e)) in
-    (record { lawful = given .lawful; fine = given .fine; room = rw is at (given .room); known = omega (arith, parent, below .below, given .known) }, rw parent (below .tag))
+    let line = counting (given .fine) (visit .ensures) in
+    (record { lawful = lawful-kept (given .lawful) (line .moves .kept); fine = line .moves .fine; room = room-after 1 0 0 line (rw is at (given .room)) (omega arith) (omega arith) (omega arith); known = omega (arith, parent, below .below, given .known) }, rw parent (below .tag))
 
 returns : tie.Need-returns
-unfolding lower-expr weight-super
+unfolding lower-expr weight-super visits-super
 returns c =
-    let start = c .before .before .before .before .before .before .before .before .before .before .before .before in
-    let child = c .before .before .before .before .before .child in
-    let payload-of = c .before .before .before .before .before .before .before .payload-of in
-    let if1 = c .before .before .before .before .if1 in
+    let start = c .before .before .before .before .before .before .before .before .before .before .before .before .before .before .before .before in
+    let child = c .before .before .before .before .before .before .before .before .before .child in
+    let payload-of = c .before .before .before .before .before .before .before .before .before .before .before .payload-of in
+    let if1 = c .before .before .before .before .before .before .before .before .if1 in
+    let visit = c .before .before .before .before .before .before .visit in
     let variable = c .before .before .variable in
     let given = start .pre .0 in
     let fs = fields (now (start .args .tree)) in
@@ -73,8 +83,8 @@ returns c =
     let name = variable-node fs (given .lawful .shapes) (word-of fs (start .args .node) 2) known (below .tag) in
     let d = variable .ensures in
     rw (super-some fs (word-of fs (start .args .node) 2) some)
-    (gives (uses 8 0 0) (one (d .leaf)) (omega arith) (omega arith) (omega arith) (λ z. omega arith)
-    (λ ps. super-chain _ _ _ _ _ _ (rw (ap (expr-at fs) parent ∙ name .is) at (d .leaf .runs ps)))
+    (gives (takes 8 0 1) (counting (given .fine) (visit .ensures) ▹ one (d .leaf)) (omega arith) (omega arith) (omega arith) (λ z. omega arith) (omega arith)
+    (λ ps. super-chain _ _ _ _ _ _ (rw (ap (expr-at fs) parent ∙ name .is, ticked-runs (given .fine) (visit .ensures) ps) at (d .leaf .runs ps)))
     (d .small))
 
 emit-requires : tie.Need-emit-requires
@@ -88,7 +98,7 @@ emit-requires c κs =
     (line .moves .fine, room-after 0 2 0 line (start .pre .0 .room) (omega arith) (omega arith) (omega arith), always (next-register .result .outcome) bytes)
 
 returns-2 : tie.Need-returns-2
-unfolding weight-super
+unfolding weight-super visits-super
 returns-2 c =
     let start = c .before .before .before .before .before .before .before .before .before .before .before .before .before .before .before .before in
     let payload-of = c .before .before .before .before .before .before .before .before .before .before .before .payload-of in
@@ -103,7 +113,7 @@ returns-2 c =
     let a = next-register .ensures .0 in
     let d = emit .ensures in
     rw (super-none fs (word-of fs (start .args .node) 2) (sym parent ∙ if1 .left))
-    (gives nothing (one a ▹ one d) (omega arith) (omega arith) (omega arith) (λ z. omega arith)
+    (gives nothing (one a ▹ one d) (omega arith) (omega arith) (omega arith) (λ z. omega arith) (omega arith)
     (λ ps. super-none-chain _ _ _ _ (a .runs ps) _ (known _ _ _ ps) _ (rw mark at (d .runs ps)))
     (small-emit d (next-register .ensures .1)))
 
@@ -116,6 +126,7 @@ superclass-spec =
     payload-of-requires
     word-requires
     child-requires
+    visit-requires
     variable-requires
     (λ c. search needs)
     returns

@@ -54,7 +54,7 @@ returns c =
     let name = child .ensures .0 ∙ ap (λ p. at (words p) 0) (payload-of .ensures) in
     let mark = word .ensures .0 ∙ ap (λ p. at (words p) 1) (payload-of .ensures) in
     let d = visit-variable-expr .ensures in
-    gives (uses 8 0 0) (one (d .leaf)) (omega arith) (omega arith) (omega arith) (λ z. omega arith) (λ ps. rw (held .is) (rw (name, mark) at (d .leaf .runs ps))) (d .small)
+    gives (uses 8 0 0) (one (d .leaf)) (omega arith) (omega arith) (omega arith) (λ z. omega arith) (omega arith) (λ ps. rw (held .is) (rw (name, mark) at (d .leaf .runs ps))) (d .small)
 
 pub variable-spec : {M : Type 1} → statement M
 variable-spec =

@@ -15,7 +15,7 @@ returns c =
     let named = c .before .before .named in
     let if1 = c .before .before .before .before .if1 in
     let d = named .ensures in
-    gives nothing (one (d .leaf)) (omega arith) (omega arith) (omega arith) (λ z. omega arith) (λ ps. outside-chain _ _ _ .0 (le-leb _ 8 (if1 .taken)) _ (d .leaf .runs ps)) (d .small)
+    gives nothing (one (d .leaf)) (omega arith) (omega arith) (omega arith) (λ z. omega arith) (omega arith) (λ ps. outside-chain _ _ _ .0 (le-leb _ 8 (if1 .taken)) _ (d .leaf .runs ps)) (d .small)
 
 returns-2 : tie.Need-returns-2
 returns-2 c =
@@ -24,7 +24,7 @@ returns-2 c =
     let is-global-var = c .before .before .before .before .before .is-global-var in
     let if2 = c .before .before .before .before .if2 in
     let d = named2 .ensures in
-    gives nothing (one (d .leaf)) (omega arith) (omega arith) (omega arith) (λ z. omega arith)
+    gives nothing (one (d .leaf)) (omega arith) (omega arith) (omega arith) (λ z. omega arith) (omega arith)
     (λ ps. outside-chain _ _ _ .1 (lt-leb _ 8 (if1 .left)) _ _ (is-global-var .ensures .1 ps) .0 (if2 .taken) _ (d .leaf .runs ps)) (d .small)
 
 returns-3 : tie.Need-returns-3
@@ -36,7 +36,7 @@ returns-3 c =
     let if2 = c .before .if2 in
     let a = start .args in
     let d = refused-leaf (a .step) Undefined (a .node) nothing (start .pre .0) in
-    rw (refuse .ensures) (gives nothing (one d) (omega arith) (omega arith) (omega arith) (λ z. omega arith)
+    rw (refuse .ensures) (gives nothing (one d) (omega arith) (omega arith) (omega arith) (λ z. omega arith) (omega arith)
     (λ ps. outside-chain _ _ _ .1 (lt-leb _ 8 (if1 .left)) _ _ (is-global-var .ensures .1 ps) .1 (if2 .left) _ (d .runs ps)) (small-refused (a .step) Undefined (a .node)))
 
 pub visit-outside-spec : {M : Type 1} → statement M
