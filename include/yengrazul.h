@@ -32,7 +32,8 @@ extern "C" {
  *
  * Mode. YENGRAZUL_MODE_0 lowers as document 01 says and as the Rust does: continue in a for loop starts the loop over, a classic for's
  * initializer included. In YENGRAZUL_MODE_1 it goes on with the loop: to the first instruction of a classic for's increment (to the jump back
- * where the increment gives none), to the step of a for-in's counter. Continue in a while is the same in both. Any other number, all 64 bits of it
+ * where the increment gives none), to the step of a for-in's counter. Continue in a while is the same in both. Classes are retired: mode 1 refuses a
+ * tree with a class (27), and mode 0 lowers it as before. Any other number, all 64 bits of it
  * compared, is refused by 21 before anything else is looked at, whatever the tree and the buffers are. The image does not say its mode.
  *
  * Buffers. They may hold anything before the call. Afterwards work is all zero, out is the image and then zeros, or all zero where
@@ -113,8 +114,9 @@ enum yengrazul_ending {
 #define YENGRAZUL_MODE_0 ((uint64_t)0)
 #define YENGRAZUL_MODE_1 ((uint64_t)1)
 
-/* Refusals 1 to 6 alone, which no mode changes, for a work area of work_len words; where there is none the length is the number of nodes. */
-void yengrazul_check(const uint8_t *tree, size_t tree_len, size_t work_len, uint64_t answer[3]);
+/* The refusals of the whole input alone, 21, 1 to 3, 27 and 4 to 6, in a mode and for a work area of work_len words; where there is none the
+   length is the number of nodes. */
+void yengrazul_check(const uint8_t *tree, size_t tree_len, size_t work_len, uint64_t mode, uint64_t answer[3]);
 
 /* STACK_BYTES: tests/parts/45-worst measures what the worst trees and images take, and that it is less. */
 #define YENGRAZUL_STACK_BYTES 1048576
@@ -132,8 +134,8 @@ void yengrazul_check(const uint8_t *tree, size_t tree_len, size_t work_len, uint
 /* No image is longer: 256 prototypes of 255 captures and 32,767 instructions, 1,024 constants. Most are some 8 bytes for each node. */
 #define YENGRAZUL_IMAGE_MOST ((size_t)256 * (13 + 255 * 5 + 32767 * 9) + (size_t)1024 * 11)
 
-/* answer[0], and when it is given. Of a tree: 21 comes before all; 1 to 6 are about the whole input, in that order; 7 to 17 are the first met as
-   the tree is lowered; 18 comes last. Of an image: 19, then 20. Of a walk: those of its image, then 22, 23, 29. */
+/* answer[0], and when it is given. Of a tree: 21 comes before all; 1 to 6 are about the whole input, in that order, with 27 between 3 and 4; 7 to 17
+   are the first met as the tree is lowered; 18 comes last. Of an image: 19, then 20. Of a walk: those of its image, then 22, 23, 29. */
 enum yengrazul_refusal {
     YENGRAZUL_ACCEPTED = 0,
     YENGRAZUL_FRAME = 1,
@@ -159,6 +161,7 @@ enum yengrazul_refusal {
     YENGRAZUL_MODE = 21,
     YENGRAZUL_PROTOTYPE = 22,
     YENGRAZUL_DECISION = 23,
+    YENGRAZUL_RETIRED = 27,
     YENGRAZUL_VISITS = 29
 };
 
@@ -168,7 +171,7 @@ static inline const char *yengrazul_name(uint64_t number)
     static const char *const names[] = {
         "Accepted",   "Frame", "Many",  "Shape",  "Tree",      "Depth",      "Work",    "Registers", "Captures", "Undefined",
         "Redefined",  "Stray", "Empty", "Return", "Constants", "Prototypes", "Nesting", "Long",      "Room",     "Image frame",
-        "Image rule", "Mode",  "Prototype", "Decision", NULL,  NULL,         NULL,      NULL,        NULL,       "Visits",
+        "Image rule", "Mode",  "Prototype", "Decision", NULL,  NULL,         NULL,      "Retired",   NULL,       "Visits",
     };
     return number < sizeof names / sizeof *names && names[number] ? names[number] : "Unknown";
 }
@@ -201,10 +204,10 @@ static inline const char *yengrazul_cause(uint64_t number)
         "the mode must be 0 or 1",
         "the image must have a prototype of this number",
         "a decision must be 0 or 1",
-        NULL, /* 24 to 28 are given by no call */
+        NULL, /* 24 to 26 and 28 are given by no call */
         NULL,
         NULL,
-        NULL,
+        "classes are retired: mode 1 lowers none, and mode 0 lowers them as before",
         NULL,
         "there must be a lent byte for each instruction of the prototype",
     };

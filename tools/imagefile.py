@@ -15,6 +15,7 @@ OPCODES = os.path.join(ROOT, "crates", "meaning", "specs", "Opcode.antt")
 CAUSES = {19: ("Image frame", "a header or a payload runs past the end, or there is no field at all"),
           20: ("Image rule", "a field that cannot follow, or an instruction whose fact fails")}
 LONGEST_REPEAT = 16
+RETIRED = {"Class", "ClassMeth", "ClassStMeth"}
 
 
 class Wrong(Exception):
@@ -101,7 +102,11 @@ def instruction(reader, names, index):
     name, wide = names.get(opcode, f"opcode {opcode}"), b * 256 + c
     found = {"opcode": opcode, "name": name, "a": a, "b": b, "c": c, "mark": absent(mark)}
     step = {"Jmp": wide - 65536 if wide > 32767 else wide, "RegisterTryCatch": wide}.get(name)
-    return found if step is None else {**found, "to": index + step}
+    if step is not None:
+        found["to"] = index + step
+    if name in RETIRED:
+        found["retired"] = True
+    return found
 
 
 def constant(reader):
@@ -211,7 +216,7 @@ LINES = {"prototype": prototype_line, "capture": capture_line, "constant": const
 
 def instruction_line(record):
     """The line, and how far behind its own index the instruction that it leads to stands."""
-    line = f"{record['name']} {record['a']} {record['b']} {record['c']}  {marked(record['mark'])}"
+    line = f"{record['name']} {record['a']} {record['b']} {record['c']}  {marked(record['mark'])}{'  retired' if 'retired' in record else ''}"
     return line, record["to"] - record["index"] if "to" in record else None
 
 

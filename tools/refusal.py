@@ -14,7 +14,7 @@ import treefile
 
 LARGEST = 1 << 20
 FRAME, MANY, SHAPE, TREE, DEPTH = 1, 2, 3, 4, 5
-AT_A_NODE = {SHAPE, TREE, DEPTH, *range(7, 19)}  # the place of another number is no node
+AT_A_NODE = {SHAPE, TREE, DEPTH, *range(7, 19), 27}  # the place of another number is no node
 REFUSED = re.compile(r"refused (\d+) (\w+)(?: at node (\d+)| after (\d+) whole fields)?: (.*)")
 
 

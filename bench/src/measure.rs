@@ -16,7 +16,7 @@ extern "C" {
         mode: u64,
         answer: *mut u64,
     );
-    fn yengrazul_check(tree: *const u8, tree_len: usize, work_len: usize, answer: *mut u64);
+    fn yengrazul_check(tree: *const u8, tree_len: usize, work_len: usize, mode: u64, answer: *mut u64);
     fn yengrazul_read(image: *const u8, image_len: usize, answer: *mut u64);
 }
 
@@ -141,12 +141,12 @@ fn whole(bundle: &[Script], mode: u64, lent: &mut Lent) -> f64 {
     bundle.iter().map(&mut one).sum()
 }
 
-/// Refusals 1 to 6 alone.
+/// Refusals 1 to 6 alone, in mode 0.
 fn check(bundle: &[Script]) -> f64 {
     let one = |script: &Script| {
         let mut answer = [9u64; 3];
         let tree = black_box(&script.tree);
-        let call = || unsafe { yengrazul_check(tree.as_ptr(), tree.len(), words(script), answer.as_mut_ptr()) };
+        let call = || unsafe { yengrazul_check(tree.as_ptr(), tree.len(), words(script), 0, answer.as_mut_ptr()) };
         let taken = nanoseconds(call);
         assert_eq!(answer, [0, 0, script.nodes as u64], "the script is accepted");
         taken

@@ -92,7 +92,7 @@ Nanoseconds a node: the median of {rounds} rounds, and the least in brackets. Ra
 
 - Whole call: `yengrazul_lower` from bytes to bytes, in mode 0. It checks the tree, lowers it, writes the image, and clears the work area and the output.
 - In mode 1: the same call in that mode, in which continue in a for loop goes on with it. The Rust has no such mode.
-- Check alone: `yengrazul_check`, refusals 1 to 6.
+- Check alone: `yengrazul_check` in mode 0, refusals 1 to 6.
 - Rust compile: `compile` and `leave_function` of the unchanged source from a ready syntax tree. It reads no bytes, checks nothing, and writes no
   image; what it gives is dropped while the clock stands.
 

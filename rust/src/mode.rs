@@ -17,7 +17,8 @@ pub enum Mode {
     #[default]
     Zero = 0,
     /// As document 02 says: continue in a for loop goes on with it, at the first instruction of a classic for's increment (at the jump back
-    /// where the increment gives none), or at the step of a for-in's counter. Continue in a while is the same in both modes.
+    /// where the increment gives none), or at the step of a for-in's counter. Continue in a while is the same in both modes. A tree with a class
+    /// is refused ([`Cause::Retired`](crate::Cause::Retired)).
     One = 1,
 }
 

@@ -81,6 +81,7 @@ causes! {
     21 Mode "Mode" "the mode must be 0 or 1",
     22 Prototype "Prototype" "the image must have a prototype of this number",
     23 Decision "Decision" "a decision must be 0 or 1",
+    27 Retired "Retired" "classes are retired: mode 1 lowers none, and mode 0 lowers them as before",
     29 Visits "Visits" "there must be a lent byte for each instruction of the prototype",
 }
 

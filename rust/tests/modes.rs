@@ -1,4 +1,4 @@
-//! The mode: 0 where none is said, continue's place in 0 and 1, and 21 for every other number.
+//! The mode: 0 where none is said, continue's place in 0 and 1, classes in 0 alone, and 21 for every other number.
 use yengrazul::{lower, lower_in, Cause, Lowerer, Mode, Refusal};
 
 /// `for 1; 1; io continue`: a literal for a condition, a builtin for an increment, and a continue as the body.
@@ -50,6 +50,23 @@ fn any_other_number_is_refused_before_the_tree_is_looked_at() {
         }
     }
     assert_eq!(refusal.to_string(), "refused 21 Mode: the mode must be 0 or 1");
+}
+
+/// An empty block, a class with no superclass and no method, and the program that has both.
+const CLASS: [u8; 21] = [0x12, 0, 0, 0x1D, 0, 8, 0, 20, 0, 3, 255, 255, 0, 0, 0x1E, 0, 4, 0, 1, 0, 0];
+
+#[test]
+fn a_class_is_retired_in_mode_1() {
+    assert!(lower(&CLASS).is_ok());
+    let refusal = Refusal { cause: Cause::Retired, node: 1 };
+    assert_eq!(lower_in(&CLASS, Mode::One), Err(refusal));
+    assert_eq!(
+        refusal.to_string(),
+        "refused 27 Retired at node 1: classes are retired: mode 1 lowers none, and mode 0 lowers them as before"
+    );
+    // a broken node comes before it, and a mode that is none before both
+    assert_eq!(lower_in(&CLASS[3..], Mode::One), Err(Refusal { cause: Cause::Shape, node: 1 }));
+    assert_eq!(lower_in(&CLASS, 2u64), Err(Refusal { cause: Cause::Mode, node: 0 }));
 }
 
 #[test]

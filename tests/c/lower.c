@@ -59,6 +59,17 @@ static const uint8_t continues_image[] = {
     0x45, 0, 2, 0, 0,                                /* constant 1: text io */
 };
 
+/* An empty block, and a class with no superclass and no method. */
+static const uint8_t class_tree[] = {
+    0x12, 0x00, 0x00, 0x1D, 0x00, 0x08, 0x00, 0x14, 0x00, 0x03, 0xFF, 0xFF, 0x00, 0x00, 0x1E, 0x00, 0x04, 0x00, 0x01, 0x00, 0x00,
+};
+static const uint8_t class_image[] = {
+    0x41, 0x00, 0x0A, 0xFF, 0xFF, 0x00, 0x00, 0x00, 0x03, 0x00, 0x00, 0x00, 0x05, 0x43, 0x00, 0x06, 0x01, 0x01, 0x00, 0x00, 0x00, 0x03,
+    0x43, 0x00, 0x06, 0x02, 0x02, 0x00, 0x00, 0x00, 0x03, 0x43, 0x00, 0x06, 0x1F, 0x00, 0x01, 0x02, 0x00, 0x03, 0x43, 0x00, 0x06, 0x2D,
+    0x00, 0x00, 0x01, 0x00, 0x03, 0x43, 0x00, 0x06, 0x14, 0x00, 0x00, 0x00, 0xFF, 0xFF, 0x45, 0x00, 0x02, 0x00, 0x14, 0x45, 0x00, 0x02,
+    0x00, 0x14,
+};
+
 static uint32_t work[YENGRAZUL_WORDS(5)];
 static uint8_t out[200];
 static int failures;
@@ -110,6 +121,8 @@ static void modes(size_t words)
     zero[13 + 3 * 9 + 6] = 253;
     call_in(YENGRAZUL_MODE_0, "continue in mode 0", continues, sizeof continues, words, sizeof out, YENGRAZUL_ACCEPTED, 0, zero, length);
     call_in(YENGRAZUL_MODE_1, "continue in mode 1", continues, sizeof continues, words, sizeof out, YENGRAZUL_ACCEPTED, 0, continues_image, length);
+    call_in(YENGRAZUL_MODE_0, "a class in mode 0", class_tree, sizeof class_tree, words, sizeof out, YENGRAZUL_ACCEPTED, 0, class_image, sizeof class_image);
+    call_in(YENGRAZUL_MODE_1, "a class in mode 1", class_tree, sizeof class_tree, words, sizeof out, YENGRAZUL_RETIRED, 1, NULL, 0);
     call_in(YENGRAZUL_MODE_1, "no bytes in mode 1", continues, 0, words, sizeof out, YENGRAZUL_FRAME, 0, NULL, 0);
     for (size_t i = 0; i < sizeof none / sizeof *none; i++) {
         call_in(none[i], "no mode", continues, sizeof continues, words, sizeof out, YENGRAZUL_MODE, 0, NULL, 0);
@@ -144,6 +157,25 @@ static void visits(size_t words)
     }
 }
 
+/* The check alone, on a file and in a mode. */
+static void check(const char *program, const uint8_t *tree, size_t tree_len, size_t words, uint64_t mode, uint64_t number, uint64_t place, uint64_t nodes)
+{
+    uint64_t answer[3] = {7, 7, 7};
+    yengrazul_check(tree, tree_len, words, mode, answer);
+    expect(answer[0] == number && answer[1] == place && answer[2] == nodes, program, "number, place or nodes of the check are wrong");
+}
+
+static void checks(size_t words)
+{
+    check("a class, checked in mode 0", class_tree, sizeof class_tree, words, YENGRAZUL_MODE_0, YENGRAZUL_ACCEPTED, 0, 3);
+    check("a class, checked in mode 1", class_tree, sizeof class_tree, words, YENGRAZUL_MODE_1, YENGRAZUL_RETIRED, 1, 0);
+    check("a class, no work area, checked in mode 1", class_tree, sizeof class_tree, 0, YENGRAZUL_MODE_1, YENGRAZUL_RETIRED, 1, 0);
+    check("a class, no work area, checked in mode 0", class_tree, sizeof class_tree, 0, YENGRAZUL_MODE_0, YENGRAZUL_WORK, 0, 0);
+    check("program 9, checked in mode 1", minus_x, sizeof minus_x, words, YENGRAZUL_MODE_1, YENGRAZUL_ACCEPTED, 0, 5);
+    check("no bytes, checked in mode 2", class_tree, 0, words, 2, YENGRAZUL_MODE, 0, 0);
+    check("a class, checked in mode 2 to the 32 and 1", class_tree, sizeof class_tree, words, ((uint64_t)1 << 32) + 1, YENGRAZUL_MODE, 0, 0);
+}
+
 int main(void)
 {
     const size_t words = YENGRAZUL_WORDS(5), length = sizeof minus_x_image;
@@ -157,6 +189,7 @@ int main(void)
     }
     expect(strcmp(yengrazul_name(YENGRAZUL_PROTOTYPE), "Prototype") == 0 && strcmp(yengrazul_name(YENGRAZUL_VISITS), "Visits") == 0, "names", "22 and 29");
     expect(strcmp(yengrazul_name(YENGRAZUL_MODE), "Mode") == 0, "names", "21 is Mode");
+    expect(strcmp(yengrazul_name(YENGRAZUL_RETIRED), "Retired") == 0 && strcmp(yengrazul_name(28), "Unknown") == 0, "names", "27 is Retired");
     expect(strcmp(yengrazul_name(YENGRAZUL_IMAGE_FRAME), "Image frame") == 0, "names", "19 is Image frame");
     expect(strcmp(yengrazul_name(YENGRAZUL_IMAGE_RULE), "Image rule") == 0, "names", "20 is Image rule");
 
@@ -171,6 +204,7 @@ int main(void)
     call("no bytes, no buffers", minus_x, 0, 0, 0, YENGRAZUL_FRAME, 0, NULL, 0);
     modes(words);
     visits(words);
+    checks(words);
     call("program 9 again", minus_x, sizeof minus_x, words, sizeof out, YENGRAZUL_ACCEPTED, 0, minus_x_image, length);
     printf("%d failures\n", failures);
     return failures != 0;

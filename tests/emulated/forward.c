@@ -130,12 +130,12 @@ void yengrazul_lower(const uint8_t *tree, size_t tree_len, uint32_t *work, size_
     keep(t, tree), fetch(w, work), fetch(o, out), fetch(a, answer);
 }
 
-void yengrazul_check(const uint8_t *tree, size_t tree_len, size_t work_len, uint64_t answer[3])
+void yengrazul_check(const uint8_t *tree, size_t tree_len, size_t work_len, uint64_t mode, uint64_t answer[3])
 {
     if (!child.shared) start();
     uint64_t end = 0;
     struct lent t = lay(&end, tree, tree_len), a = lay(&end, answer, 8 * 3);
-    ASK(CHECK, t.at, tree_len, work_len, a.at);
+    ASK(CHECK, t.at, tree_len, work_len, mode, a.at);
     keep(t, tree), fetch(a, answer);
 }
 

@@ -10,7 +10,7 @@ use lib.ListN.{length}
 use borrow.Author.Tests.{lt-ltb, le-leb}
 use Rattle.meaning.specs.Fields.{whole, fields, fields-by, left, left-by}
 use Rattle.meaning.specs.Tree.{depth-at}
-use Rattle.meaning.specs.Check.{framed, checked}
+use Rattle.meaning.specs.Check.{framed, checked-tree, checked}
 use Rattle.meaning.specs.Image.{word, field}
 use Rattle.meaning.specs.Answer.{finished, finished-after, outcome, answer}
 use Rattle.meaning.specs.declared.Answer.{Answer}
@@ -226,7 +226,7 @@ consumed zero (suc n) h = absurd (omega arith)
 consumed (suc f) zero h = refl
 consumed (suc f) (suc n) h = rw (le-leb 3 (length (blocks (suc n))) (omega arith)) (consumed f n (omega arith))
 
-pub many : (n work : ℕ) → 32768 < n → checked (blocks n) work ≡ Refused Many 32768
-unfolding checked framed fields left
-many n work h =
-    rw (counted (length (blocks n)) n (fuel-enough n), consumed (length (blocks n)) n (fuel-enough n), lt-ltb 0 n (omega arith), lt-ltb 32768 n h)
+pub many : (mode n work : ℕ) → mode ≤ 1 → 32768 < n → checked mode (blocks n) work ≡ Refused Many 32768
+unfolding checked checked-tree framed fields left
+many mode n work known h =
+    rw (le-leb mode 1 known, counted (length (blocks n)) n (fuel-enough n), consumed (length (blocks n)) n (fuel-enough n), lt-ltb 0 n (omega arith), lt-ltb 32768 n h)

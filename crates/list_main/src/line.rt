@@ -29,7 +29,7 @@ pub(crate) fn number(text: &mut [u8], at: usize, n: u64, after: u8) -> usize
     word(text, at, &digits[..k], after)
 }
 
-// Prototype, index, name, a, b, c, mark; false where the line could not be written.
+// Prototype, index, name, a, b, c, mark, and what is retired; false where the line could not be written.
 pub(crate) fn instruction(text: &mut [u8], prototype: u64, index: u64, inst: Instruction) -> bool
     requires { ⌜ 160 ≤ length (now text) ⌝ }
 {
@@ -41,12 +41,16 @@ pub(crate) fn instruction(text: &mut [u8], prototype: u64, index: u64, inst: Ins
 }
 
 fn operands(text: &mut [u8], at: usize, inst: Instruction) -> usize
-    requires { ⌜ at + 84 ≤ length (now text) ⌝ }
-    ensures { λ r. ⌜ r ≤ at + 84 ⌝ }
+    requires { ⌜ at + 92 ≤ length (now text) ⌝ }
+    ensures { λ r. ⌜ r ≤ at + 92 ⌝ }
 {
     let b = number(text, at, inst.a as u64, b' ');
     let c = number(text, b, inst.b as u64, b' ');
     let mark = number(text, c, inst.c as u64, b' ');
+    if names::is_retired(inst.opcode) {
+        let end = number(text, mark, inst.mark as u64, b' ');
+        return word(text, end, b"retired", b'\n');
+    }
     number(text, mark, inst.mark as u64, b'\n')
 }
 

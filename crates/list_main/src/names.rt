@@ -1,6 +1,10 @@
 // The opcodes that this lowering writes, by name (src/instruction.rs, enum OpCode); the reader takes no other.
 use crate::line::word;
 ghost use Prim.Native.Nat.{_+_, _<_, _≤_};
+ghost use mathlib.Core.Path.{_≡_};
+ghost use mathlib.Core.Bool.{_||_};
+ghost use Rattle.meaning.specs.Opcode.{Class, ClassMeth, ClassStMeth};
+ghost use lib.Dec.{eqb};
 ghost use lib.ListN.{length};
 
 // Puts the name of an opcode at a place, and a blank behind it.
@@ -48,4 +52,11 @@ pub(crate) fn name(text: &mut [u8], at: usize, opcode: u8) -> usize
         49 => word(text, at, b"DeregisterTryCatch", b' '),
         _ => word(text, at, b"GetExcept", b' '),
     }
+}
+
+// The opcodes of classes are read as ever, and are retired (document 02, E11).
+pub(crate) fn is_retired(opcode: u8) -> bool
+    ensures { λ r. ⌜ r ≡ eqb opcode Class || (eqb opcode ClassMeth || eqb opcode ClassStMeth) ⌝ }
+{
+    (opcode == 31) | ((opcode == 32) | (opcode == 33))
 }

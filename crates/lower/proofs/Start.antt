@@ -25,28 +25,28 @@ pub opened : {t w0 w1 w2 : List ℕ} {n : ℕ} → Filled t w0 w1 (12288 + 15 * 
 opened f b =
     record { offsets = offsets-kept (f .offsets) (b .same) (λ i h l. b .offsets i h); fine = b .fine; room = b .room; runs = b .runs; image = b .image; counts = b .counts }
 
-module _ (t : List ℕ) (work n : ℕ) (e : checked t work ≡ Accepted n) where
+module _ (mode : ℕ) (t : List ℕ) (work n : ℕ) (e : checked mode t work ≡ Accepted n) where
   pub some-nodes : 1 ≤ n
-  some-nodes = let a = accepted t work n e in omega (arith, a .nodes, a .some)
+  some-nodes = let a = accepted mode t work n e in omega (arith, a .nodes, a .some)
 
   -- the last node is the program, and its statements are the definition's
   program : Program (fields t) (n - 1)
-  program = let a = accepted t work n e in subst (λ k. Program (fields t) (k - 1)) (sym (a .nodes)) (program-node (fields t) (a .shapes) (a .some))
+  program = let a = accepted mode t work n e in subst (λ k. Program (fields t) (k - 1)) (sym (a .nodes)) (program-node (fields t) (a .shapes) (a .some))
 
   pub program-is : read-program (fields t) ≡ stmts-at (fields t) (n - 1) 0 (count-of (fields t) (n - 1))
   program-is = program .is
 
   -- the statements have every node but the program itself
   row-size : 1 + size-stmts (stmts-at (fields t) (n - 1) 0 (count-of (fields t) (n - 1))) ≡ n
-  row-size = rw program-is at (accepted-size t work n e)
+  row-size = rw program-is at (accepted-size mode t work n e)
 
   module _ {w : List ℕ} (o : Opened t n w) where
     pub last-readable : Readable t w (12288 + 15 * n) (n - 1)
-    last-readable = let a = accepted t work n e in record { offsets = o .offsets; known = omega (arith, a .nodes, a .some) }
+    last-readable = let a = accepted mode t work n e in record { offsets = o .offsets; known = omega (arith, a .nodes, a .some) }
 
-    pub row-asked : (mode : ℕ) → AskRow t w (main-scope mode n) first-step (n - 1) 0 (count-of (fields t) (n - 1))
-    row-asked mode =
-        let a = accepted t work n e in
+    pub row-asked : AskRow t w (main-scope mode n) first-step (n - 1) 0 (count-of (fields t) (n - 1))
+    row-asked =
+        let a = accepted mode t work n e in
         record {
           ready = record {
             lawful = record { nodes = a .nodes; shapes = a .shapes; offsets = o .offsets };

@@ -17,8 +17,6 @@ use Rattle.meaning.proofs.Bounded.{program-exact}
 use Rattle.meaning.specs.declared.Answer.{Answer}
 use Rattle.meaning.specs.declared.Reply.{Reply}
 use Rattle.meaning.specs.declared.Cause.{Cause}
-use Rattle.meaning.specs.declared.Cause.the-variants.{Mode}
-use borrow.Author.Tests.{le-leb, lt-leb}
 use Rattle.meaning.specs.declared.Outcome.{Outcome}
 use Rattle.meaning.specs.declared.Outcome.the-variants.{Accepted, Refused}
 use Rattle.forward.specs.Forward.{config, going, bind, on, fwd-row, end-program}
@@ -49,10 +47,10 @@ unfolding on
 ended-on room last (refused c k) = refl
 ended-on room last (done i t) = refl
 
-module _ (mode : ℕ) (known : mode ≤ 1) (t : List ℕ) (work n : ℕ) (e : checked t work ≡ Accepted n) where
+module _ (mode : ℕ) (t : List ℕ) (work n : ℕ) (e : checked mode t work ≡ Accepted n) where
   finished-is : (room : ℕ) → finished mode t work room ≡ lowered room (n - 1) (lower-program mode (n - 1) (read-program (fields t)))
   unfolding finished
-  finished-is room = rw (le-leb mode 1 known) (ap (λ x. finished-after mode x t room) e)
+  finished-is room = ap (λ x. finished-after mode x t room) e
 
   -- the lowering, step by step, from the words that it starts from
   module _ {w w' o o1 o2 : List ℕ} {s1 s2 : Step} (begun : Opened t n w) (rows : LowersRow t (n - 1) 0 (count-of (fields t) (n - 1)) w o (main-scope mode n) first-step w' o1 s1)
@@ -72,7 +70,7 @@ module _ (mode : ℕ) (known : mode ≤ 1) (t : List ℕ) (work n : ℕ) (e : ch
         ap (ended (length o2) (n - 1)) (program-chain mode (n - 1) ss (run w' (main-scope mode n) s1 (a1 .protos)) (run w' (main-scope mode n) s2 (a2 .protos)) e1 (a2 .runs))
         ∙ ended-on (length o2) (n - 1) (lower-program mode (n - 1) ss)
         ∙ ap (λ k. lowered k (n - 1) (lower-program mode (n - 1) ss)) same
-        ∙ ap (λ x. lowered (length o) (n - 1) (lower-program mode (n - 1) x)) (sym (program-is t work n e))
+        ∙ ap (λ x. lowered (length o) (n - 1) (lower-program mode (n - 1) x)) (sym (program-is mode t work n e))
         ∙ sym (finished-is (length o))
 
     -- a refused row ends in a refusal
@@ -88,7 +86,7 @@ module _ (mode : ℕ) (known : mode ≤ 1) (t : List ℕ) (work n : ℕ) (e : ch
         let u = due (s1 .outcome) (rows .does .moves .used) (row-going f (s1 .outcome) refl) .visits in
         let l = finished-lowered mode t work (length o) bytes f in
         let small = program-exact mode t work (l .nodes) (l .main) (l .state) (l .accepted) (l .lowering) in
-        rw (program-is t work n e) (omega (arith, u, begun .counts, rw (program-is t work n e) at small))
+        rw (program-is mode t work n e) (omega (arith, u, begun .counts, rw (program-is mode t work n e) at small))
 
     long-enough : 3144 ≤ length w'
     long-enough = omega (arith, rows .does .moves .fine .sound .long)
@@ -103,15 +101,9 @@ module _ (mode : ℕ) (known : mode ≤ 1) (t : List ℕ) (work n : ℕ) (e : ch
         (z, counted-by (finished mode t work (length o)) r refl (z .told))
 
 -- a refusal of the check
-pub not-begun : (mode : ℕ) → mode ≤ 1 → (t o : List ℕ) (work room : ℕ) (r : Outcome) {c : Cause} {k : ℕ} → r ≡ checked t work → r ≡ Refused c k → Ending (finished mode t work room) o r
+pub not-begun : (mode : ℕ) (t o : List ℕ) (work room : ℕ) (r : Outcome) {c : Cause} {k : ℕ} → r ≡ checked mode t work → r ≡ Refused c k → Ending (finished mode t work room) o r
 unfolding finished
-not-begun mode known t o work room r {c} {k} e f =
-    rw (le-leb mode 1 known) (subst (λ x. Ending (finished-after mode x t room) o r) (sym f ∙ e) (record { told = f; fits = rw f (omega arith); front = rw f refl }))
-
--- 21 Mode
-pub no-mode : (mode : ℕ) → 1 < mode → (t o : List ℕ) (work room : ℕ) → Ending (finished mode t work room) o (Refused Mode 0)
-unfolding finished
-no-mode mode h t o work room = rw (lt-leb mode 1 h) (record { told = refl; fits = omega arith; front = refl })
+not-begun mode t o work room r {c} {k} e f = subst (λ x. Ending (finished-after mode x t room) o r) (sym f ∙ e) (record { told = f; fits = rw f (omega arith); front = rw f refl })
 
 -- a refusal counts nothing
 pub none-counted : (t w : List ℕ) (r : Outcome) {c : Cause} {k : ℕ} → r ≡ Refused c k → Counted t w r

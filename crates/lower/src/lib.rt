@@ -1,5 +1,4 @@
 // The public call: a tree is checked, lowered and written as an image; afterwards the work area is zero, and so is the output behind the image.
-use meaning::Cause;
 use meaning::Outcome;
 use meaning::Reply;
 use store::OFFSETS;
@@ -7,7 +6,7 @@ use store::Scope;
 use store::Step;
 ghost use mathlib.Core.Path.{_≡_};
 ghost use mathlib.Core.List.{_++_};
-ghost use Prim.Native.Nat.{_-_, _≤_};
+ghost use Prim.Native.Nat.{ℕ, _-_, _≤_};
 ghost use lib.ListN.{length, take, replicate};
 ghost use Rattle.meaning.specs.Check.{checked};
 ghost use Rattle.meaning.specs.declared.Outcome.the-variants.{Accepted};
@@ -40,9 +39,9 @@ fn clear_bytes(out: &mut [u8], from: usize)
     }
 }
 
-// The nodes' offsets and the store, for a tree that the check has accepted.
+// The nodes' offsets and the store, for a tree that the check has accepted, in whichever mode.
 fn set_up(tree: &[u8], work: &mut [u32], n: usize) -> Step
-    requires { ⌜ checked (now tree) (length (now work)) ≡ Accepted n ⌝ }
+    requires { ⌜ ((mode : ℕ) × (checked mode (now tree) (length (now work)) ≡ Accepted n)) ⌝ }
     ensures { λ r. ⌜ (r ≡ first-step) × Opened (now (tree .entry)) n (now (work .exit)) ⌝ }
 {
     nodes::fill_offsets(tree, work, OFFSETS + 15 * n, n);
@@ -51,7 +50,7 @@ fn set_up(tree: &[u8], work: &mut [u32], n: usize) -> Step
 
 // The main function's statements, its prototype, the constants.
 fn lower_checked(tree: &[u8], work: &mut [u32], out: &mut [u8], n: usize, mode: u64) -> Outcome
-    requires { ⌜ (checked (now tree) (length (now work)) ≡ Accepted n) × (mode ≤ 1) ⌝ }
+    requires { ⌜ checked mode (now tree) (length (now work)) ≡ Accepted n ⌝ }
     ensures { λ r. ⌜ Ending (finished mode (now (tree .entry)) (length (now (work .entry))) (length (now (out .entry)))) (now (out .exit)) r × Counted (now (tree .entry)) (now (work .exit)) r ⌝ }
 {
     let first = set_up(tree, work, n);
@@ -73,11 +72,8 @@ fn lower_checked(tree: &[u8], work: &mut [u32], out: &mut [u8], n: usize, mode: 
 fn lowered(tree: &[u8], work: &mut [u32], out: &mut [u8], mode: u64) -> Outcome
     ensures { λ r. ⌜ Ending (finished mode (now (tree .entry)) (length (now (work .entry))) (length (now (out .entry)))) (now (out .exit)) r × Counted (now (tree .entry)) (now (work .exit)) r ⌝ }
 {
-    if 1 < mode {
-        return Outcome::Refused(Cause::Mode, 0);
-    }
     let words = work.len();
-    let judged = tree::check_in(tree, work, words);
+    let judged = tree::check_in(tree, work, words, mode);
     let Outcome::Accepted(n) = judged else {
         return judged;
     };

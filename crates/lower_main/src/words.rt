@@ -1,4 +1,4 @@
-// What an answer says in words: length and visits, or number, cause, node, and the rule that was broken (01, "Outcome"; 02, E2, E6).
+// What an answer says in words: length and visits, or number, cause, node, and the rule that was broken (01, "Outcome"; 02, E2, E6, E11).
 use meaning::Reply;
 
 // One line on standard error.
@@ -89,6 +89,11 @@ pub(crate) fn refused(a: Reply) {
             a,
             b"Room",
             b"the image must fit into the output, here 75,836,160 bytes",
+        ),
+        27 => at_node(
+            a,
+            b"Retired",
+            b"classes are retired: mode 1 lowers none, and mode 0 lowers them as before",
         ),
         _ => say(b"refused 21 Mode: the mode must be 0 or 1"),
     }

@@ -6,15 +6,15 @@ use mathlib.Core.List.{List}
 use Prim.Native.Nat.{ℕ, _+_, _-_, _*_, _<_, _≤_}
 use native.Mathlib.Omega.{arith}
 use lib.ListN.{length}
-use lib.Dec.{ltb, eqb}
+use lib.Dec.{leb, ltb, eqb}
 use borrow.Author.Tests.{ltb-true, ltb-false, leb-true, eqb-true}
 use Rattle.meaning.specs.Base.{count, lowest}
 use Rattle.meaning.specs.Fields.{fields, left}
 use Rattle.meaning.specs.Grammar.{shape-at}
 use Rattle.meaning.specs.Tree.{all-kids, tree-at, depth-of, depth-at}
-use Rattle.meaning.specs.Check.{framed, unless, work-for, checked-work, checked-fields, checked}
+use Rattle.meaning.specs.Check.{framed, unless, work-for, checked-work, checked-fields, checked-tree, checked}
 use Rattle.meaning.specs.declared.Cause.{Cause}
-use Rattle.meaning.specs.declared.Cause.the-variants.{Frame, Many, Shape, Tree, Depth, Work}
+use Rattle.meaning.specs.declared.Cause.the-variants.{Frame, Many, Work}
 use Rattle.meaning.specs.declared.Outcome.{Outcome}
 use Rattle.meaning.specs.declared.Outcome.the-variants.{Accepted, Refused}
 use Rattle.meaning.proofs.Lists.{and-left, and-right, lowest-all}
@@ -53,15 +53,17 @@ none-fails c p m n o e =
 number-is : {m n : ℕ} → Accepted m ≡ Accepted n → m ≡ n
 number-is e = cc
 
-pub accepted : (s : List ℕ) (work n : ℕ) → checked s work ≡ Accepted n → Sound s work n
-unfolding checked framed checked-fields checked-work work-for tree-at depth-at
-accepted s work n e =
+pub accepted : (mode : ℕ) (s : List ℕ) (work n : ℕ) → checked mode s work ≡ Accepted n → Sound s work n
+unfolding checked checked-tree framed checked-fields checked-work work-for tree-at depth-at
+accepted mode s work n e =
+    let m = if-so (leb mode 1) _ _ n (checked-tree mode s work) e in
     let a = if-so (ltb 0 (length (fields s)) && eqb (length (left s)) 0) Frame (length (fields s)) n
-    (cond (ltb 32768 (length (fields s))) (Refused Many 32768) (checked-fields (fields s) work)) e in
-    let b = unless-so (ltb 32768 (length (fields s))) Many 32768 n (checked-fields (fields s) work) (a .1) in
-    let d = none-fails Shape (shape-at (fields s)) (length (fields s)) n _ (b .1) in
-    let f = none-fails Tree (tree-at (fields s)) (length (fields s) - 1) n _ (d .1) in
-    let g = none-fails Depth (depth-at (fields s)) (length (fields s)) n _ (f .1) in
+    (cond (ltb 32768 (length (fields s))) (Refused Many 32768) (checked-fields mode (fields s) work)) (m .1) in
+    let b = unless-so (ltb 32768 (length (fields s))) Many 32768 n (checked-fields mode (fields s) work) (a .1) in
+    let d = none-fails _ (shape-at (fields s)) (length (fields s)) n _ (b .1) in
+    let r = none-fails _ _ (length (fields s)) n _ (d .1) in
+    let f = none-fails _ (tree-at (fields s)) (length (fields s) - 1) n _ (r .1) in
+    let g = none-fails _ (depth-at (fields s)) (length (fields s)) n _ (f .1) in
     let h = unless-so (ltb work (12288 + 16 * length (fields s))) Work 0 n (Accepted (length (fields s))) (g .1) in
     let p : 1 ≤ length (fields s) = ltb-true 0 (length (fields s)) (and-left (ltb 0 (length (fields s))) (eqb (length (left s)) 0) (a .0)) in
     let o : (c : ℕ) → c < length (fields s) - 1 → count c (all-kids (fields s)) ≡ 1 = λ c l. eqb-true _ 1 (f .0 c l) in

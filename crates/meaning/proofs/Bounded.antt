@@ -42,15 +42,15 @@ program-most mode node ss i t e =
 pub visits-most : (mode : ℕ) (tree : List ℕ) (work room : ℕ) (bytes : List ℕ) → finished mode tree work room ≡ imaged bytes → visits-program (read-program (fields tree)) ≤ length (fields tree) * 1025
 visits-most mode tree work room bytes e =
     let l = finished-lowered mode tree work room bytes e in
-    let s = accepted-size tree work (l .nodes) (l .accepted) in
-    let n = accepted tree work (l .nodes) (l .accepted) .nodes in
+    let s = accepted-size mode tree work (l .nodes) (l .accepted) in
+    let n = accepted mode tree work (l .nodes) (l .accepted) .nodes in
     let z : 1 + size-stmts (read-program (fields tree)) ≡ length (fields tree) = omega (arith, s, n) in
     subst (λ k. visits-program (read-program (fields tree)) ≤ k * 1025) z (program-most mode (l .nodes - 1) _ (l .main) (l .state) (l .lowering))
 
 -- the same of a lowering: 32,768 nodes at most
-pub program-exact : (mode : ℕ) (tree : List ℕ) (work n i : ℕ) (t : State) → checked tree work ≡ Accepted n → lower-program mode (n - 1) (read-program (fields tree)) ≡ done i t → visits-program (read-program (fields tree)) < 4294967296
+pub program-exact : (mode : ℕ) (tree : List ℕ) (work n i : ℕ) (t : State) → checked mode tree work ≡ Accepted n → lower-program mode (n - 1) (read-program (fields tree)) ≡ done i t → visits-program (read-program (fields tree)) < 4294967296
 program-exact mode tree work n i t a e =
-    let s = accepted-size tree work n a in
-    let h = accepted tree work n a in
+    let s = accepted-size mode tree work n a in
+    let h = accepted mode tree work n a in
     let b = program-most mode (n - 1) _ i t e in
     omega (arith, s, h .nodes, h .few, b)

@@ -1,4 +1,5 @@
--- Programs beside the starred ones that decide a question by themselves, in tables of the same form: what 01's lures would change, and document 02's modes.
+-- Programs beside the starred ones that decide a question by themselves, in tables of the same form: what 01's lures would change, document 02's modes, and its
+-- retired classes.
 use Prim.Native.Nat.{ℕ}
 use mathlib.Core.Path.{_≡_, refl}
 use mathlib.Core.List.{List, [], _∷_, map}
@@ -165,3 +166,66 @@ told mode = answer (outcome (finished mode [] 0 0))
 pub no-mode : map told (2 ∷ 0x100000000 ∷ 0x100000001 ∷ 0xFFFFFFFFFFFFFFFF ∷ []) ≡ replicate 4 (record { number = 21; place = 0; length = 0 })
 unfolding computing
 no-mode = refl
+
+-- ---- document 02, E11: classes
+
+-- a class with no superclass and no method
+abbrev class : List ℕ
+class = 0x1D ∷ 0x00 ∷ 0x08 ∷ 0x00 ∷ 0x14 ∷ 0x00 ∷ 0x03 ∷ 0xFF ∷ 0xFF ∷ 0x00 ∷ 0x00 ∷ []
+
+abbrev retired : List Case
+retired =
+    -- two of them: the lowest, whichever the program has first
+    case (
+    (0x12 ∷ 0x00 ∷ 0x00 ∷ []) ∷
+    class ∷
+    class ∷
+    (0x1E ∷ 0x00 ∷ 0x06 ∷ 0x00 ∷ 0x02 ∷ 0x00 ∷ 0x01 ∷ 0x00 ∷ 0x00 ∷ []) ∷
+    []) 27 1
+    [] ∷
+    -- one that nothing holds: before Tree
+    case (
+    class ∷
+    (0x1E ∷ 0x00 ∷ 0x00 ∷ []) ∷
+    []) 27 0
+    [] ∷
+    -- beside a block that is its own child: after Shape
+    case (
+    class ∷
+    (0x12 ∷ 0x00 ∷ 0x02 ∷ 0x00 ∷ 0x01 ∷ []) ∷
+    (0x1E ∷ 0x00 ∷ 0x04 ∷ 0x00 ∷ 0x00 ∷ 0x00 ∷ 0x01 ∷ []) ∷
+    []) 3 1
+    [] ∷
+    []
+
+pub retired-1 : map (given-in 1) retired ≡ map due retired
+unfolding computing
+retired-1 = refl
+
+-- mode 0 lowers a class, and knows 4 alone of one that nothing holds
+abbrev kept : List Case
+kept =
+    case (
+    class ∷
+    (0x1E ∷ 0x00 ∷ 0x02 ∷ 0x00 ∷ 0x00 ∷ []) ∷
+    []) 0 0
+    (
+    (0x41 ∷ 0x00 ∷ 0x0A ∷ 0xFF ∷ 0xFF ∷ 0x00 ∷ 0x00 ∷ 0x00 ∷ 0x03 ∷ 0x00 ∷ 0x00 ∷ 0x00 ∷ 0x05 ∷ []) ∷
+    (0x43 ∷ 0x00 ∷ 0x06 ∷ 0x01 ∷ 0x01 ∷ 0x00 ∷ 0x00 ∷ 0x00 ∷ 0x03 ∷ []) ∷
+    (0x43 ∷ 0x00 ∷ 0x06 ∷ 0x02 ∷ 0x02 ∷ 0x00 ∷ 0x00 ∷ 0x00 ∷ 0x03 ∷ []) ∷
+    (0x43 ∷ 0x00 ∷ 0x06 ∷ 0x1F ∷ 0x00 ∷ 0x01 ∷ 0x02 ∷ 0x00 ∷ 0x03 ∷ []) ∷
+    (0x43 ∷ 0x00 ∷ 0x06 ∷ 0x2D ∷ 0x00 ∷ 0x00 ∷ 0x01 ∷ 0x00 ∷ 0x03 ∷ []) ∷
+    (0x43 ∷ 0x00 ∷ 0x06 ∷ 0x14 ∷ 0x00 ∷ 0x00 ∷ 0x00 ∷ 0xFF ∷ 0xFF ∷ []) ∷
+    (0x45 ∷ 0x00 ∷ 0x02 ∷ 0x00 ∷ 0x14 ∷ []) ∷
+    (0x45 ∷ 0x00 ∷ 0x02 ∷ 0x00 ∷ 0x14 ∷ []) ∷
+    []) ∷
+    case (
+    class ∷
+    (0x1E ∷ 0x00 ∷ 0x00 ∷ []) ∷
+    []) 4 0
+    [] ∷
+    []
+
+pub retired-0 : map given kept ≡ map due kept
+unfolding computing
+retired-0 = refl

@@ -6,7 +6,7 @@ use mathlib.Core.Bool.{Bool, true, false, cond}
 use mathlib.Core.List.{List, []}
 use native.Mathlib.Omega.{arith}
 use lib.ListN.{length}
-use lib.Dec.{leb, ltb}
+use lib.Dec.{ltb}
 use Rattle.meaning.specs.Fields.{fields}
 use Rattle.meaning.specs.Check.{checked}
 use Rattle.meaning.specs.Read.{read-program}
@@ -75,19 +75,15 @@ fitted-bytes false last xs bytes e = sym (ap bytes-of e)
 
 -- for each way in which the checks and then the lowering may end
 module _ (mode : ℕ) (tree : List ℕ) (work room : ℕ) (bytes : List ℕ) where
-  after-lowering : (n : ℕ) → checked tree work ≡ Accepted n → (r : Res ℕ) → lower-program mode (n - 1) (read-program (fields tree)) ≡ r → lowered room (n - 1) r ≡ imaged bytes → Lowered mode tree work bytes
+  after-lowering : (n : ℕ) → checked mode tree work ≡ Accepted n → (r : Res ℕ) → lower-program mode (n - 1) (read-program (fields tree)) ≡ r → lowered room (n - 1) r ≡ imaged bytes → Lowered mode tree work bytes
   after-lowering n a (refused c place) l e = absurd (stopped-not e)
   after-lowering n a (done i t) l e =
       record { nodes = n; accepted = a; main = i; state = t; lowering = l; image-of = fitted-bytes (ltb room (length (image t))) (n - 1) (image t) bytes e }
 
-  after-checks : (o : Outcome) → checked tree work ≡ o → finished-after mode o tree room ≡ imaged bytes → Lowered mode tree work bytes
+  after-checks : (o : Outcome) → checked mode tree work ≡ o → finished-after mode o tree room ≡ imaged bytes → Lowered mode tree work bytes
   after-checks (Refused c place) a e = absurd (stopped-not e)
   after-checks (Accepted n) a e = after-lowering n a (lower-program mode (n - 1) (read-program (fields tree))) refl e
 
-  in-mode : (b : Bool) → cond b (finished-after mode (checked tree work) tree room) (stopped Mode 0) ≡ imaged bytes → Lowered mode tree work bytes
-  in-mode true e = after-checks (checked tree work) refl e
-  in-mode false e = absurd (stopped-not e)
-
   pub finished-lowered : finished mode tree work room ≡ imaged bytes → Lowered mode tree work bytes
   unfolding finished
-  finished-lowered e = in-mode (leb mode 1) e
+  finished-lowered e = after-checks (checked mode tree work) refl e

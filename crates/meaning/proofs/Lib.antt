@@ -25,3 +25,4 @@ pub mod Bounded
 pub mod Ranges
 pub mod Images
 pub mod Quick
+pub mod Modes

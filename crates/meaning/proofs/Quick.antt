@@ -1,4 +1,4 @@
--- The checks 1 to 6 in less time, for comparing many trees with the Rust. `quick-checked` is the definition with its names opened, and what the
+-- The check in less time, for comparing many trees with the Rust. `quick-checked` is the definition with its names opened, and what the
 -- definition names at each node (fields, tags, children, parents) bound once; `quick` says that it is the definition. The one step that
 -- does not compute by itself: a node's parent is looked up in a table, which holds what the definition seeks among the fields each time.
 use Prim.Native.Nat.{ℕ, zero, suc, _+_, _-_, _<_}
@@ -14,9 +14,9 @@ use Rattle.meaning.specs.Base.{count, lowest}
 use Rattle.meaning.specs.Fields.{Field, field-at, fields, left}
 use Rattle.meaning.specs.Grammar.{fits, lawful, items-for, tags-of, shape-at}
 use Rattle.meaning.specs.Tree.{kids-of, all-kids, tree-at, parent-by, parent-of, depth-by, depth-of, depth-at}
-use Rattle.meaning.specs.Check.{framed, unless, checked-work, checked-fields, checked}
+use Rattle.meaning.specs.Check.{framed, unless, checked-work, current, current-at, checked-fields, checked-tree, checked}
 use Rattle.meaning.specs.declared.Cause.{Cause}
-use Rattle.meaning.specs.declared.Cause.the-variants.{Frame, Many, Shape, Tree, Depth}
+use Rattle.meaning.specs.declared.Cause.the-variants.{Frame, Many, Shape, Tree, Depth, Mode, Retired}
 use Rattle.meaning.specs.declared.Outcome.{Outcome}
 use Rattle.meaning.specs.declared.Outcome.the-variants.{Refused}
 use Rattle.meaning.proofs.Computing.{computing}
@@ -58,8 +58,8 @@ same-look f n i = same-look-by f n i (ltb i n) refl
 abbrev unless-at : Cause → ℕ → (n : ℕ) → Outcome → Outcome
 unless-at cause place n other = cond (ltb place n) (Refused cause place) other
 
-unfoldable pub quick-fields : List Field → (n work : ℕ) → Outcome
-quick-fields fs n work =
+unfoldable pub quick-fields : (mode : ℕ) → List Field → (n work : ℕ) → Outcome
+quick-fields mode fs n work =
     let tags = tags-of fs in
     let all = all-kids fs in
     let kids = map kids-of fs in
@@ -67,33 +67,38 @@ quick-fields fs n work =
     let enough = checked-work n work in
     let flat = unless-at Depth (lowest (λ c. leb (depth-by (look (λ d. parent-in d 0 kids) parents n) (n - 1) n c) 128) n) n enough in
     let tree = unless-at Tree (lowest (λ c. eqb (count c all) 1) (n - 1)) (n - 1) flat in
-    unless-at Shape (lowest (λ i. fits (lawful tags i) (items-for (field-at fs i .tag) (eqb (i + 1) n)) (field-at fs i .payload)) n) n tree
+    let kept = unless-at Retired (lowest (λ i. current mode (field-at fs i .tag)) n) n tree in
+    unless-at Shape (lowest (λ i. fits (lawful tags i) (items-for (field-at fs i .tag) (eqb (i + 1) n)) (field-at fs i .payload)) n) n kept
 
-unfoldable pub quick-checked : (tree : List ℕ) (work : ℕ) → Outcome
-quick-checked tree work =
+unfoldable pub quick-checked : (mode : ℕ) (tree : List ℕ) (work : ℕ) → Outcome
+quick-checked mode tree work =
     let fs = fields tree in
     let n = length fs in
-    let whole = quick-fields fs n work in
+    let whole = quick-fields mode fs n work in
     let few = cond (ltb 32768 n) (Refused Many 32768) whole in
-    cond (ltb 0 n && eqb (length (left tree)) 0) few (Refused Frame n)
+    let framed = cond (ltb 0 n && eqb (length (left tree)) 0) few (Refused Frame n) in
+    cond (leb mode 1) framed (Refused Mode 0)
 
-same-fields : (fs : List Field) (work : ℕ) → checked-fields fs work ≡ quick-fields fs (length fs) work
-unfolding checked-fields quick-fields unless shape-at tree-at depth-at depth-of parent-of
-same-fields fs work =
+same-fields : (mode : ℕ) (fs : List Field) (work : ℕ) → checked-fields mode fs work ≡ quick-fields mode fs (length fs) work
+unfolding checked-fields quick-fields unless current-at shape-at tree-at depth-at depth-of parent-of
+same-fields mode fs work =
     ap
     (λ (parent : ℕ → ℕ).
     unless Shape (shape-at fs) (length fs)
+    (unless Retired (current-at mode fs) (length fs)
     (unless Tree (tree-at fs) (length fs - 1)
-    (unless Depth (λ c. leb (depth-by parent (length fs - 1) (length fs) c) 128) (length fs) (checked-work (length fs) work))))
+    (unless Depth (λ c. leb (depth-by parent (length fs - 1) (length fs) c) 128) (length fs) (checked-work (length fs) work)))))
     (fun-ext λ c. same-parent c 0 fs ∙ sym (same-look (λ d. parent-in d 0 (map kids-of fs)) (length fs) c))
 
-pub quick : (tree : List ℕ) (work : ℕ) → checked tree work ≡ quick-checked tree work
-unfolding checked quick-checked framed
-quick tree work =
+pub quick : (mode : ℕ) (tree : List ℕ) (work : ℕ) → checked mode tree work ≡ quick-checked mode tree work
+unfolding checked checked-tree quick-checked framed
+quick mode tree work =
     ap
     (λ (o : Outcome).
-    cond (ltb 0 (length (fields tree)) && eqb (length (left tree)) 0) (cond (ltb 32768 (length (fields tree))) (Refused Many 32768) o) (Refused Frame (length (fields tree))))
-    (same-fields (fields tree) work)
+    cond (leb mode 1)
+    (cond (ltb 0 (length (fields tree)) && eqb (length (left tree)) 0) (cond (ltb 32768 (length (fields tree))) (Refused Many 32768) o) (Refused Frame (length (fields tree))))
+    (Refused Mode 0))
+    (same-fields mode (fields tree) work)
 
 -- what has to unfold for it to be computed
 unfoldable pub computing-quickly : Unit {0}

@@ -28,15 +28,15 @@ pub mod Tree
 pub mod Bytes
 
 -- the syntax tree of an accepted tree
-pub accepted-fits : (tree : List ℕ) (work n : ℕ) → checked tree work ≡ Accepted n → StmtsFit Short (read-program (fields tree))
-accepted-fits tree work n e =
-    let a = accepted tree work n e in
+pub accepted-fits : (mode : ℕ) (tree : List ℕ) (work n : ℕ) → checked mode tree work ≡ Accepted n → StmtsFit Short (read-program (fields tree))
+accepted-fits mode tree work n e =
+    let a = accepted mode tree work n e in
     let fs = fields tree in
     tree-fits Short fs (lawful (tags-of fs)) (λ i kind w h. h) (any-below (tags-of fs)) (λ i l. due-at fs i (a .shapes i l)) (a .some) (last-tag fs (a .shapes) (a .some))
 
 -- of a lowering that is done
-pub lowering-ranged : (mode : ℕ) (tree : List ℕ) (work n main : ℕ) (s : State) → checked tree work ≡ Accepted n → lower-program mode (n - 1) (read-program (fields tree)) ≡ done main s → Ranged Short s
-lowering-ranged mode tree work n main s e l = program-ranged Short (omega arith) mode (n - 1) (read-program (fields tree)) (accepted-fits tree work n e) main s l
+pub lowering-ranged : (mode : ℕ) (tree : List ℕ) (work n main : ℕ) (s : State) → checked mode tree work ≡ Accepted n → lower-program mode (n - 1) (read-program (fields tree)) ≡ done main s → Ranged Short s
+lowering-ranged mode tree work n main s e l = program-ranged Short (omega arith) mode (n - 1) (read-program (fields tree)) (accepted-fits mode tree work n e) main s l
 
 -- the same of what `demand-3` hands out
 pub lowered-ranged : (mode : ℕ) (tree : List ℕ) (work : ℕ) (bytes : List ℕ) (l : Lowered mode tree work bytes) → Ranged Short (l .state)

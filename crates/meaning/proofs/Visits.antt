@@ -129,5 +129,5 @@ mutual
   funs-few (and-fun f fs) d = omega (arith, fun-few f (omega (arith, d)), funs-few fs (omega (arith, d)))
 
 -- THE BOUND BY NODES: of a tree whose checks 1 to 6 are passed
-pub visits-few : (tree : List ℕ) (work n : ℕ) → checked tree work ≡ Accepted n → drops-stmts (read-program (fields tree)) ≡ 0 → visits-program (read-program (fields tree)) ≤ n
-visits-few tree work n e d = omega (arith, accepted-size tree work n e, stmts-few (read-program (fields tree)) d)
+pub visits-few : (mode : ℕ) (tree : List ℕ) (work n : ℕ) → checked mode tree work ≡ Accepted n → drops-stmts (read-program (fields tree)) ≡ 0 → visits-program (read-program (fields tree)) ≤ n
+visits-few mode tree work n e d = omega (arith, accepted-size mode tree work n e, stmts-few (read-program (fields tree)) d)

@@ -239,5 +239,5 @@ pub program-size : (fs : List Field) (good : (j : ℕ) → j < length fs → sha
 program-size fs good some once = program-weight (λ t. 1) fs good some once ∙ sum-to-ones (length fs)
 
 -- the same of an accepted file
-pub accepted-size : (s : List ℕ) (work n : ℕ) → checked s work ≡ Accepted n → 1 + size-stmts (read-program (fields s)) ≡ n
-accepted-size s work n e = let h = accepted s work n e in program-size (fields s) (h .shapes) (h .some) (h .once) ∙ sym (h .nodes)
+pub accepted-size : (mode : ℕ) (s : List ℕ) (work n : ℕ) → checked mode s work ≡ Accepted n → 1 + size-stmts (read-program (fields s)) ≡ n
+accepted-size mode s work n e = let h = accepted mode s work n e in program-size (fields s) (h .shapes) (h .some) (h .once) ∙ sym (h .nodes)

@@ -3,7 +3,7 @@ use Prim.Native.Nat.{ℕ, _-_}
 use mathlib.Core.Bool.{cond}
 use mathlib.Core.List.{List, _++_}
 use lib.ListN.{length, replicate}
-use lib.Dec.{leb, ltb}
+use lib.Dec.{ltb}
 use Rattle.meaning.specs.Fields.{fields}
 use Rattle.meaning.specs.Check.{checked}
 use Rattle.meaning.specs.Read.{read-program}
@@ -62,14 +62,14 @@ abbrev pub lowered : (room last : ℕ) → Res ℕ → Finished
 lowered room last (refused c place) = stopped c place
 lowered room last (done index s) = fitted room last (image s)
 
--- after the checks 1 to 6
+-- after the check
 abbrev pub finished-after : (mode : ℕ) → Outcome → (tree : List ℕ) (room : ℕ) → Finished
 finished-after mode (Refused c place) tree room = stopped c place
 finished-after mode (Accepted n) tree room = lowered room (n - 1) (lower-program mode (n - 1) (read-program (fields tree)))
 
--- 21 Mode; the tree's bytes, the work area's length in words, the output's length in bytes
+-- the mode, the tree's bytes, the work area's length in words, the output's length in bytes
 unfoldable pub finished : (mode : ℕ) (tree : List ℕ) (work room : ℕ) → Finished
-finished mode tree work room = cond (leb mode 1) (finished-after mode (checked tree work) tree room) (stopped Mode 0)
+finished mode tree work room = finished-after mode (checked mode tree work) tree room
 
 -- "the outcome is either an image length or a cause with its node"
 abbrev pub outcome : Finished → Outcome

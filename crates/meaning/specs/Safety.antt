@@ -113,7 +113,7 @@ pub record Stands (constants : List Constant) (earlier : List Proto) (p : Proto)
 -- a tree whose lowering was done, `main` being the main prototype's index, and the image of the state in which it ended
 pub record Lowered (mode : ℕ) (tree : List ℕ) (work : ℕ) (bytes : List ℕ) : Type 0 where
   pub nodes : ℕ
-  pub accepted : checked tree work ≡ Accepted nodes
+  pub accepted : checked mode tree work ≡ Accepted nodes
   pub main : ℕ
   pub state : State
   pub lowering : lower-program mode (nodes - 1) (read-program (fields tree)) ≡ done main state

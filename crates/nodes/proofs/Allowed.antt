@@ -16,8 +16,8 @@ use Rattle.nodes.specs.Offsets.{Offsets, Readable, Filled}
 use Rattle.nodes.proofs.Headers.{offsets-kept}
 
 -- the table in the work area's last n of 12,288 + 16 n words
-pub fill-allowed : (tree work : List ℕ) (n : ℕ) → checked tree (length work) ≡ Accepted n → (n ≡ length (fields tree)) × (n ≤ 32768) × (12288 + 15 * n + n ≤ length work)
-fill-allowed tree work n e = let a = accepted tree (length work) n e in (a .nodes, omega (arith, a .nodes, a .few), omega (arith, a .nodes, a .room))
+pub fill-allowed : (mode : ℕ) (tree work : List ℕ) (n : ℕ) → checked mode tree (length work) ≡ Accepted n → (n ≡ length (fields tree)) × (n ≤ 32768) × (12288 + 15 * n + n ≤ length work)
+fill-allowed mode tree work n e = let a = accepted mode tree (length work) n e in (a .nodes, omega (arith, a .nodes, a .few), omega (arith, a .nodes, a .room))
 
 module _ {tree work : List ℕ} {base : ℕ} where
   pub node-readable : Offsets tree work base → (node : ℕ) → node < length (fields tree) → Readable tree work base node

@@ -11,12 +11,12 @@ use Rattle.meaning.specs.Base.{count, lowest}
 use Rattle.meaning.specs.Fields.{Field, field-at, span, whole, rest, fields, left}
 use Rattle.meaning.specs.Grammar.{shape-at}
 use Rattle.meaning.specs.Tree.{kids-of, all-kids, tree-at, parent-of, depth-of, depth-at}
-use Rattle.meaning.specs.Check.{framed, unless, work-for, checked-work, checked-fields, checked}
-use Rattle.meaning.specs.declared.Cause.{Cause}
+use Rattle.meaning.specs.Check.{framed, unless, work-for, checked-work, checked-fields, checked-tree}
 use Rattle.meaning.specs.declared.Cause.the-variants.{Frame, Many, Shape, Tree, Depth, Work}
 use Rattle.meaning.specs.declared.Outcome.{Outcome}
 use Rattle.meaning.specs.declared.Outcome.the-variants.{Accepted, Refused}
 use Rattle.meaning.proofs.Lists.{lowest-all, lowest-same}
+use Rattle.meaning.proofs.Modes.{fields-0}
 use Rattle.meaning.proofs.FieldLaws.{whole-true, whole-false, fields-whole, fields-cut}
 use Rattle.meaning.proofs.Kids.{shape-tag, shape-kids, parent-above, depth-same}
 use Rattle.tree.specs.Used.{few, used, zeroed, scratch-after}
@@ -86,37 +86,28 @@ module _ (fs : List Field) (l : List ℕ) (n : ℕ) (v : Shapely fs l n) where
 -- ---- refusals 1 and 2
 
 module _ (s : List ℕ) (work n after : ℕ) (en : n ≡ length (fields s)) (ea : after ≡ length (left s)) where
-  pub no-fields : n ≡ 0 → Refused Frame n ≡ checked s work
-  unfolding checked framed
+  pub no-fields : n ≡ 0 → Refused Frame n ≡ checked-tree 0 s work
+  unfolding checked-tree framed
   no-fields e = simp (← en, e)
 
-  pub cut-off : (after ≡ 0 → ⊥) → Refused Frame n ≡ checked s work
-  unfolding checked framed
+  pub cut-off : (after ≡ 0 → ⊥) → Refused Frame n ≡ checked-tree 0 s work
+  unfolding checked-tree framed
   cut-off h = simp (← en, ← ea, ne-eqb after 0 h) (go (ltb 0 n))
     where
-      go : (b : Bool) → Refused Frame n ≡ cond (b && false) (cond (ltb 32768 n) (Refused Many 32768) (checked-fields (fields s) work)) (Refused Frame n)
+      go : (b : Bool) → Refused Frame n ≡ cond (b && false) (cond (ltb 32768 n) (Refused Many 32768) (checked-fields 0 (fields s) work)) (Refused Frame n)
       go true = refl
       go false = refl
 
   module _ (h : n ≡ 0 → ⊥) (e : after ≡ 0) where
-    pub too-many : 32768 < n → Refused Many 32768 ≡ checked s work
-    unfolding checked framed
+    pub too-many : 32768 < n → Refused Many 32768 ≡ checked-tree 0 s work
+    unfolding checked-tree framed
     too-many l = simp (← en, ← ea, lt-ltb 0 n (omega arith), eq-eqb after 0 e, lt-ltb 32768 n l)
 
-    pub not-many : n ≤ 32768 → checked-fields (fields s) work ≡ checked s work
-    unfolding checked framed
+    pub not-many : n ≤ 32768 → checked-fields 0 (fields s) work ≡ checked-tree 0 s work
+    unfolding checked-tree framed
     not-many l = simp (← en, ← ea, lt-ltb 0 n (omega arith), eq-eqb after 0 e, le-ltb 32768 n l)
 
 -- ---- refusals 3 to 6
-
-module _ (cause : Cause) (p : ℕ → Bool) (n k : ℕ) (other : Outcome) (e : k ≡ lowest p n) where
-  pub unless-yes : k < n → Refused cause k ≡ unless cause p n other
-  unfolding unless
-  unless-yes h = simp (← e, lt-ltb k n h)
-
-  pub unless-no : n ≤ k → other ≡ unless cause p n other
-  unfolding unless
-  unless-no h = simp (← e, le-ltb k n h)
 
 -- with n for the number of nodes
 module _ (fs : List Field) (work n : ℕ) (en : n ≡ length fs) where
@@ -129,9 +120,8 @@ module _ (fs : List Field) (work n : ℕ) (en : n ≡ length fs) where
   abbrev pub after-shape : Outcome
   after-shape = unless Tree (tree-at fs) (n - 1) after-tree
 
-  pub checked-at : unless Shape (shape-at fs) n after-shape ≡ checked-fields fs work
-  unfolding checked-fields
-  checked-at = rw en
+  pub checked-at : unless Shape (shape-at fs) n after-shape ≡ checked-fields 0 fs work
+  checked-at = rw en (sym (fields-0 fs work))
 
 module _ (n work : ℕ) where
   pub no-work : work < 12288 + 16 * n → Refused Work 0 ≡ checked-work n work
@@ -159,13 +149,18 @@ module _ (s : List ℕ) where
   pub room-enough : (room : ℕ) → few (length s / 3) ≤ room → few (length (fields s)) ≤ room
   room-enough room h = omega (arith, thirds (length s) s (omega arith))
 
-  module _ (l : List ℕ) where
-    -- too short: it was not used
-    pub kept-short : length l < few (length s / 3) → l ≡ scratch-after s l
+  module _ (mode : ℕ) (l : List ℕ) where
+    -- no mode: it was not used
+    pub kept-mode : 1 < mode → l ≡ scratch-after mode s l
     unfolding scratch-after used
-    kept-short h = simp (lt-leb _ _ h)
+    kept-mode h = simp (lt-leb mode 1 h)
+
+    -- too short: neither
+    pub kept-short : mode ≤ 1 → length l < few (length s / 3) → l ≡ scratch-after mode s l
+    unfolding scratch-after used
+    kept-short m h = simp (le-leb mode 1 m, lt-leb _ _ h)
 
     -- it was used, and cleared
-    pub zeroed-after : few (length s / 3) ≤ length l → (l′ : List ℕ) → l′ ≡ zeroed (few (length (fields s))) l → l′ ≡ scratch-after s l
+    pub zeroed-after : mode ≤ 1 → few (length s / 3) ≤ length l → (l′ : List ℕ) → l′ ≡ zeroed (few (length (fields s))) l → l′ ≡ scratch-after mode s l
     unfolding scratch-after used
-    zeroed-after h l′ e = simp (le-leb _ _ h) e
+    zeroed-after m h l′ e = simp (le-leb mode 1 m, le-leb _ _ h) e

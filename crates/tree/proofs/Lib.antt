@@ -6,4 +6,5 @@ pub mod Shapes
 pub mod Depths
 pub mod Parents
 pub mod Answers
+pub mod Over
 pub mod Determined

@@ -2,3 +2,4 @@
 pub mod Used
 pub mod Rows
 pub mod Scratch
+pub mod Retired

@@ -1,5 +1,6 @@
-// Tree files: fields, shapes, owners, and refusals 1 to 6 (document 01, "Tree file" and "Outcome").
+// Tree files: fields, shapes, owners, and refusals 1 to 6 (document 01, "Tree file" and "Outcome"); then 21 and 27 (document 02, E2 and E11).
 mod owners;
+mod retired;
 mod rows;
 mod shape;
 
@@ -10,7 +11,7 @@ ghost use mathlib.Core.Path.{_≡_};
 ghost use Prim.Native.Nat.{_≤_};
 ghost use lib.ListN.{length};
 ghost use Rattle.meaning.specs.Fields.{fields};
-ghost use Rattle.meaning.specs.Check.{checked};
+ghost use Rattle.meaning.specs.Check.{checked-tree, checked};
 ghost use Rattle.tree.specs.Used.{few, zeroed, scratch-after};
 ghost use Rattle.tree.specs.Scratch.{Beyond, Found};
 
@@ -24,10 +25,10 @@ fn few(n: usize) -> usize
     32768
 }
 
-// Refusals 1 to 6, in that order, or the number of nodes, from what a walk found and left in the scratch. The contract alone reads the tree.
+// Refusals 1 to 6, in that order, or the number of nodes, as in mode 0, from what a walk found and left in the scratch. The contract alone reads the tree.
 fn judged(tree: &[u8], scratch: &mut [u32], walked: Walked, work_len: usize) -> Outcome
     requires { ⌜ Found (now tree) (now scratch) (walked .count) (walked .after) (walked .wrong) ⌝ }
-    ensures outcome { λ r. ⌜ r ≡ checked (now (tree .entry)) «work_len» ⌝ }
+    ensures outcome { λ r. ⌜ r ≡ checked-tree 0 (now (tree .entry)) «work_len» ⌝ }
     ensures beyond { λ _. ⌜ Beyond (few (walked .count)) (now (scratch .entry)) (now (scratch .exit)) ⌝ }
 {
     let n = walked.count;
@@ -60,7 +61,7 @@ fn judged(tree: &[u8], scratch: &mut [u32], walked: Walked, work_len: usize) -> 
 // The same with the walk. The words that it uses are zero afterwards.
 fn check_with(tree: &[u8], scratch: &mut [u32], work_len: usize) -> Outcome
     requires { ⌜ few (length (fields (now tree))) ≤ length (now scratch) ⌝ }
-    ensures outcome { λ r. ⌜ r ≡ checked (now (tree .entry)) «work_len» ⌝ }
+    ensures outcome { λ r. ⌜ r ≡ checked-tree 0 (now (tree .entry)) «work_len» ⌝ }
     ensures scratch { λ _. ⌜ now (scratch .exit) ≡ zeroed (few (length (fields (now (tree .entry))))) (now (scratch .entry)) ⌝ }
 {
     let walked = shape::walk(scratch, tree);
@@ -72,7 +73,7 @@ fn check_with(tree: &[u8], scratch: &mut [u32], work_len: usize) -> Outcome
 
 // The same in a large scratch of its own. Inlined, that would be a part of every caller's frame; a function that may call itself is not, so this one may: no file is so long that it does.
 fn check_large(tree: &[u8], work_len: usize, turns: usize) -> Outcome
-    ensures { λ r. ⌜ r ≡ checked (now (tree .entry)) «work_len» ⌝ }
+    ensures { λ r. ⌜ r ≡ checked-tree 0 (now (tree .entry)) «work_len» ⌝ }
 {
     if 0 < turns {
         check_large(tree, work_len, turns - 1);
@@ -82,8 +83,8 @@ fn check_large(tree: &[u8], work_len: usize, turns: usize) -> Outcome
 }
 
 // The same in scratch of its own: a small one for a short file, so that few words are made. A field takes three bytes at least.
-pub fn check(tree: &[u8], work_len: usize) -> Outcome
-    ensures { λ r. ⌜ r ≡ checked (now (tree .entry)) «work_len» ⌝ }
+fn check_alone(tree: &[u8], work_len: usize) -> Outcome
+    ensures { λ r. ⌜ r ≡ checked-tree 0 (now (tree .entry)) «work_len» ⌝ }
 {
     if tree.len() / 3 <= 4096 {
         let mut small = [0u32; 4096];
@@ -92,13 +93,34 @@ pub fn check(tree: &[u8], work_len: usize) -> Outcome
     check_large(tree, work_len, tree.len() / 0x8000_0000_0000_0000)
 }
 
-// The same. The scratch serves where it has a word for each field that there may be.
-pub fn check_in(tree: &[u8], scratch: &mut [u32], work_len: usize) -> Outcome
-    ensures outcome { λ r. ⌜ r ≡ checked (now (tree .entry)) «work_len» ⌝ }
-    ensures scratch { λ _. ⌜ now (scratch .exit) ≡ scratch-after (now (tree .entry)) (now (scratch .entry)) ⌝ }
+// 21, then the same as in mode 0, then what mode 1 has retired.
+pub fn check(tree: &[u8], work_len: usize, mode: u64) -> Outcome
+    ensures { λ r. ⌜ r ≡ checked mode (now (tree .entry)) «work_len» ⌝ }
 {
-    if scratch.len() < few(tree.len() / 3) {
-        return check(tree, work_len);
+    if 1 < mode {
+        return Outcome::Refused(Cause::Mode, 0);
     }
-    check_with(tree, scratch, work_len)
+    let judged = check_alone(tree, work_len);
+    if mode == 0 {
+        return judged;
+    }
+    retired::over(tree, judged)
+}
+
+// The same. The scratch serves where the mode is one and it has a word for each field that there may be.
+pub fn check_in(tree: &[u8], scratch: &mut [u32], work_len: usize, mode: u64) -> Outcome
+    ensures outcome { λ r. ⌜ r ≡ checked mode (now (tree .entry)) «work_len» ⌝ }
+    ensures scratch { λ _. ⌜ now (scratch .exit) ≡ scratch-after mode (now (tree .entry)) (now (scratch .entry)) ⌝ }
+{
+    if mode > 1 {
+        return check(tree, work_len, mode);
+    }
+    if scratch.len() < few(tree.len() / 3) {
+        return check(tree, work_len, mode);
+    }
+    let judged = check_with(tree, scratch, work_len);
+    if mode == 0 {
+        return judged;
+    }
+    retired::over(tree, judged)
 }

@@ -1,5 +1,6 @@
 // Runs the check on the cases of standard input, a line each: a label, a colon and a blank, the tree in hexadecimal, a comma and a blank, and the
-// words of the work area. Then on trees too large to write down. A line is written for each: the label and the answer.
+// words of the work area; in another mode than 0 a semicolon, a blank and the mode. Then on trees too large to write down, in mode 0. A line is written
+// for each: the label and the answer.
 ghost use Prim.Native.Nat.{_<_, _≤_};
 ghost use lib.ListN.{length};
 
@@ -64,7 +65,14 @@ fn case(line: &[u8]) {
     let comma = find(given, b',');
     let mut tree = [0u8; 2048];
     let n = bytes(&given[0..comma], &mut tree);
-    show(label, &tree[0..n], decimal(&given[comma..]));
+    let asked = &given[comma..];
+    let end = find(asked, b';');
+    show(
+        label,
+        &tree[0..n],
+        decimal(&asked[0..end]),
+        decimal(&asked[end..]) as u64,
+    );
 }
 
 // The value of a digit.
@@ -90,7 +98,7 @@ fn bytes(s: &[u8], tree: &mut [u8]) -> usize
     n
 }
 
-// The number of `, ` and then digits.
+// The number of `, ` or `; ` and then digits; 0 of nothing.
 fn decimal(s: &[u8]) -> usize {
     let mut v: usize = 0;
     let mut i: usize = 2;
@@ -101,8 +109,8 @@ fn decimal(s: &[u8]) -> usize {
     v
 }
 
-fn show(label: &[u8], tree: &[u8], work: usize) {
-    let a = values::answer_of(tree::check(tree, work));
+fn show(label: &[u8], tree: &[u8], work: usize, mode: u64) {
+    let a = values::answer_of(tree::check(tree, work, mode));
     io::write_all(1, label);
     if a.number == 0 {
         io::write_all(1, b": accepted, ");
@@ -132,7 +140,7 @@ fn deep(label: &[u8], blocks: usize)
     }
     tree[5 * blocks - 2] = 0x1E;
     let end = 5 * blocks + 3;
-    show(label, &tree[0..end], 20000);
+    show(label, &tree[0..end], 20000, 0);
 }
 
 // As many blocks side by side, and a program that has the first of them as children.
@@ -156,5 +164,5 @@ fn wide(label: &[u8], blocks: usize, children: usize, work: usize)
         k = k + 1;
     }
     let all = end + 2 * children;
-    show(label, &tree[0..all], work);
+    show(label, &tree[0..all], work, 0);
 }

@@ -13,7 +13,7 @@ pub yengrazul-lower-determined : (κs : _) (args : _) (r r' : _) (s s' : _) → 
 yengrazul-lower-determined κs args r r' s s' p q = (p .0 ∙ sym (q .0), p .1 .0 ∙ sym (q .1 .0), p .1 .1 ∙ sym (q .1 .1))
 
 -- the three numbers
-pub yengrazul-check-determined : (κs : _) (args : _) (r r' : _) (s s' : _) → yengrazul-check.Post κs args r s → yengrazul-check.Post κs args r' s' → now (s .1 .1 .0) ≡ now (s' .1 .1 .0)
+pub yengrazul-check-determined : (κs : _) (args : _) (r r' : _) (s s' : _) → yengrazul-check.Post κs args r s → yengrazul-check.Post κs args r' s' → now (s .1 .1 .1 .0) ≡ now (s' .1 .1 .1 .0)
 yengrazul-check-determined κs args r r' s s' p q = p ∙ sym q
 
 -- the two numbers

@@ -32,10 +32,10 @@ pub extern "C" fn yengrazul_lower(
 
 // `tree::check`: number, place, and as length the number of nodes.
 #[no_mangle]
-pub extern "C" fn yengrazul_check(tree: &[u8], work_len: usize, answer: &mut [u64; 3])
-    ensures { λ _. ⌜ now (answer .exit) ≡ told (answer-to (checked (now (tree .entry)) «work_len»)) ⌝ }
+pub extern "C" fn yengrazul_check(tree: &[u8], work_len: usize, mode: u64, answer: &mut [u64; 3])
+    ensures { λ _. ⌜ now (answer .exit) ≡ told (answer-to (checked mode (now (tree .entry)) «work_len»)) ⌝ }
 {
-    let checked = values::answer_of(tree::check(tree, work_len));
+    let checked = values::answer_of(tree::check(tree, work_len, mode));
     *answer = [checked.number, checked.place, checked.length];
 }
 

@@ -3,7 +3,7 @@ use crate::lent::Lent;
 use files::tree::fields;
 use oracle::facts;
 use oracle::judge::Refusal;
-use oracle::limits::Asked;
+use oracle::limits::{ask_in, Asked, Room, Work};
 use oracle::modes;
 use oracle::reading;
 use oracle::rng::Rng;
@@ -12,8 +12,8 @@ use oracle::visits;
 /// `yengrazul_lower`: tree, work area, output, the mode, and the answer's four numbers.
 pub type Lower = unsafe extern "C" fn(*const u8, usize, *mut u32, usize, *mut u8, usize, u64, *mut u64);
 
-/// `yengrazul_check`: tree, how many words the work area has, and the answer's three numbers.
-pub type Check = unsafe extern "C" fn(*const u8, usize, usize, *mut u64);
+/// `yengrazul_check`: tree, how many words the work area has, the mode, and the answer's three numbers.
+pub type Check = unsafe extern "C" fn(*const u8, usize, usize, u64, *mut u64);
 
 /// `yengrazul_read`: an image, and the answer's two numbers.
 pub type Read = unsafe extern "C" fn(*const u8, usize, *mut u64);
@@ -51,8 +51,13 @@ unsafe fn call(function: Lower, tree: &[u8], work: &mut [u32], out: &mut [u8], m
     function(tree.as_ptr(), tree.len(), w, work.len(), o, out.len(), mode, answer.as_mut_ptr())
 }
 
-/// What both modes share, of a question in mode 0 or 1 that `lower` has found nothing wrong with.
-pub fn both_modes(function: Lower, asked: &Asked) -> Result<(), Fault> {
+/// What both modes share, of a question in mode 0 or 1 that `lower` has found nothing wrong with. With a class in it they share nothing:
+/// the other mode is asked for itself.
+pub fn both_modes(function: Lower, asked: &Asked, rng: &mut Rng) -> Result<(), Fault> {
+    if modes::has_class(&asked.tree) {
+        let (work, room) = (Work::Words(asked.work), Room::Bytes(asked.room));
+        return lower(function, &ask_in(1 - asked.mode, asked.tree.clone(), work, room), rng);
+    }
     let (mut work, mut answer) = (vec![0; asked.work as usize], [0; 4]);
     let mut image_of = |tree: &[u8], mode: u64| {
         let mut out = vec![0; asked.room as usize];
@@ -70,12 +75,19 @@ pub fn both_modes(function: Lower, asked: &Asked) -> Result<(), Fault> {
     modes::shared(zero, one, &marked).map(|_| ())
 }
 
-/// Refusals 1 to 6 alone; an accepted tree has 0, 0 and its number of nodes.
-pub fn check(function: Check, tree: &[u8], work: u64, due: Result<usize, Refusal>, rng: &mut Rng) -> Result<(), Fault> {
+/// Refusals 21, 1 to 6 and 27 alone; an accepted tree has 0, 0 and its number of nodes.
+pub fn check(
+    function: Check,
+    tree: &[u8],
+    work: u64,
+    mode: u64,
+    due: Result<usize, Refusal>,
+    rng: &mut Rng,
+) -> Result<(), Fault> {
     let lent = Lent::holding(rng, tree);
     let mut answer: Lent<u64> = Lent::noise(rng, 3);
     unsafe {
-        function(lent.slice().as_ptr(), tree.len(), work as usize, answer.slice_mut().as_mut_ptr());
+        function(lent.slice().as_ptr(), tree.len(), work as usize, mode, answer.slice_mut().as_mut_ptr());
     }
     let due = due.map_or_else(|r| [r.number.into(), r.place, 0], |nodes| [0, 0, nodes as u64]);
     same_numbers(answer.slice(), due)?;

@@ -23,7 +23,7 @@ extern "C" {
         mode: u64,
         answer: *mut u64,
     );
-    fn yengrazul_check(tree: *const u8, tree_len: usize, work_len: usize, answer: *mut u64);
+    fn yengrazul_check(tree: *const u8, tree_len: usize, work_len: usize, mode: u64, answer: *mut u64);
     fn yengrazul_read(image: *const u8, image_len: usize, answer: *mut u64);
     fn yengrazul_walk(
         image: *const u8,

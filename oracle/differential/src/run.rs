@@ -22,6 +22,8 @@ pub struct Plan {
     pub meeting: u64,
     /// In each mode, the same trees.
     pub minuses: u64,
+    /// In each mode, the same trees.
+    pub classes: u64,
     /// Calls in modes that are none.
     pub no_modes: u64,
     /// Random and damaged images for the reader; where there are none, the fixed ones are not asked either.
@@ -52,6 +54,7 @@ impl Plan {
             damaged: 0,
             meeting: 0,
             minuses: 0,
+            classes: 0,
             no_modes: 0,
             images: 0,
             fixed: false,
@@ -166,6 +169,7 @@ impl Fixed {
             "damaged" => questions::damaged(plan.seed, t.k, t.mode),
             "meeting" => questions::meeting(plan.seed, t.k, t.mode),
             "minuses" => questions::minuses(plan.seed, t.k, t.mode),
+            "classes" => questions::classes(plan.seed, t.k, t.mode),
             "random" => questions::random(plan.seed, t.k, t.mode),
             "fixed images" => return Asks::Image(self.images[t.k as usize].clone()),
             "images" => return Asks::Image(images::random::any(plan.seed, t.k)),
@@ -191,10 +195,8 @@ impl Plan {
 
     /// The kinds of questions in their order.
     fn rows(&self, fixed: &Fixed) -> Vec<Row> {
-        // the check knows no mode, the reader no tree
-        let (modes, no_modes): (&[u64], u64) =
-            if self.lower.is_some() { (self.modes, self.no_modes) } else { (&[0], 0) };
-        let modes = if self.asks_trees() { modes } else { &[] };
+        // the reader knows no tree
+        let (modes, no_modes): (&[u64], u64) = if self.asks_trees() { (self.modes, self.no_modes) } else { (&[], 0) };
         let images = if self.asks_images() { self.images } else { 0 };
         let walks = if self.asks_walks() { self.walks } else { 0 };
         vec![
@@ -204,6 +206,7 @@ impl Plan {
             Row { kind: "damaged", modes, count: self.damaged },
             Row { kind: "meeting", modes, count: self.meeting },
             Row { kind: "minuses", modes, count: self.minuses },
+            Row { kind: "classes", modes, count: self.classes },
             Row { kind: "random", modes, count: self.random },
             Row { kind: "fixed images", modes: &[0], count: fixed.images.len() as u64 },
             Row { kind: "images", modes: &[0], count: images },
@@ -252,10 +255,11 @@ fn ask(plan: &Plan, turn: &Turn, question: Question, rng: &mut Rng, report: &mut
     let mut number = None;
     if let Some(function) = plan.check {
         let work = work_words(&question.tree, question.work);
-        let due = judge::check(&question.tree, work).map(|nodes| nodes.len());
+        let due = judge::check(&question.tree, question.mode, work).map(|nodes| nodes.len());
         number = Some(due.map_or_else(|r| r.number, |_| 0));
-        if let Err(fault) = calls::check(function, &question.tree, work, due, rng) {
-            report.differs(plan, turn, "check", &question.tree, fault);
+        if let Err(fault) = calls::check(function, &question.tree, work, question.mode, due, rng) {
+            let lent = format!("mode {}, work {work}", question.mode);
+            report.differs(plan, turn, "check", &question.tree, format!("{lent}: {fault}"));
         }
     }
     if let Some(function) = plan.lower {
@@ -263,7 +267,7 @@ fn ask(plan: &Plan, turn: &Turn, question: Question, rng: &mut Rng, report: &mut
         number = Some(asked.answer.number);
         let mut right = calls::lower(function, &asked, rng);
         if turn.kind == "random" || turn.kind == "minuses" {
-            right = right.and_then(|()| calls::both_modes(function, &asked));
+            right = right.and_then(|()| calls::both_modes(function, &asked, rng));
         }
         if let Some(read) = plan.read.filter(|_| asked.answer.number == 0) {
             right = right.and_then(|()| calls::read_back(read, &asked.image, rng));

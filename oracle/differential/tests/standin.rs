@@ -2,6 +2,7 @@
 use differential::calls::{Check, Lower};
 use differential::run::{run, Plan, Report};
 use files::tree::{fields, Field};
+use oracle::answer;
 use standin::{yengrazul_check, yengrazul_lower};
 use std::slice::{from_raw_parts, from_raw_parts_mut};
 
@@ -16,10 +17,11 @@ fn plan(lower: Option<Lower>, check: Option<Check>, random: u64, meeting: u64, f
 
 #[test]
 fn a_right_library() {
-    let report = run(&Plan { minuses: 60, ..plan(Some(yengrazul_lower), Some(yengrazul_check), 1500, 200, true) });
+    let report =
+        run(&Plan { minuses: 60, classes: 300, ..plan(Some(yengrazul_lower), Some(yengrazul_check), 1500, 200, true) });
     assert_eq!(report.differences, Vec::<String>::new());
     assert!(report.total() > 18_000, "{}", report.total());
-    assert!((0..=18).chain([21]).all(|n| report.by_number[n] > 0), "{:?}", report.by_number);
+    assert!((0..=18).chain([21, 27]).all(|n| report.by_number[n] > 0), "{:?}", report.by_number);
 }
 
 #[test]
@@ -190,15 +192,22 @@ fn nothing_done() {
 
 #[test]
 fn a_wrong_check() {
-    unsafe extern "C" fn one_more(t: *const u8, tn: usize, work: usize, a: *mut u64) {
-        yengrazul_check(t, tn, work + 1, a);
+    unsafe extern "C" fn one_more(t: *const u8, tn: usize, work: usize, mode: u64, a: *mut u64) {
+        yengrazul_check(t, tn, work + 1, mode, a);
     }
-    unsafe extern "C" fn no_count(t: *const u8, tn: usize, work: usize, a: *mut u64) {
-        yengrazul_check(t, tn, work, a);
+    unsafe extern "C" fn no_count(t: *const u8, tn: usize, work: usize, mode: u64, a: *mut u64) {
+        yengrazul_check(t, tn, work, mode, a);
         *a.add(2) = 0;
     }
-    for wrong in [one_more as Check, no_count] {
-        assert!(!runs(None, Some(wrong), 2000, 0, false).differences.is_empty());
+    unsafe extern "C" fn mode_0(t: *const u8, tn: usize, work: usize, mode: u64, a: *mut u64) {
+        yengrazul_check(t, tn, work, if mode == 1 { 0 } else { mode }, a);
+    }
+    unsafe extern "C" fn the_lowest_bit_of_a_mode(t: *const u8, tn: usize, work: usize, mode: u64, a: *mut u64) {
+        yengrazul_check(t, tn, work, mode & 1, a);
+    }
+    for wrong in [one_more as Check, no_count, mode_0, the_lowest_bit_of_a_mode] {
+        let report = run(&Plan { classes: 400, ..plan(None, Some(wrong), 2000, 0, false) });
+        assert!(!report.differences.is_empty());
     }
 }
 
@@ -221,6 +230,63 @@ unsafe extern "C" fn turned<const FIRST: u8, const THEN: u8, const TAG: u8>(
         if there && traced::met(&nodes, mode).is_some_and(|(_, then)| then == THEN) {
             answer[0] = THEN.into();
         }
+    }
+}
+
+/// A wrong library: another answer where 27 is due, or 27 where it is not; what the tree would be without 27 is mode 0's answer.
+unsafe extern "C" fn retiring<const HOW: u8>(
+    t: *const u8,
+    tn: usize,
+    w: *mut u32,
+    wn: usize,
+    o: *mut u8,
+    on: usize,
+    mode: u64,
+    a: *mut u64,
+) {
+    yengrazul_lower(t, tn, w, wn, o, on, mode, a);
+    let (tree, answer) = (from_raw_parts(t, tn), from_raw_parts_mut(a, 4));
+    let Some(classes) = fields(tree).ok().map(|all| placed(&all, 0x1D)) else { return };
+    let before = answer::answer(tree, 0, wn as u64, on as u64).0.numbers();
+    match (HOW, answer[0], before[0]) {
+        (0, 3, _) if mode == 1 && !classes.is_empty() => answer[..2].copy_from_slice(&[27, classes[0]]),
+        (1, 27, _) => answer[1] = classes[classes.len() - 1],
+        (2, 27, 4) | (3, 27, 5) | (4, 27, 6) => answer.copy_from_slice(&before),
+        (5, 0, _) if mode == 0 && !classes.is_empty() => answer.copy_from_slice(&[27, classes[0], 0, 0]),
+        (6, 27, _) => answer[1] += 1,
+        (7, 27, _) => answer[3] = 1,
+        (8, 27, _) => out_of(o, on, 1),
+        _ => {}
+    }
+}
+
+/// Which fields have a tag.
+fn placed(fields: &[Field], tag: u8) -> Vec<u64> {
+    fields.iter().enumerate().filter(|(_, f)| f.tag == tag).map(|(place, _)| place as u64).collect()
+}
+
+unsafe fn out_of(o: *mut u8, on: usize, byte: u8) {
+    if on > 0 {
+        *o = byte;
+    }
+}
+
+#[test]
+fn classes_retired_wrongly() {
+    let wrong: [(&str, Lower); 9] = [
+        ("27 before 3", retiring::<0>),
+        ("the highest class", retiring::<1>),
+        ("27 after 4", retiring::<2>),
+        ("27 after 5", retiring::<3>),
+        ("27 after 6", retiring::<4>),
+        ("27 in mode 0", retiring::<5>),
+        ("the place one off", retiring::<6>),
+        ("27 with visits", retiring::<7>),
+        ("27 with a byte of output", retiring::<8>),
+    ];
+    for (name, lower) in wrong {
+        let report = run(&Plan { classes: 3000, lower: Some(lower), ..Plan::nothing(5) });
+        assert!(!report.differences.is_empty(), "{name}");
     }
 }
 

@@ -1,4 +1,4 @@
-//! The whole answer: 21 by the mode, 1 to 6 by the judge, 7 to 17, the image and the visits by the traced source, 18 by the image's length.
+//! The whole answer: 21, 1 to 6 and 27 by the judge, 7 to 17, the image and the visits by the traced source, 18 by the image's length.
 use crate::judge::{self, Refusal};
 
 /// Number, place, length and visits as the caller gets them.
@@ -29,12 +29,9 @@ pub struct Lowered {
     pub visits: u64,
 }
 
-/// What a tree gives in a mode, whatever the room for its image, or the first of 21 and 1 to 17.
+/// What a tree gives in a mode, whatever the room for its image, or the first of 21, 1 to 3, 27 and 4 to 17.
 pub fn lowered(tree: &[u8], mode: u64, work_words: u64) -> Result<Lowered, Refusal> {
-    if mode > 1 {
-        return Err(Refusal { number: 21, place: 0 });
-    }
-    let nodes = judge::check(tree, work_words)?;
+    let nodes = judge::check(tree, mode, work_words)?;
     match traced::counted(&nodes, mode) {
         Ok((image, visits)) => Ok(Lowered { image: image.to_bytes(), visits: visits as u64 }),
         Err(r) => Err(Refusal { number: r.number, place: r.node as u64 }),

@@ -72,7 +72,7 @@ fn shows(number: u8, nodes: &[Field], image: &Image) -> bool {
 /// Compares on one tree in a mode, in this process; says whether there was something to compare.
 /// Where 9 or 10 is due the source ends the process: that is for a child.
 pub fn in_process(tree: &[u8], mode: u64) -> Result<bool, String> {
-    let Ok(nodes) = judge::check(tree, u64::MAX) else { return Ok(false) };
+    let Ok(nodes) = judge::check(tree, mode, u64::MAX) else { return Ok(false) };
     let attempt = if mode == 0 { unchanged::attempt } else { mode1::attempt };
     let due = match end_due(&nodes, mode) {
         None | Some(Err(traced::Refusal { number: 9 | 10, .. })) => return Ok(false),
@@ -114,7 +114,7 @@ pub fn fits(nodes: &[Field], due: &End, did: &Outcome) -> bool {
 
 /// Lowers a tree by the unchanged source and says what it did; where the source ends the process, it is ended.
 pub fn in_child(tree: &[u8]) -> Outcome {
-    let nodes = judge::check(tree, u64::MAX).expect("a checked tree");
+    let nodes = judge::check(tree, 0, u64::MAX).expect("a checked tree");
     match unchanged::attempt_or_exit(&nodes) {
         Err(panic) => Outcome::Panicked(panic),
         Ok(compiler) => Outcome::Finished(Made::of(&unchanged::write::image(&compiler))),

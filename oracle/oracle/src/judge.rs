@@ -1,22 +1,26 @@
-//! Refusals 1 to 6 of document 01, read straight from its words.
+//! Refusals 1 to 6 of document 01 and 21 and 27 of document 02, read straight from their words.
 use files::tree::{fields, Field};
 use files::NONE;
 
 pub const MOST_FIELDS: usize = 32_768;
 pub const DEEPEST: u32 = 128;
 
-/// A number of 01's table or 21 of 02's, with its place.
+/// A number of 01's table or of 02's requests, with its place.
 #[derive(Clone, Copy, Debug, PartialEq)]
 pub struct Refusal {
     pub number: u8,
     pub place: u64,
 }
 
-/// The fields of a tree that none of 1 to 6 refuses.
-pub fn check(tree: &[u8], work_words: u64) -> Result<Vec<Field<'_>>, Refusal> {
+/// The fields of a tree that none of 21, 1 to 3, 27 and 4 to 6 refuses in a mode.
+pub fn check(tree: &[u8], mode: u64, work_words: u64) -> Result<Vec<Field<'_>>, Refusal> {
+    if mode > 1 {
+        return refusal(21, 0);
+    }
     let nodes = frame(tree)?;
     many(&nodes)?;
     let children = shape(&nodes)?;
+    retired(&nodes, mode)?;
     single(&children)?;
     depth(&children)?;
     work(&nodes, work_words)?;
@@ -64,6 +68,14 @@ fn shape(nodes: &[Field]) -> Result<Vec<Vec<usize>>, Refusal> {
         }
     }
     Ok(all)
+}
+
+/// 27: mode 1 refuses tag 1D, at the lowest such node.
+fn retired(nodes: &[Field], mode: u64) -> Result<(), Refusal> {
+    match nodes.iter().position(|node| node.tag == 0x1D) {
+        Some(class) if mode == 1 => refusal(27, class),
+        _ => Ok(()),
+    }
 }
 
 /// The children of each node of a checked tree, absent ones left out.

@@ -104,14 +104,14 @@ fn show(bytes: &[u8]) -> Done {
 
 /// What the unchanged source does; it may end this process.
 fn rust(tree: &[u8]) -> Done {
-    judge::check(tree, u64::MAX).map_err(|r| format!("refusal {} at {}: not for the source", r.number, r.place))?;
+    judge::check(tree, 0, u64::MAX).map_err(|r| format!("refusal {} at {}: not for the source", r.number, r.place))?;
     print(&format!("{}\n", compare::in_child(tree)))
 }
 
 /// The image that the unchanged source gives, also where the port refuses; it may end this process.
 fn rust_image(tree: &[u8], path: &str) -> Done {
-    let nodes =
-        judge::check(tree, u64::MAX).map_err(|r| format!("refusal {} at {}: not for the source", r.number, r.place))?;
+    let nodes = judge::check(tree, 0, u64::MAX)
+        .map_err(|r| format!("refusal {} at {}: not for the source", r.number, r.place))?;
     save(path, &unchanged::attempt(&nodes)?.to_bytes())
 }
 
@@ -125,11 +125,12 @@ fn generate(kind: &str, o: &Options) -> Done {
         "damaged" => of_seed(questions::damaged),
         "meeting" => of_seed(questions::meeting),
         "minuses" => of_seed(questions::minuses),
+        "classes" => of_seed(questions::classes),
         "limits" => in_mode(questions::limits()),
         "shapes" => in_mode(questions::shapes()),
         "modes" if o.mode.is_none() => (0..o.count).map(|k| questions::no_mode(o.seed, k)).collect(),
         other => {
-            let kinds = "random, small, damaged, meeting, minuses, limits, shapes, or modes without --mode";
+            let kinds = "random, small, damaged, meeting, minuses, classes, limits, shapes, or modes without --mode";
             return Err(format!("no kind {other}: {kinds}"));
         }
     };

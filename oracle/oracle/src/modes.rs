@@ -1,9 +1,15 @@
-//! What both modes share, as long as they differ in where continue goes alone: number, place, length, and every other byte of the image.
+//! What both modes share of a tree without classes, as long as they differ in where continue goes alone: number, place, length, and every
+//! other byte of the image.
 use files::listing::opcode;
-use files::tree::{fields, Field};
+use files::tree::{fields, whole_fields, Field};
 
 /// The tag of a continue, whose payload is its mark.
 const CONTINUE: u8 = 0x17;
+
+/// Whether a field that is whole is a class, which mode 1 refuses.
+pub fn has_class(tree: &[u8]) -> bool {
+    whole_fields(tree).0.iter().any(|field| field.tag == 0x1D)
+}
 
 /// The tree with another mark at each continue, or nothing where it has none. In the image the Jmps of continues get other marks, and no other Jmp does.
 pub fn remarked(tree: &[u8]) -> Option<Vec<u8>> {

@@ -3,7 +3,7 @@ use crate::limits::{self, ask_in, Asked, Room, Work};
 use crate::rng::Rng;
 use crate::trees::build::Node;
 use crate::trees::order::{file, Order};
-use crate::trees::{crowd, damage, meet, minuses, random};
+use crate::trees::{classes, crowd, damage, meet, minuses, random};
 
 /// A mode and a file, and what is lent with it.
 #[derive(Clone)]
@@ -45,6 +45,13 @@ pub fn minuses(seed: u64, k: u64, mode: u64) -> Question {
     let mut rng = Rng::for_case(seed ^ 0x006D_696E_7573, k);
     let program = minuses::any(&mut rng);
     let tree = numbered(&mut rng, &program);
+    lent(&mut rng, tree).in_mode(mode)
+}
+
+/// Classes of every kind and place, the same in both modes.
+pub fn classes(seed: u64, k: u64, mode: u64) -> Question {
+    let mut rng = Rng::for_case(seed ^ 0x636C_6173_7365, k);
+    let tree = classes::any(&mut rng);
     lent(&mut rng, tree).in_mode(mode)
 }
 
@@ -104,8 +111,8 @@ pub fn shapes() -> Vec<Question> {
     limits::edited_shapes().into_iter().map(of).collect()
 }
 
-fn small_tree(rng: &mut Rng, size: usize, loops: bool) -> Vec<u8> {
-    let taste = random::Taste { loops, ..random::Taste::any(rng, size) };
+fn small_tree(rng: &mut Rng, size: usize, mode_1: bool) -> Vec<u8> {
+    let taste = random::Taste::any(rng, size).in_mode(rng, mode_1);
     let program = random::program(rng, taste);
     numbered(rng, &program)
 }

@@ -8,7 +8,7 @@ use crate::trees::order::post;
 pub const SEED: u64 = 20_260;
 
 /// Mode 0: reference programs and limits, the zoo, then random and damaged trees of the seed. Mode 1: long loops, the zoo, then small
-/// trees of many loops, and damaged ones. Then modes that are none.
+/// trees of many loops, damaged ones, and classes. Then modes that are none.
 pub fn sample(seed: u64) -> Vec<Packed> {
     let mut asked: Vec<Asked> =
         cases().into_iter().enumerate().filter(|(k, c)| chosen(*k, c)).map(|(_, c)| c.ask()).collect();
@@ -21,6 +21,7 @@ pub fn sample(seed: u64) -> Vec<Packed> {
     asked.push(ask_in(1, post(&zoo()), Work::Exact, Room::Exact));
     asked.extend((0..).map(|k| questions::small(seed, k, 1).ask()).filter(small).take(130));
     asked.extend((0..).map(|k| questions::damaged(seed, k, 1).ask()).filter(small).take(40));
+    asked.extend((0..).map(|k| questions::classes(seed, k, 1).ask()).filter(small).take(20));
     asked.extend((0..).map(|k| questions::no_mode(seed, k).ask()).filter(small).take(40));
     asked.iter().map(Packed::of).collect()
 }

@@ -86,7 +86,7 @@ fn refusals_seen_from_a_child() {
     for asked in cases().iter().map(|c| c.ask()).chain(random) {
         let number = asked.answer.number;
         if (7..=17).contains(&number) && seen[usize::from(number)] < most {
-            let nodes = judge::check(&asked.tree, asked.work).unwrap();
+            let nodes = judge::check(&asked.tree, 0, asked.work).unwrap();
             let Some(due) = end_due(&nodes, 0) else { continue };
             seen[usize::from(number)] += 1;
             let did = child(&asked.tree);
@@ -153,7 +153,7 @@ fn only_the_end_that_follows_is_allowed() {
         }
     }
     for (tree, did) in &seen {
-        let nodes = judge::check(tree, u64::MAX).unwrap();
+        let nodes = judge::check(tree, 0, u64::MAX).unwrap();
         let due = end_due(&nodes, 0).expect("an end");
         for (_, other) in &seen {
             assert_eq!(fits(&nodes, &due, other), did == other, "due {due:?}, and {other}");
@@ -166,7 +166,7 @@ fn only_the_end_that_follows_is_allowed() {
 fn a_loop_of_exactly_32_768_stops_the_source() {
     for (n, stops) in [(32_765, false), (32_766, true), (32_767, false)] {
         let tree = post(&program(vec![block(vec![let_(A, None), while_(7, variable(A), block(instructions(n)))])]));
-        let nodes = judge::check(&tree, u64::MAX).unwrap();
+        let nodes = judge::check(&tree, 0, u64::MAX).unwrap();
         let did = child(&tree);
         let words = if stops { "panicked attempt to negate with overflow" } else { "finished " };
         assert!(did.to_string().starts_with(words), "{n}: {did}");
@@ -180,7 +180,7 @@ fn a_loop_of_exactly_32_768_stops_the_source() {
 #[ignore]
 fn the_source_exits_here() {
     let unknown = [0x04, 0, 4, 0, 10, 0, 7, 0x10, 0, 2, 0, 0, 0x1E, 0, 2, 0, 1];
-    let _ = unchanged::attempt(&judge::check(&unknown, u64::MAX).unwrap());
+    let _ = unchanged::attempt(&judge::check(&unknown, 0, u64::MAX).unwrap());
 }
 
 /// An exit of the source must not pass for success.

@@ -276,8 +276,11 @@ fn the_questions_of_no_mode() {
     assert!(empty > 100 && lent_nothing > 100 && low > 100, "{empty} {lent_nothing} {low}");
 }
 
-/// How many jumps differ between the modes, of an accepted tree; a refused one is refused alike.
+/// How many jumps differ between the modes, of an accepted tree without classes; a refused one is refused alike.
 fn shared(tree: Vec<u8>, work: Work, room: Room) -> usize {
+    if modes::has_class(&tree) {
+        return 0;
+    }
     let [zero, one] = [0, 1].map(|mode| ask_in(mode, tree.clone(), work, room));
     assert_eq!(zero.answer, one.answer);
     let marked = modes::remarked(&tree).map_or(zero.image.clone(), |tree| ask_in(1, tree, work, room).image);

@@ -19,7 +19,7 @@ fn the_sample_is_made_again() {
 fn the_sample_is_of_every_kind() {
     let cases = read(&committed()).expect("the packed layout");
     assert!(cases.len() >= 300);
-    let (mut numbers, mut tags) = ([[0; 22]; 2], [0; 256]);
+    let (mut numbers, mut tags) = ([[0; 30]; 2], [0; 256]);
     for case in &cases {
         numbers[usize::from(case.mode == 1)][case.told[0] as usize] += 1;
         if case.told[0] == 0 {
@@ -27,7 +27,7 @@ fn the_sample_is_of_every_kind() {
         }
     }
     let [other, one] = numbers;
-    assert!((0..=18).chain([21]).all(|n| other[n] > 0), "by number {other:?}");
+    assert!((0..=18).chain([21]).all(|n| other[n] > 0) && one[27] > 3, "by number {other:?}");
     assert!(one[0] > 100 && one[21] == 0 && other[21] == 40, "by number in mode 1 {one:?}");
     let listed = (0x01..=0x09).chain(0x10..=0x1E);
     assert!(listed.clone().all(|tag| tags[tag] > 0), "by tag {tags:?}");

@@ -28,9 +28,15 @@ pub unsafe extern "C" fn yengrazul_lower(
 /// # Safety
 /// The pointer and length are of a slice, and `answer` is of three numbers.
 #[no_mangle]
-pub unsafe extern "C" fn yengrazul_check(tree: *const u8, tree_len: usize, work_len: usize, answer: *mut u64) {
+pub unsafe extern "C" fn yengrazul_check(
+    tree: *const u8,
+    tree_len: usize,
+    work_len: usize,
+    mode: u64,
+    answer: *mut u64,
+) {
     let (tree, answer) = (from_raw_parts(tree, tree_len), from_raw_parts_mut(answer, 3));
-    answer.copy_from_slice(&match judge::check(tree, work_len as u64) {
+    answer.copy_from_slice(&match judge::check(tree, mode, work_len as u64) {
         Ok(nodes) => [0, 0, nodes.len() as u64],
         Err(refusal) => [refusal.number.into(), refusal.place, 0],
     });

@@ -15,7 +15,7 @@ count-of-requires c κs =
     let start = c .before .before .before .before .before .before .before .before in
     let set-up = c .before .before .before .set-up in
     let a = start .args in
-    last-readable (now (a .tree)) (length (now (a .work))) (a .n) (start .pre .0) (set-up .ensures .1)
+    last-readable (a .mode) (now (a .tree)) (length (now (a .work))) (a .n) (start .pre) (set-up .ensures .1)
 
 row-requires : tie.Need-row-requires
 row-requires c κs =
@@ -23,7 +23,7 @@ row-requires c κs =
     let set-up = c .before .before .before .before .before .before .set-up in
     let count-of = c .before .before .count-of in
     let a = start .args in
-    rw (set-up .ensures .0, count-of .ensures .0) (row-asked (now (a .tree)) (length (now (a .work))) (a .n) (start .pre .0) (set-up .ensures .1) (a .mode))
+    rw (set-up .ensures .0, count-of .ensures .0) (row-asked (a .mode) (now (a .tree)) (length (now (a .work))) (a .n) (start .pre) (set-up .ensures .1))
 
 finish-requires : tie.Need-finish-requires
 finish-requires c κs =
@@ -40,7 +40,7 @@ returns c =
     let finish = c .before .before .finish in
     let a = start .args in
     let rows = rw (set-up .ensures .0, count-of .ensures .0) at (row .ensures) in
-    whole (a .mode) (start .pre .1) (now (a .tree)) (length (now (a .work))) (a .n) (start .pre .0) (set-up .ensures .1) rows (end-program .ensures) (finish .ensures)
+    whole (a .mode) (now (a .tree)) (length (now (a .work))) (a .n) (start .pre) (set-up .ensures .1) rows (end-program .ensures) (finish .ensures)
 
 same-length : tie.Need-same-length
 same-length c =
@@ -52,7 +52,7 @@ pub lower-checked-spec : {M : Type 1} → statement M
 lower-checked-spec =
     tie.close
     (tie.spec
-    (λ c κs. (c .before .before .before .before) .pre .0)
+    (λ c κs. ((c .before .before .before .before) .args .mode, (c .before .before .before .before) .pre))
     (λ c. omega (arith, (c .before .before .set-up) .ensures .1 .fine 0 .sound .some))
     (λ c. omega (arith, (c .before .before .before .set-up) .ensures .1 .fine 0 .sound .few))
     (λ c. omega (arith, (c .before .before .before .set-up) .ensures .1 .fine 0 .sound .few))

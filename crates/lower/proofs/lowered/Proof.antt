@@ -1,37 +1,32 @@
--- Refused for its mode, refused by the check, or lowered.
+-- Refused by the check, or lowered.
 use mathlib.Core.Path.{sym, ap, _∙_}
 use native.Mathlib.Omega.{arith}
 use lib.ListN.{length}
 use denote.Ref.{now}
 use Rattle.meaning.specs.Check.{checked}
-use Rattle.lower.proofs.Whole.{not-begun, no-mode, none-counted}
+use Rattle.lower.proofs.Whole.{not-begun, none-counted}
 use borrow.Author.Needs.{needs}
 use Rattle.lower.proofs.lowered.Statement.{statement}
 use Rattle.lower.proofs.lowered.Tie as tie
 
 returns : tie.Need-returns
 returns c =
-    let a = (c .before .before .before .before) .args in
-    (no-mode (a .mode) (omega (arith, c .if1 .taken)) (now (a .tree)) (now (a .out)) (length (now (a .work))) (length (now (a .out))), tt)
-
-returns-2 : tie.Need-returns-2
-returns-2 c =
-    let start = c .before .before .before .before .before .before .before .before .before .before in
+    let start = c .before .before .before .before .before .before .before .before .before in
     let check-in = c .before .before .before .before .check-in in
     let enum-told = c .enum-told in
     let a = start .args in
-    (not-begun (a .mode) (omega (arith, (c .before .before .before .before .before .before .if1) .left)) (now (a .tree)) (now (a .out)) (length (now (a .work))) (length (now (a .out))) (check-in .result) (check-in .ensures .0) (enum-told .given .1), none-counted _ _ (check-in .result) (enum-told .given .1))
+    (not-begun (a .mode) (now (a .tree)) (now (a .out)) (length (now (a .work))) (length (now (a .out))) (check-in .result) (check-in .ensures .0) (enum-told .given .1), none-counted _ _ (check-in .result) (enum-told .given .1))
 
 lower-checked-requires : tie.Need-lower-checked-requires
 lower-checked-requires c κs =
-    let start = c .before .before .before .before .before .before .before .before .before .before .before .before .before in
+    let start = c .before .before .before .before .before .before .before .before .before .before .before .before in
     let check-in = c .before .before .before .before .before .before .before .check-in in
     let judged = c .before .before .before .judged in
     let a = start .args in
-    (ap (checked (now (a .tree))) (check-in .kept .1 .0) ∙ sym (check-in .ensures .0) ∙ judged .given .1, omega (arith, (c .before .before .before .before .before .before .before .before .before .if1) .left))
+    ap (checked (a .mode) (now (a .tree))) (check-in .kept .1 .0) ∙ sym (check-in .ensures .0) ∙ judged .given .1
 
-returns-3 : tie.Need-returns-3
-returns-3 c =
+returns-2 : tie.Need-returns-2
+returns-2 c =
     let check-in = c .before .before .before .before .before .before .before .before .before .before .before .before .check-in in
     let lower-checked = c .before .before .before .before .lower-checked in
     rw (← check-in .kept .1 .0) (lower-checked .ensures)
@@ -40,13 +35,12 @@ pub lowered-spec : {M : Type 1} → statement M
 lowered-spec =
     tie.close
     (tie.spec
-    returns
     (λ c κs. search needs)
     (λ c. search needs)
     (λ c. search needs)
     (λ c. search needs)
-    returns-2
+    returns
     lower-checked-requires
     (λ c. search needs)
     (λ c. search needs)
-    returns-3)
+    returns-2)

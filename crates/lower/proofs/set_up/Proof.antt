@@ -13,27 +13,27 @@ mul-fill-offsets : tie.Need-mul-fill-offsets
 mul-fill-offsets c =
     let start = c .before .before .before in
     let a = start .args in
-    omega (arith, fill-allowed (now (a .tree)) (now (a .work)) (a .n) (start .pre))
+    omega (arith, fill-allowed (start .pre .0) (now (a .tree)) (now (a .work)) (a .n) (start .pre .1))
 
 add-fill-offsets : tie.Need-add-fill-offsets
 add-fill-offsets c =
     let start = c .before .before .before in
     let a = start .args in
-    omega (arith, fill-allowed (now (a .tree)) (now (a .work)) (a .n) (start .pre))
+    omega (arith, fill-allowed (start .pre .0) (now (a .tree)) (now (a .work)) (a .n) (start .pre .1))
 
 fill-offsets-requires : tie.Need-fill-offsets-requires
 fill-offsets-requires c κs =
     let start = c .before .before .before in
     let a = start .args in
-    fill-allowed (now (a .tree)) (now (a .work)) (a .n) (start .pre)
+    fill-allowed (start .pre .0) (now (a .tree)) (now (a .work)) (a .n) (start .pre .1)
 
 begin-requires : tie.Need-begin-requires
 begin-requires c κs =
     let start = c .before .before .before .before .before .before .before in
     let fill-offsets = c .before .before .before .fill-offsets in
     let a = start .args in
-    let f = fill-allowed (now (a .tree)) (now (a .work)) (a .n) (start .pre) in
-    let s = accepted (now (a .tree)) (length (now (a .work))) (a .n) (start .pre) in
+    let f = fill-allowed (start .pre .0) (now (a .tree)) (now (a .work)) (a .n) (start .pre .1) in
+    let s = accepted (start .pre .0) (now (a .tree)) (length (now (a .work))) (a .n) (start .pre .1) in
     (omega (arith, s .nodes, s .some), f .1, omega (arith, f .2, fill-offsets .kept .1 .0))
 
 returns : tie.Need-returns

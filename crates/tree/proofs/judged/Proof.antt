@@ -1,4 +1,4 @@
--- The answer is `checked`, a refusal at a time: `rest-2` to `rest-5` say that the tests passed so far leave the answer to the rest of it.
+-- The answer is `checked-tree` in mode 0, a refusal at a time: `rest-2` to `rest-5` say that the tests passed so far leave the answer to the rest of it.
 use mathlib.Core.Path.{_≡_, refl, _∙_}
 use mathlib.Core.List.{List}
 use Prim.Native.Nat.{ℕ, _-_, _≤_}
@@ -7,11 +7,12 @@ use denote.Ref.{now}
 use Rattle.meaning.specs.Base.{lowest}
 use Rattle.meaning.specs.Fields.{Field, fields}
 use Rattle.meaning.specs.Tree.{tree-at, depth-at}
-use Rattle.meaning.specs.Check.{checked-fields, checked}
+use Rattle.meaning.specs.Check.{checked-fields, checked-tree}
+use Rattle.meaning.proofs.Modes.{unless-yes, unless-no}
 use Rattle.tree.specs.Scratch.{Beyond}
 use Rattle.tree.specs.Used.{few}
 use Rattle.tree.proofs.Words.{beyond-refl, beyond-more}
-use Rattle.tree.proofs.Answers.{Shapely, free-is, owned-is, deep-is, no-fields, cut-off, too-many, not-many, unless-yes, unless-no, after-depth, after-tree, after-shape, checked-at, no-work, all-well}
+use Rattle.tree.proofs.Answers.{Shapely, free-is, owned-is, deep-is, no-fields, cut-off, too-many, not-many, after-depth, after-tree, after-shape, checked-at, no-work, all-well}
 use Rattle.tree.proofs.judged.Statement.{statement}
 use Rattle.tree.proofs.judged.Tie as tie
 
@@ -45,7 +46,7 @@ abbrev S₆ : tie.Else6 → tie.Start
 S₆ c = S₅ (c .before .before .before .before .before)
 
 -- 1 and 2
-rest-2 : (c : tie.Else3) → checked-fields (F (S₃ c)) (W (S₃ c)) ≡ checked (T (S₃ c)) (W (S₃ c))
+rest-2 : (c : tie.Else3) → checked-fields 0 (F (S₃ c)) (W (S₃ c)) ≡ checked-tree 0 (T (S₃ c)) (W (S₃ c))
 rest-2 c = let e = c .before .before .before in let pre = S₃ c .pre in
     not-many _ _ _ _ (pre .whole-fields) (pre .bytes-after) (e .if1 .left) (c .before .if2 .left) (c .if3 .left)
 
@@ -63,7 +64,7 @@ shapely c =
       entered = right .1;
     }
 
-rest-3 : (c : tie.Else4) → after-shape (F (S₄ c)) (W (S₄ c)) (N (S₄ c)) (S₄ c .pre .whole-fields) ≡ checked (T (S₄ c)) (W (S₄ c))
+rest-3 : (c : tie.Else4) → after-shape (F (S₄ c)) (W (S₄ c)) (N (S₄ c)) (S₄ c .pre .whole-fields) ≡ checked-tree 0 (T (S₄ c)) (W (S₄ c))
 rest-3 c = unless-no _ _ _ _ _ (shapely c .shapes) (omega arith) ∙ checked-at _ _ _ (S₄ c .pre .whole-fields) ∙ rest-2 (c .before .before)
 
 -- 4
@@ -73,7 +74,7 @@ free c = free-is _ _ _ (shapely (c .before .before)) _ (c .first-unowned .ensure
 trees : (c : tie.Else5) → N (S₅ c) - 1 ≤ lowest (tree-at (F (S₅ c))) (N (S₅ c) - 1)
 trees c = rw (free (c .before)) at (c .if5 .left)
 
-rest-4 : (c : tie.Else5) → after-tree (F (S₅ c)) (W (S₅ c)) (N (S₅ c)) (S₅ c .pre .whole-fields) ≡ checked (T (S₅ c)) (W (S₅ c))
+rest-4 : (c : tie.Else5) → after-tree (F (S₅ c)) (W (S₅ c)) (N (S₅ c)) (S₅ c .pre .whole-fields) ≡ checked-tree 0 (T (S₅ c)) (W (S₅ c))
 rest-4 c = unless-no _ _ _ _ _ (free (c .before)) (c .if5 .left) ∙ rest-3 (c .before .before .before)
 
 -- 5
@@ -81,7 +82,7 @@ deep : (c : tie.After-first-deep) → c .first-deep .result ≡ lowest (depth-at
 deep c = let d = c .before .before in
     deep-is _ _ _ (shapely (d .before .before .before)) (trees d) _ (c .first-deep .ensures .0)
 
-rest-5 : (c : tie.Else6) → after-depth (F (S₆ c)) (W (S₆ c)) (N (S₆ c)) (S₆ c .pre .whole-fields) ≡ checked (T (S₆ c)) (W (S₆ c))
+rest-5 : (c : tie.Else6) → after-depth (F (S₆ c)) (W (S₆ c)) (N (S₆ c)) (S₆ c .pre .whole-fields) ≡ checked-tree 0 (T (S₆ c)) (W (S₆ c))
 rest-5 c = unless-no _ _ _ _ _ (deep (c .before .before .before)) (c .if6 .left) ∙ rest-4 (c .before .before .before .before .before)
 
 beyond : (c : tie.After-first-deep) → Beyond (few (N (S₅ (c .before .before)))) (now (S₅ (c .before .before) .args .scratch)) (c .first-deep .last .0)

@@ -10,7 +10,7 @@ pub fn registers(rng: &mut Rng) -> Node {
     if rng.chance(300) {
         return last_register(rng);
     }
-    let taste = Taste { size: rng.range(10, 60), deepest: 12, mischief: 0, stuffing: 300, loops: false };
+    let taste = Taste { size: rng.range(10, 60), deepest: 12, mischief: 0, stuffing: 300, loops: false, classes: true };
     random::program(rng, taste)
 }
 
@@ -80,7 +80,7 @@ pub fn prototypes(rng: &mut Rng) -> Node {
 }
 
 fn then_random(rng: &mut Rng, mut body: Vec<Node>) -> Node {
-    let taste = Taste { size: rng.range(1, 30), deepest: 8, mischief: 0, stuffing: 0, loops: false };
+    let taste = Taste { size: rng.range(1, 30), deepest: 8, mischief: 0, stuffing: 0, loops: false, classes: true };
     let mut program = random::program(rng, taste);
     body.extend(program.slots.drain(..).map(|slot| match slot {
         Slot::Child(node) => node,
@@ -158,7 +158,7 @@ pub fn deep(rng: &mut Rng) -> Node {
 
 /// Numerals on the left of Minus within each other: the right side is lowered twice at each level.
 pub fn minus(rng: &mut Rng) -> Node {
-    let taste = Taste { size: rng.range(1, 10), deepest: 6, mischief: 0, stuffing: 0, loops: false };
+    let taste = Taste { size: rng.range(1, 10), deepest: 6, mischief: 0, stuffing: 0, loops: false, classes: true };
     let body = random::program(rng, taste).children().cloned().collect();
     let mut x = if rng.chance(700) { function(&[], body) } else { text(30) };
     for _ in 0..rng.range(1, 8) {
@@ -172,7 +172,7 @@ pub fn minus(rng: &mut Rng) -> Node {
 }
 
 /// Any program: mostly small ones, now and then one that crowds a limit.
-pub fn any(rng: &mut Rng, loops: bool) -> Node {
+pub fn any(rng: &mut Rng, mode_1: bool) -> Node {
     match rng.below(10_000) {
         0..=14 => constants(rng),
         15..=34 => prototypes(rng),
@@ -187,11 +187,11 @@ pub fn any(rng: &mut Rng, loops: bool) -> Node {
         300..=499 => minus(rng),
         500..=799 => registers(rng),
         800..=1299 => {
-            let taste = Taste { loops, ..Taste::any(rng, 600) };
+            let taste = Taste::any(rng, 600).in_mode(rng, mode_1);
             random::program(rng, taste)
         }
         _ => {
-            let taste = Taste { loops, ..Taste::any(rng, 100) };
+            let taste = Taste::any(rng, 100).in_mode(rng, mode_1);
             random::program(rng, taste)
         }
     }

@@ -44,7 +44,8 @@ fn innermost(rng: &mut Rng) -> Node {
         6 => call(variable(A), mark, vec![]),
         7 => function(&[], every_child(mark)),
         8 => {
-            let taste = Taste { size: rng.range(1, 20), deepest: 6, mischief: 0, stuffing: 0, loops: false };
+            let taste =
+                Taste { size: rng.range(1, 20), deepest: 6, mischief: 0, stuffing: 0, loops: false, classes: true };
             function(&[], random::program(rng, taste).children().cloned().collect())
         }
         _ => variable(A),

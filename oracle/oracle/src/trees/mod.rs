@@ -1,6 +1,7 @@
 //! Trees to ask about: built by hand, at the limits of 01, at random, and damaged.
 pub mod build;
 pub mod chains;
+pub mod classes;
 pub mod costly;
 pub mod crowd;
 pub mod damage;

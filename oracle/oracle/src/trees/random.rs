@@ -17,13 +17,27 @@ pub struct Taste {
     pub stuffing: usize,
     /// More loops and continues, and increments of the kinds that mode 1 tells apart.
     pub loops: bool,
+    /// Whether there are classes, which mode 1 refuses.
+    pub classes: bool,
 }
 
 impl Taste {
     /// Small programs, most of them without mischief.
     pub fn any(rng: &mut Rng, size: usize) -> Taste {
         let mischief = if rng.chance(160) { *rng.pick(&[9, 10, 11, 12]) } else { 0 };
-        Taste { size: rng.range(1, size), deepest: rng.range(4, 30), mischief, stuffing: 0, loops: false }
+        Taste {
+            size: rng.range(1, size),
+            deepest: rng.range(4, 30),
+            mischief,
+            stuffing: 0,
+            loops: false,
+            classes: true,
+        }
+    }
+
+    /// As a mode likes it: in mode 1 loops, and classes in few programs.
+    pub fn in_mode(self, rng: &mut Rng, mode_1: bool) -> Taste {
+        Taste { loops: mode_1, classes: !mode_1 || rng.chance(30), ..self }
     }
 }
 
@@ -291,7 +305,7 @@ impl Grower<'_> {
     }
 
     fn class_statement(&mut self, depth: usize) -> Grown {
-        if !self.may_nest() {
+        if !self.taste.classes || !self.may_nest() {
             return self.expression_statement(depth);
         }
         let pair = self.pair();
