@@ -110,6 +110,32 @@ enum yengrazul_ending {
 /* No prototype of an image has more instructions. */
 #define YENGRAZUL_INSTRUCTIONS_MOST 65535
 
+/*
+ * Mends an image that the Rust left on an old card (docs/FORMATS.md, "Mending an image"): each Jmp that is an unpatched break or continue (2 or 1 in
+ * a), or whose target leaves its prototype, becomes Return 0 0 0 with its mark kept; every other byte stays. yengrazul_read takes the result.
+ *
+ *   answer[0]  number: 0 mended, else 19 and 20 as yengrazul_read tells them of the mended image, then 26 where list is too short, then 18 where
+ *              out is shorter than the image
+ *   answer[1]  place: of 19 and 20 that of yengrazul_read; else 0
+ *   answer[2]  length: how many bytes of out are the image, as many as image_len; 0 where refused
+ *   answer[3]  entries: how many jumps were replaced; 0 where refused
+ *
+ * list gets YENGRAZUL_ENTRY_BYTES for each jump that was replaced, in order: prototype and index as words, high byte first, then the old opcode, a, b
+ * and c. out and list may hold anything before the call. Afterwards out is the mended image and then zeros, list its entries and then zeros; where
+ * refused both are all zero. image_len bytes of out and YENGRAZUL_LIST_BYTES(image_len) of list are always enough. It reads image, writes out, list
+ * and answer, and touches nothing else; nothing is allocated, the time is linear in the bytes. The caller's part and threads are as above.
+ *
+ *     uint64_t answer[4];
+ *     yengrazul_mend(image, image_len, out, image_len, list, YENGRAZUL_LIST_BYTES(image_len), answer);
+ *     if (answer[0] == YENGRAZUL_ACCEPTED && answer[3] > 0)
+ *         printf("%" PRIu64 " jumps were replaced\n", answer[3]);
+ */
+void yengrazul_mend(const uint8_t *image, size_t image_len, uint8_t *out, size_t out_len, uint8_t *list, size_t list_len, uint64_t answer[4]);
+
+/* An entry of the list, and room for every list of an image of so many bytes: an instruction takes nine at least. */
+#define YENGRAZUL_ENTRY_BYTES 8
+#define YENGRAZUL_LIST_BYTES(image_len) ((size_t)(image_len) / 9 * YENGRAZUL_ENTRY_BYTES)
+
 /* The modes. */
 #define YENGRAZUL_MODE_0 ((uint64_t)0)
 #define YENGRAZUL_MODE_1 ((uint64_t)1)
@@ -135,7 +161,8 @@ void yengrazul_check(const uint8_t *tree, size_t tree_len, size_t work_len, uint
 #define YENGRAZUL_IMAGE_MOST ((size_t)256 * (13 + 255 * 5 + 32767 * 9) + (size_t)1024 * 11)
 
 /* answer[0], and when it is given. Of a tree: 21 comes before all; 1 to 6 are about the whole input, in that order, with 27 between 3 and 4; 7 to 17
-   are the first met as the tree is lowered; 18 comes last. Of an image: 19, then 20. Of a walk: those of its image, then 22, 23, 29. */
+   are the first met as the tree is lowered; 18 comes last. Of an image: 19, then 20. Of a walk: those of its image, then 22, 23, 29. Of mending:
+   those of the mended image, then 26, then 18. */
 enum yengrazul_refusal {
     YENGRAZUL_ACCEPTED = 0,
     YENGRAZUL_FRAME = 1,
@@ -161,6 +188,7 @@ enum yengrazul_refusal {
     YENGRAZUL_MODE = 21,
     YENGRAZUL_PROTOTYPE = 22,
     YENGRAZUL_DECISION = 23,
+    YENGRAZUL_LIST_ROOM = 26,
     YENGRAZUL_RETIRED = 27,
     YENGRAZUL_VISITS = 29
 };
@@ -171,7 +199,7 @@ static inline const char *yengrazul_name(uint64_t number)
     static const char *const names[] = {
         "Accepted",   "Frame", "Many",  "Shape",  "Tree",      "Depth",      "Work",    "Registers", "Captures", "Undefined",
         "Redefined",  "Stray", "Empty", "Return", "Constants", "Prototypes", "Nesting", "Long",      "Room",     "Image frame",
-        "Image rule", "Mode",  "Prototype", "Decision", NULL,  NULL,         NULL,      "Retired",   NULL,       "Visits",
+        "Image rule", "Mode",  "Prototype", "Decision", NULL,  NULL,         "List room", "Retired", NULL,       "Visits",
     };
     return number < sizeof names / sizeof *names && names[number] ? names[number] : "Unknown";
 }
@@ -204,9 +232,9 @@ static inline const char *yengrazul_cause(uint64_t number)
         "the mode must be 0 or 1",
         "the image must have a prototype of this number",
         "a decision must be 0 or 1",
-        NULL, /* 24 to 26 and 28 are given by no call */
+        NULL, /* 24, 25 and 28 are given by no call */
         NULL,
-        NULL,
+        "the list must have eight bytes for each jump that is replaced",
         "classes are retired: mode 1 lowers none, and mode 0 lowers them as before",
         NULL,
         "there must be a lent byte for each instruction of the prototype",

@@ -47,6 +47,11 @@ impl Image {
         Image(bytes.to_vec())
     }
 
+    /// What mending left, which the reader takes.
+    pub(crate) fn mended(bytes: Vec<u8>) -> Image {
+        Image(bytes)
+    }
+
     /// The bytes of the file.
     pub fn as_bytes(&self) -> &[u8] {
         &self.0

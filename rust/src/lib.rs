@@ -20,6 +20,8 @@
 //! [`Image::read`] takes an image back, whoever wrote it, and gives its prototypes, instructions and constants; it is proved too. So is [`walk`],
 //! which follows a prototype by the decisions that a rig recorded; [`Coverage`] adds such runs up and tells what none of them reached.
 //!
+//! [`mend`] mends an image that the Rust left on an old card: its stray jumps become returns, and are told. It is proved too.
+//!
 //! What tree and image files hold: `docs/FORMATS.md` of the project.
 //!
 //! To build it, `rt staticlib yengrazul` must have written `libyengrazul.a` to `target/staticlib` of the project;
@@ -28,12 +30,14 @@
 
 mod image;
 mod lowerer;
+mod mending;
 mod mode;
 mod refusal;
 mod walk;
 
 pub use image::{Capture, Captures, Constant, Constants, Image, Instruction, Instructions, Prototype, Prototypes};
 pub use lowerer::{Lowerer, LARGEST_IMAGE, MOST_NODES, STACK_BYTES};
+pub use mending::{mend, Mended, Replaced};
 pub use mode::Mode;
 pub use refusal::{Cause, Refusal};
 pub use walk::{walk, Coverage, Ending, Walk};

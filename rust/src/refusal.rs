@@ -55,7 +55,7 @@ macro_rules! causes {
     };
 }
 
-// include/yengrazul.h has the same words, crates/lower_main/src/words.rt those of the lowering, which never gives 19 and 20, and tools/walks.py
+// include/yengrazul.h has the same words, crates/lower_main/src/words.rt those of the lowering, which never gives 19, 20 and 26, and tools/walks.py
 // those of a walk; tests/same_words.rs compares them.
 causes! {
     1 Frame "Frame" "a header or a payload runs past the end, or there is no field at all",
@@ -81,6 +81,7 @@ causes! {
     21 Mode "Mode" "the mode must be 0 or 1",
     22 Prototype "Prototype" "the image must have a prototype of this number",
     23 Decision "Decision" "a decision must be 0 or 1",
+    26 ListRoom "List room" "the list must have eight bytes for each jump that is replaced",
     27 Retired "Retired" "classes are retired: mode 1 lowers none, and mode 0 lowers them as before",
     29 Visits "Visits" "there must be a lent byte for each instruction of the prototype",
 }
@@ -112,7 +113,7 @@ pub struct Refusal {
     pub cause: Cause,
     /// Where: nodes are counted from 0, in the order of their fields. Of [`Cause::Frame`] and [`Cause::ImageFrame`], the whole fields before it;
     /// of [`Cause::ImageRule`], the field of the image, or how many there are where the end comes too soon; of [`Cause::Decision`], the offset of
-    /// the decision; of [`Cause::Mode`], [`Cause::Prototype`] and [`Cause::Visits`], 0.
+    /// the decision; of [`Cause::Mode`], [`Cause::Prototype`], [`Cause::ListRoom`] and [`Cause::Visits`], 0.
     pub node: u64,
 }
 
@@ -125,7 +126,9 @@ impl Display for Refusal {
             }
             Cause::ImageRule => write!(f, "refused {cause} at field {node}: {}", cause.text()),
             Cause::Decision => write!(f, "refused {cause} at byte {node}: {}", cause.text()),
-            Cause::Mode | Cause::Prototype | Cause::Visits => write!(f, "refused {cause}: {}", cause.text()),
+            Cause::Mode | Cause::Prototype | Cause::ListRoom | Cause::Visits => {
+                write!(f, "refused {cause}: {}", cause.text())
+            }
             _ => write!(f, "refused {cause} at node {node}: {}", cause.text()),
         }
     }

@@ -102,7 +102,7 @@ static void keep(struct lent l, const void *bytes)
 
 /* A request: which call, whether its stack is looked at, then what it is lent; serve.c knows the same. */
 #define NUMBERS 16
-enum { LOWER, CHECK, READ, WALK };
+enum { LOWER, CHECK, READ, WALK, MEND };
 
 static void ask(const uint64_t request[NUMBERS])
 {
@@ -156,4 +156,13 @@ void yengrazul_walk(const uint8_t *image, size_t image_len, uint64_t prototype, 
     struct lent i = lay(&end, image, image_len), d = lay(&end, decisions, decisions_len), v = lay(&end, visited, visited_len), a = lay(&end, answer, 8 * 5);
     ASK(WALK, i.at, image_len, prototype, d.at, decisions_len, budget, v.at, visited_len, a.at);
     keep(i, image), keep(d, decisions), fetch(v, visited), fetch(a, answer);
+}
+
+void yengrazul_mend(const uint8_t *image, size_t image_len, uint8_t *out, size_t out_len, uint8_t *list, size_t list_len, uint64_t answer[4])
+{
+    if (!child.shared) start();
+    uint64_t end = 0;
+    struct lent i = lay(&end, image, image_len), o = lay(&end, out, out_len), l = lay(&end, list, list_len), a = lay(&end, answer, 8 * 4);
+    ASK(MEND, i.at, image_len, o.at, out_len, l.at, list_len, a.at);
+    keep(i, image), fetch(o, out), fetch(l, list), fetch(a, answer);
 }

@@ -16,7 +16,7 @@ class Copy:
             if name and os.path.isfile(source):
                 os.makedirs(os.path.dirname(target), exist_ok=True)
                 shutil.copy(source, target)
-        for name in ("bin/lower_main", "stamp/lower_main", "bin/list_main", "stamp/list_main", "bin/walk_main", "stamp/walk_main"):
+        for name in [f"{kind}/{program}_main" for program in ("lower", "list", "walk", "mend") for kind in ("bin", "stamp")]:
             target = os.path.join(self.root, "target", name)
             os.makedirs(os.path.dirname(target), exist_ok=True)
             shutil.copy(os.path.join(ROOT, "target", name), target)

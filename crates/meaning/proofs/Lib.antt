@@ -5,6 +5,7 @@ pub mod Examples
 pub mod VisitRows
 pub mod ImageRows
 pub mod WalkRows
+pub mod ImageMends
 pub mod Lists
 pub mod FieldLaws
 pub mod Kids
@@ -24,5 +25,6 @@ pub mod Safe
 pub mod Bounded
 pub mod Ranges
 pub mod Images
+pub mod Mend
 pub mod Quick
 pub mod Modes

@@ -1,4 +1,4 @@
--- The definition of the lowering: bytes in, answer and output out; then of reading an image back, and of walking one. A reader goes through the files in this order.
+-- The definition of the lowering: bytes in, answer and output out; then of reading an image back, of walking one and of mending one. A reader goes through the files in this order.
 pub mod Base
 pub mod Fields
 pub mod Grammar
@@ -27,3 +27,4 @@ pub mod Rules
 pub mod Reader
 pub mod Paths
 pub mod Walker
+pub mod Mend

@@ -63,6 +63,14 @@ pub struct Reply {
     pub visits: u64,
 }
 
+// What who mends an image is told: 0 or the cause's number, the place, the image's length, how many jumps were replaced.
+pub struct MendAnswer {
+    pub number: u64,
+    pub place: u64,
+    pub length: u64,
+    pub entries: u64,
+}
+
 // struct Instruction with its mark (struct InstSrc).
 pub struct Instruction {
     pub opcode: u8,

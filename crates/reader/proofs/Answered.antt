@@ -13,7 +13,7 @@ use Rattle.meaning.specs.Fields.{fields, left}
 use Rattle.meaning.specs.Check.{framed}
 use Rattle.meaning.specs.Images.{Image, image-of}
 use Rattle.meaning.specs.Follow.{at-first, stray}
-use Rattle.meaning.specs.Reader.{Read, refused, taken, ruled, broken, ordered, read-as, read-outcome}
+use Rattle.meaning.specs.Reader.{Read, refused, taken, ruled, broken, read-as, read-outcome}
 use Rattle.meaning.specs.declared.Cause.the-variants.{ImageFrame, ImageRule}
 use Rattle.meaning.specs.declared.Outcome.{Outcome}
 use Rattle.meaning.specs.declared.Outcome.the-variants.{Accepted, Refused}
@@ -22,11 +22,16 @@ use Rattle.meaning.proofs.Images.Back.{taken-is}
 use Rattle.reader.specs.declared.order.Spot.{Spot}
 use Rattle.reader.specs.declared.order.Spot.the-variants.{Nowhere, At}
 use Rattle.reader.specs.Spots.{spot-of}
+use Rattle.reader.specs.Lens.{lens-image, ordered-by, read-by}
 use Rattle.reader.specs.Laid.{Ordered}
 
 -- the outcome of a reading
 abbrev pub outcome-of : (tag : ℕ) → List ℕ → Outcome
 outcome-of tag s = read-outcome (length (fields s)) (read-as tag s)
+
+-- through the lens
+abbrev pub outcome-by : (mend : Bool) → (tag : ℕ) → List ℕ → Outcome
+outcome-by mend tag s = read-outcome (length (fields s)) (read-by mend tag s)
 
 module _ (s : List ℕ) (n a : ℕ) (en : n ≡ length (fields s)) (ea : a ≡ length (left s)) where
   -- the test is that of the frame
@@ -45,11 +50,11 @@ module _ (s : List ℕ) (n a : ℕ) (en : n ≡ length (fields s)) (ea : a ≡ l
       go false e true = rw (less e) refl
       go false e false = rw (less e) refl
 
-  pub frame-fails : (eqb n 0 || not (eqb a 0)) ≡ true → (tag : ℕ) → Refused ImageFrame n ≡ outcome-of tag s
-  unfolding read-as
-  frame-fails h tag = go (framed s) (sym frame-is ∙ h)
+  pub frame-fails : (eqb n 0 || not (eqb a 0)) ≡ true → (mend : Bool) (tag : ℕ) → Refused ImageFrame n ≡ outcome-by mend tag s
+  unfolding read-by
+  frame-fails h mend tag = go (framed s) (sym frame-is ∙ h)
     where
-      go : (b : Bool) → not b ≡ true → Refused ImageFrame n ≡ read-outcome (length (fields s)) (cond b (ordered tag (fields s) (stray tag at-first (fields s))) (refused ImageFrame (length (fields s))))
+      go : (b : Bool) → not b ≡ true → Refused ImageFrame n ≡ read-outcome (length (fields s)) (cond b (ordered-by mend tag (fields s) (stray tag at-first (fields s))) (refused ImageFrame (length (fields s))))
       go true e = absurd (false-true e)
       go false e = ap (λ (k : ℕ). Refused ImageFrame k) en
 
@@ -60,22 +65,22 @@ module _ (s : List ℕ) (n a : ℕ) (en : n ≡ length (fields s)) (ea : a ≡ l
       go true e = refl
       go false e = absurd (false-true (sym e))
 
-module _ (s : List ℕ) (w : framed s ≡ true) (tag : ℕ) (r : Spot) (er : spot-of r ≡ stray tag at-first (fields s)) where
-  abbrev after : Spot → Outcome
-  after x = read-outcome (length (fields s)) (ordered tag (fields s) (spot-of x))
+pub order-holds : (s : List ℕ) (tag : ℕ) (r : Spot) → spot-of r ≡ stray tag at-first (fields s) → r ≡ Nowhere → stray tag at-first (fields s) ≡ none
+order-holds s tag r er e = sym er ∙ ap spot-of e
 
-  read-on : outcome-of tag s ≡ after r
-  unfolding read-as
+module _ (mend : Bool) (s : List ℕ) (w : framed s ≡ true) (tag : ℕ) (r : Spot) (er : spot-of r ≡ stray tag at-first (fields s)) where
+  abbrev after : Spot → Outcome
+  after x = read-outcome (length (fields s)) (ordered-by mend tag (fields s) (spot-of x))
+
+  read-on : outcome-by mend tag s ≡ after r
+  unfolding read-by
   read-on = rw (w, er) refl
 
-  pub order-fails : (place : ℕ) → r ≡ At place → Refused ImageRule place ≡ outcome-of tag s
+  pub order-fails : (place : ℕ) → r ≡ At place → Refused ImageRule place ≡ outcome-by mend tag s
   order-fails place e = sym (ap after e) ∙ sym read-on
 
-  pub order-holds : r ≡ Nowhere → stray tag at-first (fields s) ≡ none
-  order-holds e = sym er ∙ ap spot-of e
-
-  pub facts-tell : (n : ℕ) → n ≡ length (fields s) → r ≡ Nowhere → read-outcome n (ruled (image-of tag (fields s)) (broken (image-of tag (fields s)))) ≡ outcome-of tag s
-  facts-tell n en e = ap (λ (k : ℕ). read-outcome k (ruled (image-of tag (fields s)) (broken (image-of tag (fields s))))) en ∙ sym (ap after e) ∙ sym read-on
+  pub facts-tell : (n : ℕ) → n ≡ length (fields s) → r ≡ Nowhere → read-outcome n (ruled (lens-image mend (image-of tag (fields s))) (broken (lens-image mend (image-of tag (fields s))))) ≡ outcome-by mend tag s
+  facts-tell n en e = ap (λ (k : ℕ). read-outcome k (ruled (lens-image mend (image-of tag (fields s))) (broken (lens-image mend (image-of tag (fields s)))))) en ∙ sym (ap after e) ∙ sym read-on
 
 module _ (n : ℕ) (im : Image) (r : Spot) where
   pub none-told : r ≡ Nowhere → Accepted n ≡ read-outcome n (ruled im (spot-of r))

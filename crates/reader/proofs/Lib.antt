@@ -5,6 +5,7 @@ pub mod Scanned
 pub mod Blocks
 pub mod Locates
 pub mod Marking
+pub mod Lenses
 pub mod Tables
 pub mod Naming
 pub mod Firsts

@@ -22,15 +22,15 @@ use Rattle.reader.proofs.Scanned.{code-at}
 use Rattle.reader.proofs.Scanned.{byte-at}
 use Rattle.reader.specs.Marks.{first-lead, second-lead, mark, entered-by, Entered}
 
-or-false : (x : Bool) → x || false ≡ x
+pub or-false : (x : Bool) → x || false ≡ x
 or-false true = refl
 or-false false = refl
 
-no-place : (j : ℕ) → j < 131072 → eqb 131072 j ≡ false
+pub no-place : (j : ℕ) → j < 131072 → eqb 131072 j ≡ false
 no-place j h = ne-eqb 131072 j (λ e. omega arith)
 
 -- the two leads are the steps
-leads-are : (x : Instruction) (i j : ℕ) → j < 131072 → some-of (is j) (leads i x) ≡ (eqb (first-lead (x .opcode) (bx x) i) j || eqb (second-lead (x .opcode) (bx x) i) j)
+pub leads-are : (x : Instruction) (i j : ℕ) → j < 131072 → some-of (is j) (leads i x) ≡ (eqb (first-lead (x .opcode) (bx x) i) j || eqb (second-lead (x .opcode) (bx x) i) j)
 unfolding some-of leads
 leads-are x i j h = go (eqb (x .opcode) Jmp) refl (eqb (x .opcode) Return) refl (eqb (x .opcode) Test) refl (eqb (x .opcode) RegisterTryCatch) refl
   where
@@ -87,25 +87,20 @@ cond-or false true false = refl
 cond-or false false true = refl
 cond-or false false false = refl
 
-pub marked-more : (code : List Instruction) (n room k : ℕ) (m : List ℕ) → n ≤ room → n < 65536 → Marked code n room k m
-    → (o w a b : ℕ) → inst-at code k .opcode ≡ o → bx (inst-at code k) ≡ w → a ≡ first-lead o w k → b ≡ second-lead o w k
+pub marked-more : (code : List Instruction) (n room k : ℕ) (m : List ℕ) → n ≤ room → Marked code n room k m
+    → (a b : ℕ) → ((j : ℕ) → j < n → some-of (is j) (leads k (inst-at code k)) ≡ (eqb a j || eqb b j))
     → (m′ m″ : List ℕ) → m′ ≡ mark n m a → m″ ≡ mark n m′ b → Marked code n room (k + 1) m″
 unfolding entered-by
-marked-more code n room k m fits few v o w a b eo ew ea eb m′ m″ e e″ = record {
+marked-more code n room k m fits v a b both m′ m″ e e″ = record {
   size = ap length e″ ∙ mark-length n m′ b ∙ ap length e ∙ mark-length n m a ∙ v .size;
   each = λ j h.
-      let x = inst-at code k in
-      let l = leads-are x k j (omega arith) in
-      let la : first-lead (x .opcode) (bx x) k ≡ a = ap₂ (λ (y z : ℕ). first-lead y z k) eo ew ∙ sym ea in
-      let lb : second-lead (x .opcode) (bx x) k ≡ b = ap₂ (λ (y z : ℕ). second-lead y z k) eo ew ∙ sym eb in
-      let both : some-of (is j) (leads k x) ≡ (eqb a j || eqb b j) = l ∙ ap₂ (λ (y z : ℕ). eqb y j || eqb z j) la lb in
       let one : getD m′ j 0 ≡ cond (eqb a j) 1 (cond (entered-by code k j) 1 0) =
       ap (λ (y : List ℕ). getD y j 0) e ∙ mark-at n m a j (omega (arith, v .size)) h ∙ ap (λ (y : ℕ). cond (eqb a j) 1 y) (v .each j h) in
       let two : getD m″ j 0 ≡ cond (eqb b j) 1 (getD m′ j 0) =
       ap (λ (y : List ℕ). getD y j 0) e″ ∙ mark-at n m′ b j (omega (arith, ap length e, mark-length n m a, v .size)) h in
       two ∙ ap (λ (y : ℕ). cond (eqb b j) 1 y) one
       ∙ cond-or (entered-by code k j) (eqb b j) (eqb a j)
-      ∙ ap (λ (y : Bool). cond (entered-by code k j || y) 1 0) (sym both)
+      ∙ ap (λ (y : Bool). cond (entered-by code k j || y) 1 0) (sym (both j h))
       ∙ ap (λ (y : ℕ). cond (entered-by code y j) 1 0) (sym (add-one k));
 }
 
@@ -154,6 +149,9 @@ code-length s tag span at (suc n) = ap suc (code-length s tag span (at + span) n
 module _ (s : List ℕ) (tag span at n i : ℕ) (h : i < n) where
   pub opcode-there : inst-at (code-in s tag span at n) i .opcode ≡ getD s (at + i * span + 3) 0
   opcode-there = ap (λ (x : Instruction). x .opcode) (code-at s tag span at n i h) ∙ byte-at s (at + i * span + 3) 0 (at + i * span + 3) (omega arith)
+
+  pub a-there : inst-at (code-in s tag span at n) i .a ≡ getD s (at + i * span + 4) 0
+  a-there = ap (λ (x : Instruction). x .a) (code-at s tag span at n i h) ∙ byte-at s (at + i * span + 3) 1 (at + i * span + 4) (omega arith)
 
   pub bx-there : bx (inst-at (code-in s tag span at n) i) ≡ word-at s (at + i * span + 5)
   bx-there = ap bx (code-at s tag span at n i h) ∙ ap₂ (λ (x y : ℕ). x * 256 + y)

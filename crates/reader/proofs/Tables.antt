@@ -18,7 +18,9 @@ use Rattle.meaning.specs.Fields.{word-at}
 use Rattle.meaning.specs.Steps.{inst-at}
 use Rattle.meaning.specs.Images.{inst-size}
 use Rattle.reader.specs.Laid.{code-in, captures-in, proto-in}
-use Rattle.reader.proofs.Marking.{code-length, opcode-there}
+use Rattle.reader.proofs.Marking.{opcode-there}
+use Rattle.reader.specs.Lens.{lens-code, lens-proto}
+use Rattle.reader.proofs.Lenses.{lens-small, seen-length, seen-there}
 use Rattle.meaning.specs.declared.Instruction.{Instruction}
 use Rattle.meaning.proofs.Lists.{lt-or-le}
 use Rattle.reader.specs.declared.facts.Around.{Around}
@@ -126,15 +128,18 @@ mark-one true = refl
 mark-one false = refl
 
 module _ (ks : List Constant) (ps : List Proto) (locals outers texts marks : List ℕ) (t : Right ks ps locals outers texts) (v : Around) (ep : v .prototypes ≡ length ps) (ek : v .constants ≡ length ks)
-    (r : List ℕ) (tag : ℕ) (bytes : (i : ℕ) → getD r i 0 < 256) (er : v .registers ≡ word-at r 7) (ec : v .captures ≡ word-at r 9) where
+    (r : List ℕ) (tag : ℕ) (mend : Bool) (bytes : (i : ℕ) → getD r i 0 < 256) (er : v .registers ≡ word-at r 7) (ec : v .captures ≡ word-at r 9) where
   abbrev code : List Instruction
-  code = code-in r tag (3 + inst-size tag) (13 + word-at r 9 * 5) (word-at r 11)
+  code = lens-code mend (code-in r tag (3 + inst-size tag) (13 + word-at r 9 * 5) (word-at r 11))
+
+  small : (i : ℕ) → i < word-at r 11 → inst-at code i .opcode < 256
+  small i h = rw (seen-there r tag (3 + inst-size tag) (13 + word-at r 9 * 5) (word-at r 11) i h mend)
+      (lens-small mend (word-at r 11) i _ (rw (opcode-there r tag (3 + inst-size tag) (13 + word-at r 9 * 5) (word-at r 11) i h) (bytes _)))
 
   pub front-lawful : (word-at r 7 ≡ 0 → Entered code (word-at r 11) marks) → (i : ℕ) → i < word-at r 11
-      → seen-test v locals outers texts marks (word-at r 11) i (inst-at code i) ≡ lawful ks ps (proto-in r tag) i (inst-at (proto-in r tag .code) i)
+      → seen-test v locals outers texts marks (word-at r 11) i (inst-at code i) ≡ lawful ks ps (lens-proto mend (proto-in r tag)) i (inst-at (lens-proto mend (proto-in r tag) .code) i)
   unfolding proto-in
   front-lawful m i h =
-      ap (λ (n : ℕ). seen-test v locals outers texts marks n i (inst-at code i)) (sym (code-length r tag (3 + inst-size tag) (13 + word-at r 9 * 5) (word-at r 11)))
-      ∙ seen-lawful ks ps locals outers texts t v ep ek (proto-in r tag) er (ec ∙ sym (captures-length r 13 (word-at r 9))) marks i (inst-at code i)
-      (rw (opcode-there r tag (3 + inst-size tag) (13 + word-at r 9 * 5) (word-at r 11) i h) (bytes _))
+      ap (λ (n : ℕ). seen-test v locals outers texts marks n i (inst-at code i)) (sym (seen-length mend r tag (3 + inst-size tag) (13 + word-at r 9 * 5) (word-at r 11)))
+      ∙ seen-lawful ks ps locals outers texts t v ep ek (lens-proto mend (proto-in r tag)) er (ec ∙ sym (captures-length r 13 (word-at r 9))) marks i (inst-at code i) (small i h)
       (λ z. ap (λ (y : ℕ). eqb y 1) (m z .each i h) ∙ mark-one (entered code i))

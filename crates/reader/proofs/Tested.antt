@@ -16,8 +16,9 @@ use Rattle.meaning.specs.Safety.{from, met, name-due}
 use Rattle.meaning.specs.declared.Instruction.{Instruction}
 use Rattle.meaning.proofs.Lists.{false-true, lt-or-le, same, same-is, all-to, all-below}
 use Rattle.meaning.specs.Constant.{Constant}
+use Rattle.meaning.specs.Mend.{replaced}
 use Rattle.meaning.specs.Rules.{opcodes-written, all, passes-at, inside, leads, let-pass, if-opcode, capture-fits, is-text, lawful}
-use Rattle.reader.specs.Tests.{written-seen, steps-seen, three-seen, two-seen, none-seen, registers-seen, operands-seen, local-need, outer-need}
+use Rattle.reader.specs.Tests.{written-seen, steps-seen, replaced-seen, three-seen, two-seen, none-seen, registers-seen, operands-seen, local-need, outer-need}
 
 -- ---- booleans
 
@@ -73,6 +74,17 @@ module _ (i n : ℕ) (x : Instruction) where
       go false false true p false q = refl
       go false false false p true q = ap (λ (b : Bool). ltb (i + 1) n && b) (and-true _)
       go false false false p false q = refl
+
+  -- a jump that is replaced
+  pub replaced-is : replaced n i x ≡ replaced-seen (x .opcode) (x .a) (bx x) i n
+  unfolding replaced
+  replaced-is = go (eqb (x .opcode) Jmp)
+    where
+      go : (j : Bool) → (j && ((eqb (x .a) 1 || eqb (x .a) 2) || not (inside n (target i (bx x)))))
+          ≡ (j && ((eqb (x .a) 1 || eqb (x .a) 2) || not ((j && ((ltb (bx x) 32768 && ltb (i + bx x) n) || (leb 32768 (bx x) && (leb 65536 (i + bx x) && ltb (i + bx x) (n + 65536)))))
+          || (not j && (eqb (x .opcode) Return || (ltb (i + 1) n && ((not (eqb (x .opcode) Test) || ltb (i + 2) n) && (not (eqb (x .opcode) RegisterTryCatch) || ltb (i + bx x) n))))))))
+      go true = ap (λ (b : Bool). (eqb (x .a) 1 || eqb (x .a) 2) || not b) (to-is ∙ sym (or-false _))
+      go false = refl
 
 -- ---- registers
 

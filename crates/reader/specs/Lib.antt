@@ -5,3 +5,4 @@ pub mod Tests
 pub mod Right
 pub mod Marks
 pub mod Laid
+pub mod Lens

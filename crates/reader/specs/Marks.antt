@@ -1,13 +1,17 @@
 -- A byte for each instruction that a step enters.
 use Prim.Native.Nat.{ℕ, zero, suc, _+_, _-_, _<_}
 use mathlib.Core.Path.{_≡_}
-use mathlib.Core.Bool.{Bool, false, _||_, cond}
+use mathlib.Core.Bool.{Bool, false, _&&_, _||_, cond}
 use mathlib.Core.List.{List}
 use lib.ListN.{getD, set}
 use lib.Dec.{eqb, leb, ltb}
 use Rattle.meaning.specs.Steps.{inst-at}
 use Rattle.meaning.specs.declared.Instruction.{Instruction}
 use Rattle.meaning.specs.Rules.{some-of, is, leads, entered}
+
+-- the opcode that is asked for its steps: where the image is mended, Return for a break or continue that was not patched
+abbrev pub seen-opcode : (mend : Bool) → (o a : ℕ) → ℕ
+seen-opcode mend o a = cond (mend && (eqb o 3 && (eqb a 1 || eqb a 2))) 20 o
 
 -- where the first step of an opcode at index i leads, with w in b and c; 131,072, which no place is, where there is none
 abbrev pub first-lead : (o w i : ℕ) → ℕ

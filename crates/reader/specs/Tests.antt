@@ -19,6 +19,10 @@ steps-seen o w i n =
     (eqb o 3 && ((ltb w 32768 && ltb (i + w) n) || (leb 32768 w && (leb 65536 (i + w) && ltb (i + w) (n + 65536)))))
     || (not (eqb o 3) && (eqb o 20 || (ltb (i + 1) n && ((not (eqb o 4) || ltb (i + 2) n) && (not (eqb o 48) || ltb (i + w) n)))))
 
+-- E9: a Jmp whose a is 1 or 2, or whose target leaves n instructions
+abbrev pub replaced-seen : (o a w i n : ℕ) → Bool
+replaced-seen o a w i n = eqb o 3 && ((eqb a 1 || eqb a 2) || not (steps-seen o w i n))
+
 -- the rows of "Registers met": a, b and c; a and b; none
 abbrev pub three-seen : ℕ → Bool
 three-seen o = (leb 5 o && leb o 16) || ((leb 31 o && leb o 33) || (eqb o 38 || eqb o 39))

@@ -2,13 +2,15 @@
 use fields::wide;
 use meaning::Instruction;
 ghost use mathlib.Core.Path.{_≡_};
+ghost use mathlib.Core.Bool.{_&&_, _||_};
 ghost use Prim.Native.Nat.{ℕ, max, _+_, _*_, _<_, _≤_};
 ghost use lib.ListN.{length};
 ghost use Rattle.meaning.specs.Base.{lowest};
 ghost use Rattle.meaning.specs.Steps.{inst-at};
 ghost use Rattle.meaning.specs.Opcode.{bx};
 ghost use Rattle.reader.specs.Laid.{code-in, captures-in};
-ghost use Rattle.reader.specs.Tests.{written-seen, steps-seen, registers-seen, operands-seen, closure-seen, text-seen, lawful-seen, seen-test, local-need, outer-need};
+ghost use Rattle.reader.specs.Lens.{lens-code};
+ghost use Rattle.reader.specs.Tests.{written-seen, steps-seen, replaced-seen, registers-seen, operands-seen, closure-seen, text-seen, lawful-seen, seen-test, local-need, outer-need};
 
 // The number that b and c hold.
 fn bx(x: Instruction) -> usize
@@ -38,6 +40,14 @@ fn stays(o: u8, w: usize, i: usize, n: usize) -> bool
         | (!(o == 3)
             & ((o == 20)
                 | ((i + 1 < n) & ((!(o == 4) | (i + 2 < n)) & (!(o == 48) | (i + w < n))))))
+}
+
+// A Jmp whose a is 1 or 2, or whose target leaves n instructions (document 02, E9).
+pub fn is_replaced(o: u8, a: usize, w: usize, i: usize, n: usize) -> bool
+    requires { ⌜ (w < 65536) × (i < 65536) × (n < 65536) ⌝ }
+    ensures { λ r. ⌜ r ≡ replaced-seen o a w i n ⌝ }
+{
+    (o == 3) & (((a == 1) | (a == 2)) | !stays(o, w, i, n))
 }
 
 // Every register met is below n.
@@ -132,7 +142,31 @@ fn is_lawful(
                 & operates(o, a, b, c, w, v.captures, closure, text, v.constants)))
 }
 
-// The lowest of n instructions whose facts fail, or n. They lie from `at` on, each in `span` bytes.
+// The facts of what is seen of an instruction: where the image is mended, one that is replaced is Return 0 0 0, which has them all.
+fn passes(
+    v: Around,
+    i: usize,
+    n: usize,
+    o: u8,
+    a: usize,
+    b: usize,
+    c: usize,
+    w: usize,
+    closure: bool,
+    text: bool,
+    entered: bool,
+    mend: bool,
+) -> bool
+    requires { ⌜ (w < 65536) × (i < 65536) × (n < 65536) × (a < 256) × (b < 256) ⌝ }
+    ensures { λ r. ⌜ r ≡ (lawful-seen v i n o a b c w closure text entered || (mend && replaced-seen o a w i n)) ⌝ }
+{
+    if is_lawful(v, i, n, o, a, b, c, w, closure, text, entered) {
+        return true;
+    }
+    mend & is_replaced(o, a, w, i, n)
+}
+
+// The lowest of n instructions whose facts fail as they are seen, or n. They lie from `at` on, each in `span` bytes.
 pub(crate) fn first_unlawful(
     t: &[u8],
     tag: u8,
@@ -144,9 +178,10 @@ pub(crate) fn first_unlawful(
     outers: &[usize; 256],
     texts: &[u8; 1024],
     marks: &[u8],
+    mend: bool,
 ) -> usize
     requires { ⌜ (n < 65536) × (7 ≤ span) × (at + n * span ≤ length (now t)) × (v .prototypes ≤ 256) × (v .constants ≤ 1024) × (n ≤ length (now marks)) ⌝ }
-    ensures { λ r. ⌜ r ≡ lowest (λ (i : ℕ). seen-test v (now (locals .entry)) (now (outers .entry)) (now (texts .entry)) (now (marks .entry)) n i (inst-at (code-in (now (t .entry)) tag span at n) i)) n ⌝ }
+    ensures { λ r. ⌜ r ≡ lowest (λ (i : ℕ). seen-test v (now (locals .entry)) (now (outers .entry)) (now (texts .entry)) (now (marks .entry)) n i (inst-at (lens-code mend (code-in (now (t .entry)) tag span at n)) i)) n ⌝ }
 {
     let mut i: usize = 0;
     while i < n {
@@ -158,7 +193,7 @@ pub(crate) fn first_unlawful(
         let w = b * 256 + c;
         let closure = makes(v, locals, outers, w);
         let text = names(v, texts, w);
-        if !is_lawful(v, i, n, o, a, b, c, w, closure, text, marks[i] == 1) {
+        if !passes(v, i, n, o, a, b, c, w, closure, text, marks[i] == 1, mend) {
             return i;
         }
         i = i + 1;

@@ -6,6 +6,7 @@ mod order;
 mod rules;
 mod texts;
 
+pub use facts::is_replaced;
 pub use locate::heads;
 use meaning::Cause;
 use meaning::Instruction;
@@ -20,7 +21,9 @@ ghost use Rattle.meaning.specs.Fields.{fields, word-at};
 ghost use Rattle.meaning.specs.Images.{Image, image-of};
 ghost use Rattle.meaning.specs.Steps.{inst-at};
 ghost use Rattle.meaning.specs.Reader.{broken, ruled, read-as, read-outcome};
+ghost use Rattle.meaning.specs.Mend.{read-mended};
 ghost use Rattle.reader.specs.Spots.{spot-of};
+ghost use Rattle.reader.specs.Lens.{lens-image, read-by};
 ghost use Rattle.reader.specs.Laid.{proto-in, proto-span, part-from, Ordered, Located};
 
 // What the facts tell: 20 at the first that fails, or the number of fields.
@@ -34,9 +37,9 @@ fn ruled(spot: Spot, count: usize) -> Outcome
 }
 
 // The facts of an image in order, which has `count` fields. The tables stand on the stack, small ones for a short image, so that few bytes are made.
-fn judged(image: &[u8], tag: u8, count: usize) -> Outcome
+fn judged(image: &[u8], tag: u8, count: usize, mend: bool) -> Outcome
     requires { ⌜ Ordered (now image) tag ⌝ }
-    ensures { λ r. ⌜ r ≡ read-outcome count (ruled (image-of tag (fields (now (image .entry)))) (broken (image-of tag (fields (now (image .entry)))))) ⌝ }
+    ensures { λ r. ⌜ r ≡ read-outcome count (ruled (lens-image mend (image-of tag (fields (now (image .entry))))) (broken (lens-image mend (image-of tag (fields (now (image .entry))))))) ⌝ }
 {
     let size = 3 + order::inst_size(tag);
     let mut texts = [0u8; 1024];
@@ -44,21 +47,21 @@ fn judged(image: &[u8], tag: u8, count: usize) -> Outcome
     if image.len() <= 36864 {
         let mut few = [0u8; 4096];
         return ruled(
-            rules::first_broken(image, tag, size, constants, &texts, &mut few),
+            rules::first_broken(image, tag, size, constants, &texts, &mut few, mend),
             count,
         );
     }
     let mut marks = [0u8; 65536];
     ruled(
-        rules::first_broken(image, tag, size, constants, &texts, &mut marks),
+        rules::first_broken(image, tag, size, constants, &texts, &mut marks, mend),
         count,
     )
 }
 
-// 19 Image frame, then 20 Image rule: the first field that cannot follow, or the field count; else the lowest whose fact fails.
-fn read_as(image: &[u8], tag: u8) -> Outcome
+// 19 Image frame, then 20 Image rule: the first field that cannot follow, or the field count; else the lowest whose fact fails, as the image stands or as it is mended.
+fn read_as(image: &[u8], tag: u8, mend: bool) -> Outcome
     requires { ⌜ (tag ≡ 0x43) ⊎ (tag ≡ 0x47) ⌝ }
-    ensures { λ r. ⌜ r ≡ read-outcome (length (fields (now (image .entry)))) (read-as tag (now (image .entry))) ⌝ }
+    ensures { λ r. ⌜ r ≡ read-outcome (length (fields (now (image .entry)))) (read-by mend tag (now (image .entry))) ⌝ }
 {
     let framed = order::frame(image);
     if (framed.count == 0) | (framed.after != 0) {
@@ -66,7 +69,7 @@ fn read_as(image: &[u8], tag: u8) -> Outcome
     }
     let spot = order::order(image, tag);
     match spot {
-        Spot::Nowhere => judged(image, tag, framed.count),
+        Spot::Nowhere => judged(image, tag, framed.count, mend),
         Spot::At(place) => Outcome::Refused(Cause::ImageRule, place),
     }
 }
@@ -75,7 +78,14 @@ fn read_as(image: &[u8], tag: u8) -> Outcome
 pub fn read(image: &[u8]) -> Outcome
     ensures { λ r. ⌜ r ≡ read-outcome (length (fields (now (image .entry)))) (read-as 0x43 (now (image .entry))) ⌝ }
 {
-    read_as(image, 0x43)
+    read_as(image, 0x43, false)
+}
+
+// The same of its mended copy (E9), where the fields of the image are in order.
+pub fn read_mended(image: &[u8]) -> Outcome
+    ensures { λ r. ⌜ r ≡ read-outcome (length (fields (now (image .entry)))) (read-mended 0x43 (now (image .entry))) ⌝ }
+{
+    read_as(image, 0x43, true)
 }
 
 // The part of an image in order from prototype q on; where there are not so many, that behind the last, which is the constants.

@@ -6,6 +6,7 @@ use Rattle.yengrazul.proofs.yengrazul_lower.Reads as yengrazul-lower
 use Rattle.yengrazul.proofs.yengrazul_check.Reads as yengrazul-check
 use Rattle.yengrazul.proofs.yengrazul_read.Reads as yengrazul-read
 use Rattle.yengrazul.proofs.yengrazul_walk.Reads as yengrazul-walk
+use Rattle.yengrazul.proofs.yengrazul_mend.Reads as yengrazul-mend
 
 -- the four numbers, the work area, the output
 pub yengrazul-lower-determined : (κs : _) (args : _) (r r' : _) (s s' : _) → yengrazul-lower.Post κs args r s → yengrazul-lower.Post κs args r' s'
@@ -24,3 +25,8 @@ yengrazul-read-determined κs args r r' s s' p q = p ∙ sym q
 pub yengrazul-walk-determined : (κs : _) (args : _) (r r' : _) (s s' : _) → yengrazul-walk.Post κs args r s → yengrazul-walk.Post κs args r' s'
     → (now (s .1 .1 .1 .1 .1 .0) ≡ now (s' .1 .1 .1 .1 .1 .0)) × (now (s .1 .1 .1 .1 .0) ≡ now (s' .1 .1 .1 .1 .0))
 yengrazul-walk-determined κs args r r' s s' p q = (p .0 ∙ sym (q .0), p .1 ∙ sym (q .1))
+
+-- the four numbers, the output, the list
+pub yengrazul-mend-determined : (κs : _) (args : _) (r r' : _) (s s' : _) → yengrazul-mend.Post κs args r s → yengrazul-mend.Post κs args r' s'
+    → (now (s .1 .1 .1 .0) ≡ now (s' .1 .1 .1 .0)) × (now (s .1 .0) ≡ now (s' .1 .0)) × (now (s .1 .1 .0) ≡ now (s' .1 .1 .0))
+yengrazul-mend-determined κs args r r' s s' p q = (p .0 ∙ sym (q .0), p .1 .0 ∙ sym (q .1 .0), p .1 .1 ∙ sym (q .1 .1))

@@ -2,6 +2,7 @@
 use Prim.Native.Nat.{ℕ}
 use mathlib.Core.List.{List, [], _∷_}
 use Rattle.meaning.specs.declared.Answer.{Answer}
+use Rattle.meaning.specs.declared.MendAnswer.{MendAnswer}
 use Rattle.meaning.specs.declared.Reply.{Reply}
 use Rattle.meaning.specs.declared.WalkAnswer.{WalkAnswer}
 
@@ -16,3 +17,7 @@ told-reply a = a .number ∷ a .place ∷ a .length ∷ a .visits ∷ []
 -- of a walk
 abbrev pub walk-told : WalkAnswer → List ℕ
 walk-told a = a .number ∷ a .place ∷ a .steps ∷ a .index ∷ a .ending ∷ []
+
+-- of who mends an image: the entries in the list too
+abbrev pub mend-told : MendAnswer → List ℕ
+mend-told a = a .number ∷ a .place ∷ a .length ∷ a .entries ∷ []

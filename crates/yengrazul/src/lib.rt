@@ -6,7 +6,8 @@ ghost use Rattle.meaning.specs.Check.{checked};
 ghost use Rattle.meaning.specs.Reader.{read-as, read-outcome};
 ghost use Rattle.meaning.specs.Answer.{finished, answer as answer-to, reply, output, work-area};
 ghost use Rattle.meaning.specs.Walker.{walk-image, walk-answer, lent-bytes};
-ghost use Rattle.yengrazul.specs.Told.{told, told-reply, walk-told};
+ghost use Rattle.meaning.specs.Mend.{mend-as, mend-answer, mend-output, mend-list};
+ghost use Rattle.yengrazul.specs.Told.{told, told-reply, walk-told, mend-told};
 
 // `lower`: number, place, length and visits.
 #[no_mangle]
@@ -69,4 +70,20 @@ pub extern "C" fn yengrazul_walk(
         walked.index,
         walked.ending,
     ];
+}
+
+// `mend::mend`: number, place, length of the image, entries in the list.
+#[no_mangle]
+pub extern "C" fn yengrazul_mend(
+    image: &[u8],
+    out: &mut [u8],
+    list: &mut [u8],
+    answer: &mut [u64; 4],
+)
+    ensures answered { λ _. ⌜ now (answer .exit) ≡ mend-told (mend-answer (mend-as 0x43 (now (image .entry)) (length (now (out .entry))) (length (now (list .entry))))) ⌝ }
+    ensures written { λ _. ⌜ now (out .exit) ≡ mend-output (length (now (out .entry))) (mend-as 0x43 (now (image .entry)) (length (now (out .entry))) (length (now (list .entry)))) ⌝ }
+    ensures listed { λ _. ⌜ now (list .exit) ≡ mend-list (length (now (list .entry))) (mend-as 0x43 (now (image .entry)) (length (now (out .entry))) (length (now (list .entry)))) ⌝ }
+{
+    let mended = mend::mend(image, out, list);
+    *answer = [mended.number, mended.place, mended.length, mended.entries];
 }

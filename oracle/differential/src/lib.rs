@@ -2,6 +2,7 @@
 pub mod calls;
 pub mod lent;
 pub mod linked;
+pub mod mends;
 pub mod run;
 pub mod stack;
 pub mod walks;

@@ -1,5 +1,6 @@
 //! The functions of the static library, where one is linked.
 use crate::calls::{Check, Lower, Read};
+use crate::mends::Mend;
 use crate::walks::Walk;
 
 /// Every exported call.
@@ -9,6 +10,7 @@ pub struct Library {
     pub check: Check,
     pub read: Read,
     pub walk: Walk,
+    pub mend: Mend,
 }
 
 #[cfg(has_library)]
@@ -36,6 +38,15 @@ extern "C" {
         visited_len: usize,
         answer: *mut u64,
     );
+    fn yengrazul_mend(
+        image: *const u8,
+        image_len: usize,
+        out: *mut u8,
+        out_len: usize,
+        list: *mut u8,
+        list_len: usize,
+        answer: *mut u64,
+    );
 }
 
 pub fn library() -> Option<Library> {
@@ -45,6 +56,7 @@ pub fn library() -> Option<Library> {
         check: yengrazul_check,
         read: yengrazul_read,
         walk: yengrazul_walk,
+        mend: yengrazul_mend,
     });
     #[cfg(not(has_library))]
     None

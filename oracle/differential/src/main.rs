@@ -36,6 +36,8 @@ fn plan(words: &[String]) -> Result<Plan, String> {
         read: linked.map(|library| library.read),
         walk: linked.map(|library| library.walk),
         walks: 60_000,
+        mend: linked.map(|library| library.mend),
+        mends: 40_000,
         ..Plan::nothing(fresh_seed())
     };
     let mut words = words.iter();
@@ -56,10 +58,12 @@ fn plan(words: &[String]) -> Result<Plan, String> {
             ("--announce", "yes") => plan.announce = true,
             ("--images", _) => plan.images = number()?,
             ("--walks", _) => plan.walks = number()?,
-            ("--only", "lower") => plan = Plan { check: None, images: 0, walk: None, ..plan },
-            ("--only", "check") => plan = Plan { lower: None, read: None, walk: None, ..plan },
-            ("--only", "read") => plan = Plan { lower: None, check: None, walk: None, ..plan },
-            ("--only", "walk") => plan = Plan { lower: None, check: None, read: None, ..plan },
+            ("--mends", _) => plan.mends = number()?,
+            ("--only", "lower") => plan = Plan { check: None, images: 0, walk: None, mend: None, ..plan },
+            ("--only", "check") => plan = Plan { lower: None, read: None, walk: None, mend: None, ..plan },
+            ("--only", "read") => plan = Plan { lower: None, check: None, walk: None, mend: None, ..plan },
+            ("--only", "walk") => plan = Plan { lower: None, check: None, read: None, mend: None, ..plan },
+            ("--only", "mend") => plan = Plan { lower: None, check: None, read: None, walk: None, ..plan },
             _ => return Err(format!("no option {word} {value}")),
         }
     }
@@ -77,6 +81,7 @@ fn report(plan: &Plan) -> ExitCode {
         ("check", plan.check.is_some()),
         ("read", plan.read.is_some()),
         ("walk", plan.walk.is_some()),
+        ("mend", plan.mend.is_some()),
     ];
     let names: Vec<&str> = names.iter().filter(|(_, is)| *is).map(|(name, _)| *name).collect();
     println!("seed {}, against {}", plan.seed, names.join(" and "));
@@ -91,6 +96,12 @@ fn report(plan: &Plan) -> ExitCode {
     }
     if plan.walk.is_some() {
         println!("{} random walks, and those at every limit", plan.walks);
+    }
+    if plan.mend.is_some() {
+        println!(
+            "{} random images to mend, and those by hand and of the source's own strays and long bodies",
+            plan.mends
+        );
     }
     let report = run(plan);
     for (number, n) in report.by_number.iter().enumerate().filter(|(_, n)| **n > 0) {

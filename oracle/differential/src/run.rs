@@ -1,11 +1,12 @@
 //! A whole run: random and damaged trees of a seed and those in which limits meet, the limits and the shapes, in both modes; calls in
-//! modes that are none; images for the reader, and walks over them.
+//! modes that are none; images for the reader and the mender, and walks over them.
 use crate::calls::{self, Check, Fault, Lower, Read};
+use crate::mends::{mend, Mend};
 use crate::walks::{walk, words, Walk};
 use oracle::limits::work_words;
 use oracle::questions::{self, Question};
 use oracle::rng::Rng;
-use oracle::{export, images, judge, reading, walking, walks};
+use oracle::{export, images, judge, mending, mends, reading, walking, walks};
 use std::sync::atomic::{AtomicUsize, Ordering};
 use std::sync::Mutex;
 
@@ -42,6 +43,9 @@ pub struct Plan {
     pub walk: Option<Walk>,
     /// Random walks; where there are none, the fixed ones are not asked either.
     pub walks: u64,
+    pub mend: Option<Mend>,
+    /// Random images to mend; where there are none, the fixed ones are not asked either.
+    pub mends: u64,
 }
 
 impl Plan {
@@ -66,6 +70,8 @@ impl Plan {
             read: None,
             walk: None,
             walks: 0,
+            mend: None,
+            mends: 0,
         }
     }
 }
@@ -141,6 +147,7 @@ struct Fixed {
     shapes: Vec<Question>,
     images: Vec<Vec<u8>>,
     walks: Vec<walks::Question>,
+    mends: Vec<mends::Question>,
 }
 
 /// What a turn asks about.
@@ -148,6 +155,7 @@ enum Asks {
     Tree(Question),
     Image(Vec<u8>),
     Walk(walks::Question),
+    Mend(mends::Question),
 }
 
 impl Fixed {
@@ -158,6 +166,7 @@ impl Fixed {
             shapes: if trees { questions::shapes() } else { vec![] },
             images: if images { images::fixed() } else { vec![] },
             walks: if plan.fixed && plan.asks_walks() { walks::fixed() } else { vec![] },
+            mends: if plan.fixed && plan.asks_mends() { mends::fixed() } else { vec![] },
         }
     }
 
@@ -175,6 +184,8 @@ impl Fixed {
             "images" => return Asks::Image(images::random::any(plan.seed, t.k)),
             "fixed walks" => return Asks::Walk(self.walks[t.k as usize].clone()),
             "walks" => return Asks::Walk(walks::random::any(plan.seed, t.k)),
+            "fixed mends" => return Asks::Mend(self.mends[t.k as usize].clone()),
+            "mends" => return Asks::Mend(mends::random::any(plan.seed, t.k)),
             other => unreachable!("no kind {other}"),
         })
     }
@@ -193,12 +204,17 @@ impl Plan {
         self.walk.is_some() && self.walks > 0
     }
 
+    fn asks_mends(&self) -> bool {
+        self.mend.is_some() && self.mends > 0
+    }
+
     /// The kinds of questions in their order.
     fn rows(&self, fixed: &Fixed) -> Vec<Row> {
         // the reader knows no tree
         let (modes, no_modes): (&[u64], u64) = if self.asks_trees() { (self.modes, self.no_modes) } else { (&[], 0) };
         let images = if self.asks_images() { self.images } else { 0 };
         let walks = if self.asks_walks() { self.walks } else { 0 };
+        let mends = if self.asks_mends() { self.mends } else { 0 };
         vec![
             Row { kind: "limits", modes, count: fixed.limits.len() as u64 },
             Row { kind: "shapes", modes, count: fixed.shapes.len() as u64 },
@@ -212,6 +228,8 @@ impl Plan {
             Row { kind: "images", modes: &[0], count: images },
             Row { kind: "fixed walks", modes: &[0], count: fixed.walks.len() as u64 },
             Row { kind: "walks", modes: &[0], count: walks },
+            Row { kind: "fixed mends", modes: &[0], count: fixed.mends.len() as u64 },
+            Row { kind: "mends", modes: &[0], count: mends },
         ]
     }
 }
@@ -238,6 +256,7 @@ pub fn run(plan: &Plan) -> Report {
                 Asks::Tree(question) => ask(plan, &t, question, &mut rng, &mut report),
                 Asks::Image(image) => ask_reader(plan, &t, &image, &mut rng, &mut report),
                 Asks::Walk(question) => ask_walker(plan, &t, &question, &mut rng, &mut report),
+                Asks::Mend(question) => ask_mender(plan, &t, &question, &mut rng, &mut report),
             }
             found.fetch_add(report.differences.len() - before, Ordering::Relaxed);
         }
@@ -298,6 +317,15 @@ fn ask_walker(plan: &Plan, turn: &Turn, question: &walks::Question, rng: &mut Rn
     let [number, _, _, _, ending] = due.numbers;
     report.by_number[number as usize] += 1;
     report.endings[ending as usize] += u64::from(number == 0);
+}
+
+fn ask_mender(plan: &Plan, turn: &Turn, question: &mends::Question, rng: &mut Rng, report: &mut Report) {
+    let mends::Question { image, room, list_room } = question;
+    let due = mending::mend(image, *room, *list_room);
+    if let Some(Err(fault)) = plan.mend.map(|function| mend(function, question, &due, rng)) {
+        report.differs(plan, turn, "mend", image, format!("room {room}, list {list_room}: {fault}"));
+    }
+    report.by_number[due.numbers[0] as usize] += 1;
 }
 
 /// A file for a line of text; a long one is made again from its seed.

@@ -7,6 +7,8 @@ pub mod facts;
 pub mod images;
 pub mod judge;
 pub mod limits;
+pub mod mending;
+pub mod mends;
 pub mod modes;
 pub mod packed;
 pub mod questions;

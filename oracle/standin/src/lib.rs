@@ -1,4 +1,5 @@
-//! The oracle behind the C interface of the lowering, the reader and the walker: what a right library does, to try the runner on.
+//! The oracle behind the C interface of the lowering, the reader, the walker and the mender: what a right library does, to try the runner on.
+use oracle::mending;
 use oracle::walking::{self, Run};
 use oracle::{answer, judge, reading};
 use std::slice::{from_raw_parts, from_raw_parts_mut};
@@ -70,4 +71,22 @@ pub unsafe extern "C" fn yengrazul_walk(
     let walked = walking::walk(image, &run, visited_len);
     visited.copy_from_slice(&walked.visited);
     answer.copy_from_slice(&walked.numbers);
+}
+
+/// # Safety
+/// The pointers and lengths are of slices, and `answer` is of four numbers.
+#[no_mangle]
+pub unsafe extern "C" fn yengrazul_mend(
+    image: *const u8,
+    image_len: usize,
+    out: *mut u8,
+    out_len: usize,
+    list: *mut u8,
+    list_len: usize,
+    answer: *mut u64,
+) {
+    let mended = mending::mend(from_raw_parts(image, image_len), out_len, list_len);
+    from_raw_parts_mut(out, out_len).copy_from_slice(&mended.out);
+    from_raw_parts_mut(list, list_len).copy_from_slice(&mended.list);
+    from_raw_parts_mut(answer, 4).copy_from_slice(&mended.numbers);
 }

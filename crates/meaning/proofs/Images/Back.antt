@@ -58,10 +58,13 @@ module _ (tag : ℕ) (s : List ℕ) (im : Image) where
       let h : broken (image-of tag (fields s)) ≡ none = ap broken (sym (t .image)) ∙ t .facts in
       rw (t .frame, t .order, h) (ap taken (sym (t .image)))
 
-  -- theorem (b)
-  pub read-back : Tagged tag → Bytes s → read-as tag s ≡ taken im → written tag im ≡ s
+  -- theorem (b), of an image in order
+  pub ordered-back : Tagged tag → Bytes s → framed s ≡ true → stray tag at-first (fields s) ≡ none → written tag I ≡ s
   unfolding framed
-  read-back ok b e =
-      let t = taken-is e in
-      let whole = empty (left s) (omega (arith, eqb-true (length (left s)) 0 (and-right (ltb 0 (length (fields s))) _ (t .frame)))) in
-      rw (t .image) (written-is tag (image-of tag (fields s)) ∙ ap bytes-of (image-back tag ok (fields s) (payloads (length s) s (le-refl _) b) (t .order)) ∙ fields-back (length s) s (le-refl _) b whole)
+  ordered-back ok b f o =
+      let whole = empty (left s) (omega (arith, eqb-true (length (left s)) 0 (and-right (ltb 0 (length (fields s))) _ f))) in
+      written-is tag I ∙ ap bytes-of (image-back tag ok (fields s) (payloads (length s) s (le-refl _) b) o) ∙ fields-back (length s) s (le-refl _) b whole
+
+  -- of one that is taken
+  pub read-back : Tagged tag → Bytes s → read-as tag s ≡ taken im → written tag im ≡ s
+  read-back ok b e = let t = taken-is e in ap (written tag) (t .image) ∙ ordered-back ok b (t .frame) (t .order)

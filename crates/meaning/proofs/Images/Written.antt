@@ -24,10 +24,10 @@ use Rattle.meaning.specs.Images.{Image, inst-size, capture-of, inst-of, 
 use Rattle.meaning.specs.Image.{written}
 use Rattle.meaning.proofs.Images.Listed.{written-is, header-field, capture-field, inst-field, constant-field, proto-fields, image-fields, field-bytes, bytes-of}
 use Rattle.meaning.specs.Follow.{due, at-first, sized, is-capture, is-inst, is-header, is-constant, follows-whole, follows, due-after, may-end, stray}
-use Rattle.meaning.specs.Reader.{taken, broken, read-as}
+use Rattle.meaning.specs.Reader.{taken, ruled, broken, read-as}
 use Rattle.meaning.proofs.Images.Assembled.{Tagged, MarkFits, HeaderFits, assembled}
 use Rattle.meaning.proofs.Ranges.Fits.{ConstantFits}
-use Rattle.meaning.proofs.Images.Back.{taken-is, taken-if}
+use Rattle.meaning.proofs.Images.Back.{taken-is}
 use Rattle.meaning.proofs.Images.Fielded.{Bytes, payloads}
 
 -- ---- fields
@@ -94,7 +94,7 @@ inst-47 x h = ap (with-mark x) (four (x .mark) h)
     four : (m : ℕ) → m < 4294967296 → (m / 65536 / 256 % 256 * 256 + m / 65536 % 256) * 65536 + (m / 256 % 256 * 256 + m % 256) ≡ m
     four m h = omega arith
 
-inst-again : (tag : ℕ) → Tagged tag → (x : Instruction) → MarkFits tag x → inst-of tag (inst-field tag x .payload) ≡ x
+pub inst-again : (tag : ℕ) → Tagged tag → (x : Instruction) → MarkFits tag x → inst-of tag (inst-field tag x .payload) ≡ x
 inst-again tag (inl e) x = subst (λ (t : ℕ). MarkFits t x → inst-of t (inst-field t x .payload) ≡ x) (sym e) (inst-43 x)
 inst-again tag (inr e) x = subst (λ (t : ℕ). MarkFits t x → inst-of t (inst-field t x .payload) ≡ x) (sym e) (inst-47 x)
 
@@ -294,6 +294,15 @@ module _ (tag : ℕ) (ok : Tagged tag) where
   sized-protos [] = none-more
   sized-protos (p ∷ ps) = one-more {f = header-field p} (omega arith) (sized-append (sized-captures (p .captures)) (sized-append (sized-code (p .code)) (sized-protos ps)))
 
+-- what the form of an image asks: its counts, and that every number fits its field
+pub record Formed (tag : ℕ) (im : Image) : Type 0 where
+  pub width : Tagged tag
+  pub some : 0 < length (im .prototypes)
+  pub few : length (im .prototypes) ≤ 256
+  pub numbers : All (HeaderFits tag) (im .prototypes)
+  pub constants : length (im .constants) ≤ 1024
+  pub values : All ConstantFits (im .constants)
+
 -- the rules of an image
 pub record Good (tag : ℕ) (im : Image) : Type 0 where
   pub width : Tagged tag
@@ -312,32 +321,49 @@ some-fields tag im h = go (im .prototypes) h
     go [] h = absurd (omega arith)
     go (p ∷ ps) h = omega arith
 
--- theorem (a), from right to left: the writing of an image with the rules is taken, as that image
-pub exact : (tag : ℕ) (im : Image) → Good tag im → read-as tag (written tag im) ≡ taken im
-unfolding framed
-exact tag im g =
+-- the writing of a formed image is whole and in order, and is read as that image, which is then judged
+pub formed-read : (tag : ℕ) (im : Image) → Formed tag im → read-as tag (written tag im) ≡ ruled im (broken im)
+unfolding framed read-as
+formed-read tag im g =
     let fs = image-fields tag im in
     let z = sized-append (sized-protos tag (g .width) (im .prototypes)) (sized-constants (im .constants)) in
     let e : fields (written tag im) ≡ fs = ap fields (written-is tag im) ∙ fields-of fs z in
     let l : left (written tag im) ≡ [] = ap left (written-is tag im) ∙ left-of fs z in
-    taken-if tag (written tag im) im record {
-      frame = rw (e, l, lt-ltb 0 (length fs) (some-fields tag im (g .some))) refl;
-      order = rw e (stray-protos tag (g .width) (im .prototypes) (g .numbers) (map constant-field (im .constants)) 0 (omega (arith, g .few)) (stray-constants tag (g .width) (im .constants) (0 + length (im .prototypes)) 0 (omega (arith, g .some)) (omega (arith, g .constants))));
-      image = rw e (sym (image-again tag (g .width) im (g .numbers) (g .values)));
-      facts = g .facts;
-    }
+    let order : stray tag at-first fs ≡ none =
+    stray-protos tag (g .width) (im .prototypes) (g .numbers) (map constant-field (im .constants)) 0 (omega (arith, g .few)) (stray-constants tag (g .width) (im .constants) (0 + length (im .prototypes)) 0 (omega (arith, g .some)) (omega (arith, g .constants))) in
+    rw (e, l, lt-ltb 0 (length fs) (some-fields tag im (g .some)), order)
+    (ap (λ (i : Image). ruled i (broken i)) (image-again tag (g .width) im (g .numbers) (g .values)))
 
--- from left to right: what is taken has the rules
-pub taken-good : (tag : ℕ) → Tagged tag → (bytes : List ℕ) (im : Image) → Bytes bytes → read-as tag bytes ≡ taken im → Good tag im
-taken-good tag ok bytes im b e =
-    let t = taken-is tag bytes im e in
-    let a = assembled tag ok (fields bytes) at-first (payloads (length bytes) bytes (le-refl _) b) (t .order) in
-    rw (t .image) record {
+-- theorem (a), from right to left: the writing of an image with the rules is taken, as that image
+pub exact : (tag : ℕ) (im : Image) → Good tag im → read-as tag (written tag im) ≡ taken im
+exact tag im g =
+    formed-read tag im record { width = g .width; some = g .some; few = g .few; numbers = g .numbers; constants = g .constants; values = g .values }
+    ∙ ap (ruled im) (g .facts)
+
+-- what bytes in order stand for is formed
+pub ordered-formed : (tag : ℕ) → Tagged tag → (bytes : List ℕ) → Bytes bytes → stray tag at-first (fields bytes) ≡ none → Formed tag (image-of tag (fields bytes))
+ordered-formed tag ok bytes b e =
+    let a = assembled tag ok (fields bytes) at-first (payloads (length bytes) bytes (le-refl _) b) e in
+    record {
       width = ok;
       some = omega (arith, a .some);
       few = omega (arith, a .few (omega arith));
       numbers = a .numbers;
       constants = omega (arith, a .few-constants (omega arith));
       values = a .values;
+    }
+
+-- from left to right: what is taken has the rules
+pub taken-good : (tag : ℕ) → Tagged tag → (bytes : List ℕ) (im : Image) → Bytes bytes → read-as tag bytes ≡ taken im → Good tag im
+taken-good tag ok bytes im b e =
+    let t = taken-is tag bytes im e in
+    let f = ordered-formed tag ok bytes b (t .order) in
+    rw (t .image) record {
+      width = ok;
+      some = f .some;
+      few = f .few;
+      numbers = f .numbers;
+      constants = f .constants;
+      values = f .values;
       facts = ap broken (sym (t .image)) ∙ t .facts;
     }

@@ -16,13 +16,13 @@ read-as-spec =
     tie.close
     (tie.spec
     (λ c κs. tt)
-    (λ c. let f = c .before .before .before .frame in frame-fails _ _ _ (f .ensures .0) (f .ensures .1) (c .if1 .taken) (c .before .before .before .before .before .args .tag))
+    (λ c. let f = c .before .before .before .frame in frame-fails _ _ _ (f .ensures .0) (f .ensures .1) (c .if1 .taken) (c .before .before .before .before .before .args .mend) (c .before .before .before .before .before .args .tag))
     (λ c κs. tt)
     (λ c. search needs)
     (λ c κs. let o = c .before .before in record {
       width = o .before .before .before .before .before .before .pre;
-      order = order-holds _ (framed-is (o .before)) _ _ (o .order .ensures) (c .enum-told .given .1);
+      order = order-holds _ _ _ (o .order .ensures) (c .enum-told .given .1);
     })
     (λ c. search needs)
-    (λ c. let e = c .before in let o = e .before .before in c .judged .ensures ∙ facts-tell _ (framed-is (o .before)) _ _ (o .order .ensures) _ (o .before .before .before .before .frame .ensures .0) (e .enum-told .given .1))
-    (λ c. let o = c .before .before .before in order-fails _ (framed-is (o .before)) _ _ (o .order .ensures) _ (c .before .spot .given .1)))
+    (λ c. let e = c .before in let o = e .before .before in c .judged .ensures ∙ facts-tell _ _ (framed-is (o .before)) _ _ (o .order .ensures) _ (o .before .before .before .before .frame .ensures .0) (e .enum-told .given .1))
+    (λ c. let o = c .before .before .before in order-fails _ _ (framed-is (o .before)) _ _ (o .order .ensures) _ (c .before .spot .given .1)))

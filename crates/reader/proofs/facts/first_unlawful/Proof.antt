@@ -11,22 +11,24 @@ use borrow.Author.Tests.{not-true, not-false}
 use Rattle.meaning.specs.Steps.{inst-at}
 use Rattle.meaning.proofs.Lists.{lowest-found, lowest-none}
 use Rattle.reader.specs.Laid.{code-in}
+use Rattle.reader.specs.Lens.{lens-code}
 use Rattle.reader.specs.Tests.{seen-test}
-use Rattle.reader.proofs.Scanned.{lies-in, seen-is}
+use Rattle.reader.proofs.Scanned.{lies-in}
+use Rattle.reader.proofs.Lenses.{passed-is}
 use Rattle.reader.proofs.facts.first_unlawful.Statement.{statement}
 use Rattle.reader.proofs.facts.first_unlawful.Tie as tie
 use Rattle.reader.proofs.facts.first_unlawful.Reads as reads
 use Rattle.reader.proofs.facts.first_unlawful.Lts as lts
-use Rattle.reader.proofs.facts.is_lawful.Reads as is-lawful-reads
+use Rattle.reader.proofs.facts.passes.Reads as passes-reads
 use Rattle.reader.proofs.facts.makes.Reads as makes-reads
 use Rattle.reader.proofs.facts.names.Reads as names-reads
 use Rattle.fields.proofs.wide.Reads as wide-reads
 
 abbrev Inv-loop : tie.InvT-loop
-Inv-loop t tag span at n v locals outers texts marks i₀ i = (i ≤ n) × ((k : ℕ) → k < i → seen-test v locals outers texts marks n k (inst-at (code-in t tag span at n) k) ≡ true)
+Inv-loop t tag span at n v locals outers texts marks mend i₀ i = (i ≤ n) × ((k : ℕ) → k < i → seen-test v locals outers texts marks n k (inst-at (lens-code mend (code-in t tag span at n)) k) ≡ true)
 
 abbrev μ-loop : tie.MeasureT-loop
-μ-loop t tag span at n v locals outers texts marks i₀ i = n - i
+μ-loop t tag span at n v locals outers texts marks mend i₀ i = n - i
 
 -- the start, from the loop
 abbrev S : tie.At-loop Inv-loop μ-loop → tie.Start Inv-loop μ-loop
@@ -37,8 +39,8 @@ fit : (e : tie.In-loop Inv-loop μ-loop) → let s = S (e .before) in s .args .a
 fit e = let s = S (e .before) in omega (arith, lies-in (s .args .span) (s .args .at) (s .args .n) (e .before .loop .i) (length (now (s .args .t))) (e .loop-test .taken) (s .pre .2), s .pre .1)
 
 -- the test's answer
-answer : (c : tie.After-is-lawful Inv-loop μ-loop) → let e = c .before .before .before .before .before .before .before .before .before .before .before in let l = e .before in let s = S l in
-    c .is-lawful .result ≡ seen-test (s .args .v) (now (s .args .locals)) (now (s .args .outers)) (now (s .args .texts)) (now (s .args .marks)) (s .args .n) (l .loop .i) (inst-at (code-in (now (s .args .t)) (s .args .tag) (s .args .span) (s .args .at) (s .args .n)) (l .loop .i))
+answer : (c : tie.After-passes Inv-loop μ-loop) → let e = c .before .before .before .before .before .before .before .before .before .before .before in let l = e .before in let s = S l in
+    c .passes .result ≡ seen-test (s .args .v) (now (s .args .locals)) (now (s .args .outers)) (now (s .args .texts)) (now (s .args .marks)) (s .args .n) (l .loop .i) (inst-at (lens-code (s .args .mend) (code-in (now (s .args .t)) (s .args .tag) (s .args .span) (s .args .at) (s .args .n))) (l .loop .i))
 answer c =
     let n = c .before .before in
     let m = n .before in
@@ -48,8 +50,8 @@ answer c =
     let e = w1 .before .before .before in
     let l = e .before in
     let s = S l in
-    seen-is (now (s .args .t)) (s .args .tag) (s .args .span) (s .args .at) (s .args .n) (l .loop .i) (e .loop-test .taken) (s .args .v) _ _ _ _
-    _ _ _ (w1 .wide .ensures .0) (w2 .wide2 .ensures .0) (w .wide3 .ensures .0) _ _ _ (m .makes .ensures) (n .names .ensures) (c .is-lawful .ensures)
+    passed-is (now (s .args .t)) (s .args .tag) (s .args .span) (s .args .at) (s .args .n) (l .loop .i) (e .loop-test .taken) (s .args .v) _ _ _ _ (s .args .mend)
+    _ _ _ (w1 .wide .ensures .0) (w2 .wide2 .ensures .0) (w .wide3 .ensures .0) _ _ _ (m .makes .ensures) (n .names .ensures) (c .passes .ensures)
 
 returns : tie.Need-returns Inv-loop μ-loop
 returns c =
@@ -64,7 +66,7 @@ loop-again c =
     let l = e .before in
     let s = S l in (
       omega (arith, e .loop-test .taken),
-      below-more (λ (k : ℕ). seen-test (s .args .v) (now (s .args .locals)) (now (s .args .outers)) (now (s .args .texts)) (now (s .args .marks)) (s .args .n) k (inst-at (code-in (now (s .args .t)) (s .args .tag) (s .args .span) (s .args .at) (s .args .n)) k) ≡ true) _
+      below-more (λ (k : ℕ). seen-test (s .args .v) (now (s .args .locals)) (now (s .args .outers)) (now (s .args .texts)) (now (s .args .marks)) (s .args .n) k (inst-at (lens-code (s .args .mend) (code-in (now (s .args .t)) (s .args .tag) (s .args .span) (s .args .at) (s .args .n))) k) ≡ true) _
           (l .loop .inv .1) (sym (answer a) ∙ not-false _ (c .if1 .left)),
     )
 

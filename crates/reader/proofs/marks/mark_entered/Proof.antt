@@ -8,28 +8,31 @@ use lib.Seq.{getD-set-same, getD-set-other}
 use denote.Ref.{now}
 use borrow.Author.Count.{below-more}
 use Rattle.reader.specs.Laid.{code-in}
+use Rattle.reader.specs.Lens.{lens-code}
 use Rattle.reader.proofs.Scanned.{lies-in}
-use Rattle.reader.proofs.Marking.{Marked, marked-start, marked-more, marked-end, code-length, opcode-there, bx-there}
+use Rattle.reader.proofs.Marking.{Marked, marked-start, marked-more, marked-end}
+use Rattle.reader.proofs.Lenses.{seen-length, entered-there}
 use Rattle.reader.proofs.marks.mark_entered.Statement.{statement}
 use Rattle.reader.proofs.marks.mark_entered.Tie as tie
 use Rattle.reader.proofs.marks.mark_entered.Reads as reads
 use Rattle.reader.proofs.marks.mark_entered.Lts as lts
 use Rattle.fields.proofs.word.Reads as word-reads
+use Rattle.reader.proofs.marks.seen_opcode.Reads as seen-opcode-reads
 use Rattle.reader.proofs.marks.first_lead.Reads as first-lead-reads
 use Rattle.reader.proofs.marks.mark.Reads as mark-reads
 use Rattle.reader.proofs.marks.second_lead.Reads as second-lead-reads
 
 abbrev Inv-loop : tie.InvT-loop
-Inv-loop t tag span at n marks₀ k₀ marks k = (k ≤ n) × (length marks ≡ length marks₀) × ((j : ℕ) → j < k → getD marks j 0 ≡ 0)
+Inv-loop t tag span at n marks₀ mend k₀ marks k = (k ≤ n) × (length marks ≡ length marks₀) × ((j : ℕ) → j < k → getD marks j 0 ≡ 0)
 
 abbrev μ-loop : tie.MeasureT-loop
-μ-loop t tag span at n marks₀ k₀ marks k = n - k
+μ-loop t tag span at n marks₀ mend k₀ marks k = n - k
 
 abbrev Inv-loop2 : tie.InvT-loop2
-Inv-loop2 t tag span at n marks₀ k i₀ marks i = (i ≤ n) × Marked (code-in t tag span at n) n (length marks₀) i marks
+Inv-loop2 t tag span at n marks₀ mend k i₀ marks i = (i ≤ n) × Marked (lens-code mend (code-in t tag span at n)) n (length marks₀) i marks
 
 abbrev μ-loop2 : tie.MeasureT-loop2
-μ-loop2 t tag span at n marks₀ k i₀ marks i = n - i
+μ-loop2 t tag span at n marks₀ mend k i₀ marks i = n - i
 
 abbrev S : tie.At-loop Inv-loop μ-loop Inv-loop2 μ-loop2 → tie.Start Inv-loop μ-loop Inv-loop2 μ-loop2
 S l = l .before .before .before
@@ -64,13 +67,14 @@ loop2-again c =
     let m = g .before .before .before .before in
     let f = m .before in
     let w = f .before .before in
-    let e = w .before .before in
+    let e = w .before .before .before .before in
     let l = e .before in
-    let s = S₂ l in
-    let at = opcode-there (now (s .args .t)) (s .args .tag) (s .args .span) (s .args .at) (s .args .n) (l .loop2 .i) (e .loop2-test .taken) in
-    let wide = bx-there (now (s .args .t)) (s .args .tag) (s .args .span) (s .args .at) (s .args .n) (l .loop2 .i) (e .loop2-test .taken) in (
+    let s = S₂ l in (
       omega (arith, e .loop2-test .taken),
-      marked-more _ _ _ _ _ (room l) (s .pre .0) (l .loop2 .inv .1) _ _ _ _ at (wide ∙ sym (w .word .ensures .0)) (f .first-lead .ensures) (g .second-lead .ensures) _ _ (m .mark .ensures) (b .mark2 .ensures),
+      marked-more _ _ _ _ _ (room l) (l .loop2 .inv .1) _ _
+          (entered-there (now (s .args .t)) (s .args .tag) (s .args .span) (s .args .at) (s .args .n) (l .loop2 .i) (e .loop2-test .taken) (s .pre .0) (s .args .mend) _ _ _ _
+          (w .before .seen-opcode .ensures) (w .word .ensures .0) (f .first-lead .ensures) (g .second-lead .ensures))
+          _ _ (m .mark .ensures) (b .mark2 .ensures),
     )
 
 pub mark-entered-spec : {M : Type 1} → statement M
@@ -92,13 +96,16 @@ mark-entered-spec =
     (λ c. omega (arith, fit c, S₂ (c .before) .good))
     (λ c. omega (arith, fit (c .before)))
     (λ c. omega (arith, fit (c .before), S₂ (c .before .before) .good))
-    (λ c κs. omega (arith, fit (c .before)))
-    (λ c κs. let e = c .before .before .before in (c .before .word .ensures .1, omega (arith, e .loop2-test .taken, S₂ (e .before) .pre .0)))
-    (λ c κs. let l = c .before .before .before .before .before in omega (arith, room l, l .loop2 .inv .1 .size))
-    (λ c κs. let w = c .before .before .before .before .before .before in let e = w .before .before in (w .word .ensures .1, omega (arith, e .loop2-test .taken, S₂ (e .before) .pre .0)))
-    (λ c κs. let m = c .before .before .before .before in let l = m .before .before .before .before .before .before in omega (arith, room l, l .loop2 .inv .1 .size, m .mark .kept .0))
-    (λ c. let e = c .before .before .before .before .before .before .before .before .before .before .before .before in omega (arith, e .loop2-test .taken, S₂ (e .before) .pre .0))
-    (λ c. let e = c .before .before .before .before .before .before .before .before .before .before .before .before in omega (arith, e .loop2-test .taken))
+    (λ c. omega (arith, fit (c .before .before)))
+    (λ c κs. tt)
+    (λ c. let e = c .before .before .before in omega (arith, fit e, S₂ (e .before) .good))
+    (λ c κs. omega (arith, fit (c .before .before .before)))
+    (λ c κs. let e = c .before .before .before .before .before in (c .before .word .ensures .1, omega (arith, e .loop2-test .taken, S₂ (e .before) .pre .0)))
+    (λ c κs. let l = c .before .before .before .before .before .before .before in omega (arith, room l, l .loop2 .inv .1 .size))
+    (λ c κs. let w = c .before .before .before .before .before .before in let e = w .before .before .before .before in (w .word .ensures .1, omega (arith, e .loop2-test .taken, S₂ (e .before) .pre .0)))
+    (λ c κs. let m = c .before .before .before .before in let l = m .before .before .before .before .before .before .before .before in omega (arith, room l, l .loop2 .inv .1 .size, m .mark .kept .0))
+    (λ c. let e = c .before .before .before .before .before .before .before .before .before .before .before .before .before .before in omega (arith, e .loop2-test .taken, S₂ (e .before) .pre .0))
+    (λ c. let e = c .before .before .before .before .before .before .before .before .before .before .before .before .before .before in omega (arith, e .loop2-test .taken))
     loop2-again
     (λ c. let l = c .before in l .loop2 .inv .1 .size ∙ l .before .before .loop .inv .1)
-    (λ c. let l = c .before in let s = S₂ l in marked-end _ _ _ _ _ (let z : l .loop2 .i ≡ s .args .n = omega (arith, c .loop2-test .left, l .loop2 .inv .0) in z ∙ sym (code-length (now (s .args .t)) (s .args .tag) (s .args .span) (s .args .at) (s .args .n))) (l .loop2 .inv .1)))
+    (λ c. let l = c .before in let s = S₂ l in marked-end _ _ _ _ _ (let z : l .loop2 .i ≡ s .args .n = omega (arith, c .loop2-test .left, l .loop2 .inv .0) in z ∙ sym (seen-length (s .args .mend) (now (s .args .t)) (s .args .tag) (s .args .span) (s .args .at) (s .args .n))) (l .loop2 .inv .1)))

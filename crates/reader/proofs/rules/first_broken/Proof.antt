@@ -19,10 +19,10 @@ use Rattle.reader.proofs.rules.first_broken.Statement.{statement}
 use Rattle.reader.proofs.rules.first_broken.Tie as tie
 
 abbrev Inv-loop : tie.InvT-loop
-Inv-loop image tag size constants texts marks₀ locals₀ outers₀ t₀ k₀ f₀ marks locals outers t k f = (length marks ≡ length marks₀) × Ruling image tag t k f locals outers
+Inv-loop image tag size constants texts marks₀ mend locals₀ outers₀ t₀ k₀ f₀ marks locals outers t k f = (length marks ≡ length marks₀) × Ruling mend image tag t k f locals outers
 
 abbrev μ-loop : tie.MeasureT-loop
-μ-loop image tag size constants texts marks₀ locals₀ outers₀ t₀ k₀ f₀ marks locals outers t k f = length t
+μ-loop image tag size constants texts marks₀ mend locals₀ outers₀ t₀ k₀ f₀ marks locals outers t k f = length t
 
 abbrev S : tie.At-loop Inv-loop μ-loop → tie.Start Inv-loop μ-loop
 S l = l .before .before .before
@@ -32,7 +32,7 @@ header : (c : tie.Then1 Inv-loop μ-loop) → let t = now (c .before .before .lo
 header c = c .before .heads .ensures .0 (c .if1 .taken)
 
 top : (c : tie.Then1 Inv-loop μ-loop) → let l = c .before .before in Headed (S l .args .tag) (S l .pre .0 .0 .width) (now (l .loop .t)) (l .loop .k)
-top c = let l = c .before .before in front _ _ (S l .pre .0 .0 .width) _ _ _ _ _ (l .loop .inv .1) (header c .0) (header c .1)
+top c = let l = c .before .before in front _ _ _ (S l .pre .0 .0 .width) _ _ _ _ _ (l .loop .inv .1) (header c .0) (header c .1)
 
 -- the turn after the words are read
 abbrev T : tie.After-word3 Inv-loop μ-loop → tie.Then1 Inv-loop μ-loop
@@ -58,7 +58,7 @@ fit w = omega (arith, spans w, top (T w) .room)
 
 -- places are no more than bytes
 short : (w : tie.After-word3 Inv-loop μ-loop) → L w .loop .f + 1 + w .before .word2 .result + w .word3 .result ≤ length (now (S (L w) .args .image))
-short w = omega (arith, captures-is w, count-is w, fields-fit _ _ (S (L w) .pre .0 .0 .width) _ _ _ _ _ (L w .loop .inv .1) (header (T w) .0) (header (T w) .1))
+short w = omega (arith, captures-is w, count-is w, fields-fit _ _ _ (S (L w) .pre .0 .0 .width) _ _ _ _ _ (L w .loop .inv .1) (header (T w) .0) (header (T w) .1))
 
 long : (w : tie.After-word3 Inv-loop μ-loop) → length (now (L w .loop .t)) ≤ length (now (S (L w) .args .image))
 long w = omega (arith, L w .loop .inv .1 .room)
@@ -82,7 +82,7 @@ returns c =
     let i = c .before .before .before in
     let w = i .before .before .before .before in
     let l = L w in
-    ruling-fails _ _ (S l .pre .0 .0 .width) _ _ _ _ _ (l .loop .inv .1) (header (T w) .0) (header (T w) .1) _ (i .first-in .ensures) (omega (arith, c .if2 .taken, count-is w)) _ (omega (arith, captures-is w))
+    ruling-fails _ _ _ (S l .pre .0 .0 .width) _ _ _ _ _ (l .loop .inv .1) (header (T w) .0) (header (T w) .1) _ (i .first-in .ensures) (omega (arith, c .if2 .taken, count-is w)) _ (omega (arith, captures-is w))
 
 loop-again : tie.Need-loop-again Inv-loop μ-loop
 loop-again c =
@@ -92,7 +92,7 @@ loop-again c =
     let w = i .before .before .before .before in
     let l = L w in (
       i .first-in .kept .1 .1 .1 .1 .1 .1 .1 .1 .0 ∙ l .loop .inv .0,
-      ruling-more _ _ (S l .pre .0 .0 .width) _ _ _ _ _ (l .loop .inv .1) (header (T w) .0) (header (T w) .1) _ (i .first-in .ensures) (λ q. omega (arith, e .if2 .left, count-is w)) _ _
+      ruling-more _ _ _ (S l .pre .0 .0 .width) _ _ _ _ _ (l .loop .inv .1) (header (T w) .0) (header (T w) .1) _ (i .first-in .ensures) (λ q. omega (arith, e .if2 .left, count-is w)) _ _
           (d .needs-of .ensures .0 ∙ ap (λ (m : ℕ). local-need (captures-in (now (l .loop .t)) 13 m)) (captures-is w))
           (d .needs-of .ensures .1 ∙ ap (λ (m : ℕ). outer-need (captures-in (now (l .loop .t)) 13 m)) (captures-is w))
           _ (spans w) _ (omega (arith, captures-is w, count-is w)),
@@ -104,14 +104,14 @@ first-broken-spec =
     (tie.spec
     Inv-loop
     μ-loop
-    (λ c. (refl, ruling-start _ _ _ _ (bytes-by (now (c .before .before .args .image)) (λ i. omega (arith, c .before .shared-slice-known .given i))) (c .before .before .pre .0 .0) refl refl))
+    (λ c. (refl, ruling-start _ _ _ _ _ (bytes-by (now (c .before .before .args .image)) (λ i. omega (arith, c .before .shared-slice-known .given i))) (c .before .before .pre .0 .0) refl refl))
     (λ c κs. tt)
     (λ c κs. omega (arith, top c .room))
     (λ c κs. omega (arith, top (c .before) .room))
     (λ c κs. omega (arith, top (c .before .before) .room))
     (λ c κs. let w = c .before .before .before in let l = L w in let p = S l .pre in (
       (top (T w) .room, p .0 .1, omega (arith, p .0 .2 _ (below w) (nine w), l .loop .inv .0), w .before .before .word .ensures .0, captures-is w, omega (arith, top (T w) .few), p .1 .2),
-      (right _ _ (p .0 .0 .width) _ _ _ _ _ (l .loop .inv .1) _ (p .1 .0), many _ _ (p .0 .0 .width) _ _ _ _ _ (l .loop .inv .1), p .1 .1),
+      (right _ _ _ (p .0 .0 .width) _ _ _ _ _ (l .loop .inv .1) _ (p .1 .0), many _ _ _ (p .0 .0 .width) _ _ _ _ _ (l .loop .inv .1), p .1 .1),
     ))
     (λ c. let w = c .before .before .before .before .before .before .before in omega (arith, short w, S (L w) .good))
     (λ c. let w = c .before .before .before .before .before .before .before in omega (arith, short w, S (L w) .good))
@@ -137,4 +137,4 @@ first-broken-spec =
     (λ c. let w = c .before .before .before .before .before .before .before .before .before in less (now (L w .loop .t)) _ (omega arith) (fit w))
     loop-again
     (λ c. c .before .before .loop .inv .0)
-    (λ c. let l = c .before .before in ruling-end _ _ (S l .pre .0 .0 .width) _ _ _ _ _ (l .loop .inv .1) (c .before .heads .ensures .1 (c .if1 .left))))
+    (λ c. let l = c .before .before in ruling-end _ _ _ (S l .pre .0 .0 .width) _ _ _ _ _ (l .loop .inv .1) (c .before .heads .ensures .1 (c .if1 .left))))

@@ -16,6 +16,7 @@ use Rattle.meaning.specs.Fields.{word-at}
 use Rattle.meaning.proofs.Lists.{lowest-same}
 use Rattle.meaning.specs.Images.{inst-size}
 use Rattle.reader.specs.Laid.{code-in}
+use Rattle.reader.specs.Lens.{lens-code}
 use Rattle.reader.specs.Marks.{Entered}
 use Rattle.reader.proofs.Tables.{front-lawful}
 use Rattle.reader.proofs.rules.first_in.Statement.{statement}
@@ -42,22 +43,22 @@ many : (k : tie.After-struct-known2) → k .before .before .word .result < 65536
 many k = k .before .before .word .ensures .1
 
 -- the same places, named by the bytes
-moved : (t m m′ : List ℕ) (tag n n′ c c′ z z′ : ℕ) → n ≡ n′ → c ≡ c′ → z ≡ z′ → m′ ≡ m → Entered (code-in t tag z (13 + c * 5) n) n m → Entered (code-in t tag z′ (13 + c′ * 5) n′) n′ m′
-moved t m m′ tag n n′ c c′ z z′ p q r w h = rw (w, sym p, sym q, sym r) h
+moved : (mend : Bool) (t m m′ : List ℕ) (tag n n′ c c′ z z′ : ℕ) → n ≡ n′ → c ≡ c′ → z ≡ z′ → m′ ≡ m → Entered (lens-code mend (code-in t tag z (13 + c * 5) n)) n m → Entered (lens-code mend (code-in t tag z′ (13 + c′ * 5) n′)) n′ m′
+moved mend t m m′ tag n n′ c c′ z z′ p q r w h = rw (w, sym p, sym q, sym r) h
 
-answer : (v : Around) (l o x m t : List ℕ) (tag a n n′ c c′ z z′ : ℕ) → n ≡ n′ → c ≡ c′ → z ≡ z′
-    → a ≡ lowest (λ (i : ℕ). seen-test v l o x m n i (inst-at (code-in t tag z (13 + c * 5) n) i)) n
-    → a ≡ lowest (λ (i : ℕ). seen-test v l o x m n′ i (inst-at (code-in t tag z′ (13 + c′ * 5) n′) i)) n′
-answer v l o x m t tag a n n′ c c′ z z′ p q r e = e ∙ rw (p, q, r) refl
+answer : (mend : Bool) (v : Around) (l o x m t : List ℕ) (tag a n n′ c c′ z z′ : ℕ) → n ≡ n′ → c ≡ c′ → z ≡ z′
+    → a ≡ lowest (λ (i : ℕ). seen-test v l o x m n i (inst-at (lens-code mend (code-in t tag z (13 + c * 5) n)) i)) n
+    → a ≡ lowest (λ (i : ℕ). seen-test v l o x m n′ i (inst-at (lens-code mend (code-in t tag z′ (13 + c′ * 5) n′)) i)) n′
+answer mend v l o x m t tag a n n′ c c′ z z′ p q r e = e ∙ rw (p, q, r) refl
 
 -- the marks are right where they are asked for
 marked : (c : tie.After-first-unlawful) → let k = c .before .before .before in let t = now (S k .args .t) in
-    word-at t 7 ≡ 0 → Entered (code-in t (S k .args .tag) (3 + inst-size (S k .args .tag)) (13 + word-at t 9 * 5) (word-at t 11)) (word-at t 11) (c .before .before .if1 .marks)
+    word-at t 7 ≡ 0 → Entered (lens-code (S k .args .mend) (code-in t (S k .args .tag) (3 + inst-size (S k .args .tag)) (13 + word-at t 9 * 5) (word-at t 11))) (word-at t 11) (c .before .before .if1 .marks)
 marked c z =
     let j = c .before .before in
     let k = j .before in
     let p = S k .pre .0 in
-    ⊎-elim (λ x. moved _ _ _ _ _ _ _ _ _ _ (k .before .before .word .ensures .0) (p .4) (p .1) (x .5) (x .2 .ensures)) (λ x. absurd (x .0 .left (p .3 ∙ z))) (j .if1 .came)
+    ⊎-elim (λ x. moved (S k .args .mend) (now (S k .args .t)) _ _ (S k .args .tag) _ _ _ _ _ _ (k .before .before .word .ensures .0) (p .4) (p .1) (x .5) (x .2 .ensures)) (λ x. absurd (x .0 .left (p .3 ∙ z))) (j .if1 .came)
 
 long : (j : tie.Joined1) → length (j .if1 .marks) ≡ length (now (S (j .before) .args .marks))
 long j = ⊎-elim (λ x. ap length (x .5) ∙ x .2 .kept .1 .1 .1 .1 .1 .0) (λ x. ap length (x .1)) (j .if1 .came)
@@ -70,7 +71,7 @@ returns c =
     let p = s .pre .0 in
     let q = s .pre .1 in
     let n = k .before .before .word .ensures .0 in
-    answer _ _ _ _ _ _ _ _ _ _ _ _ _ _ n (p .4) (p .1) (c .first-unlawful .ensures) ∙ lowest-same _ _ _ (front-lawful _ _ _ _ _ _ (q .0) (s .args .v) (q .1) (q .2) (now (s .args .t)) (s .args .tag) (λ i. omega (arith, k .before .before .before .before .shared-slice-known2 .given i)) (p .3) (p .4) (marked c))
+    answer (s .args .mend) _ _ _ _ _ (now (s .args .t)) (s .args .tag) _ _ _ _ _ _ _ n (p .4) (p .1) (c .first-unlawful .ensures) ∙ lowest-same _ _ _ (front-lawful _ _ _ _ _ _ (q .0) (s .args .v) (q .1) (q .2) (now (s .args .t)) (s .args .tag) (s .args .mend) (λ i. omega (arith, k .before .before .before .before .shared-slice-known2 .given i)) (p .3) (p .4) (marked c))
 
 pub first-in-spec : {M : Type 1} → statement M
 first-in-spec =
