@@ -78,33 +78,38 @@ void yengrazul_read(const uint8_t *image, size_t image_len, uint64_t answer[2]);
 
 /*
  * Walks a prototype of an image by recorded decisions and tells which instructions the walk visited (docs/FORMATS.md, "Walking a prototype").
- * decisions has a byte for each Test that the walk meets, in their order: 0 it went to the next instruction, 1 it skipped one. A RegisterTryCatch
- * goes on to the next instruction. The walk takes at most budget steps.
+ * decisions has a byte for each Test that the walk meets, in their order: 0 it went to the next instruction, 1 it skipped one. strikes has the
+ * numbers of the steps, from 0 and rising, at which a failure strikes in place of the ordinary step. A RegisterTryCatch registers its handler and
+ * goes on to the next instruction; a DeregisterTryCatch takes off the handler registered last, if any. A struck step enters that handler, which
+ * stays registered; it uses no decision, registers nothing and takes nothing off. The walk takes at most budget steps.
  *
- *   answer[0]  number: 0 walked, else a refusal: those of yengrazul_read, then 22, 23, 29 in this order
- *   answer[1]  place: that of yengrazul_read; of 23 the offset of the first decision that is no 0 or 1, used or not; else 0
+ *   answer[0]  number: 0 walked, else a refusal: those of yengrazul_read, then 22, 23, 25, 29 in this order
+ *   answer[1]  place: that of yengrazul_read; of 23 the offset of the first decision that is no 0 or 1, used or not; of 25 the number, from 0, of
+ *              the first strike that is not above the one before it; else 0
  *   answer[2]  steps taken, at most budget
  *   answer[3]  index of the instruction where the walk stood at its end
  *   answer[4]  how it ended, of enum yengrazul_ending, judged in their order before each step
  *
  * visited may hold anything before the call. Afterwards visited[i] is 1 where instruction i was visited, the last one included, and 0 everywhere
  * else, behind the instructions too; YENGRAZUL_INSTRUCTIONS_MOST bytes are always enough. Where the walk is refused all of visited is 0, and so are
- * the three last numbers of answer. It reads image and decisions, writes visited and answer, and touches nothing else; nothing is allocated.
- * The time is linear in the bytes and the steps. The caller's part and threads are as above.
+ * the three last numbers of answer. It reads image, decisions and strikes, writes visited and answer, and touches nothing else; nothing is
+ * allocated. The time is linear in the bytes and the steps. The caller's part and threads are as above.
  *
  *     uint64_t answer[5];
- *     yengrazul_walk(image, image_len, prototype, decisions, decisions_len, budget, visited, visited_len, answer);
+ *     yengrazul_walk(image, image_len, prototype, decisions, decisions_len, strikes, strikes_len, budget, visited, visited_len, answer);
  *     if (answer[0] == YENGRAZUL_ACCEPTED && answer[4] != YENGRAZUL_ENDED_RETURN)
  *         printf("%s at instruction %" PRIu64 "\n", yengrazul_ended(answer[4]), answer[3]);
  */
-void yengrazul_walk(const uint8_t *image, size_t image_len, uint64_t prototype, const uint8_t *decisions, size_t decisions_len, uint64_t budget,
-                    uint8_t *visited, size_t visited_len, uint64_t answer[5]);
+void yengrazul_walk(const uint8_t *image, size_t image_len, uint64_t prototype, const uint8_t *decisions, size_t decisions_len,
+                    const uint64_t *strikes, size_t strikes_len, uint64_t budget, uint8_t *visited, size_t visited_len, uint64_t answer[5]);
 
 /* How a walk ended. */
 enum yengrazul_ending {
     YENGRAZUL_ENDED_RETURN = 0,    /* at a Return */
-    YENGRAZUL_ENDED_DECISIONS = 1, /* at a Test, and no decision is left */
-    YENGRAZUL_ENDED_BUDGET = 2     /* all steps of the budget are taken */
+    YENGRAZUL_ENDED_DECISIONS = 1, /* at a Test that is not struck, and no decision is left */
+    YENGRAZUL_ENDED_BUDGET = 2,    /* all steps of the budget are taken */
+    YENGRAZUL_ENDED_FAILED = 3,    /* struck, and no handler is registered; this step is not counted */
+    YENGRAZUL_ENDED_HANDLERS = 4   /* at a RegisterTryCatch that is not struck, and 256 handlers are registered; this step is not counted */
 };
 
 /* No prototype of an image has more instructions. */
@@ -161,7 +166,7 @@ void yengrazul_check(const uint8_t *tree, size_t tree_len, size_t work_len, uint
 #define YENGRAZUL_IMAGE_MOST ((size_t)256 * (13 + 255 * 5 + 32767 * 9) + (size_t)1024 * 11)
 
 /* answer[0], and when it is given. Of a tree: 21 comes before all; 1 to 6 are about the whole input, in that order, with 27 between 3 and 4; 7 to 17
-   are the first met as the tree is lowered; 18 comes last. Of an image: 19, then 20. Of a walk: those of its image, then 22, 23, 29. Of mending:
+   are the first met as the tree is lowered; 18 comes last. Of an image: 19, then 20. Of a walk: those of its image, then 22, 23, 25, 29. Of mending:
    those of the mended image, then 26, then 18. */
 enum yengrazul_refusal {
     YENGRAZUL_ACCEPTED = 0,
@@ -188,6 +193,7 @@ enum yengrazul_refusal {
     YENGRAZUL_MODE = 21,
     YENGRAZUL_PROTOTYPE = 22,
     YENGRAZUL_DECISION = 23,
+    YENGRAZUL_ORDER = 25,
     YENGRAZUL_LIST_ROOM = 26,
     YENGRAZUL_RETIRED = 27,
     YENGRAZUL_VISITS = 29
@@ -199,7 +205,7 @@ static inline const char *yengrazul_name(uint64_t number)
     static const char *const names[] = {
         "Accepted",   "Frame", "Many",  "Shape",  "Tree",      "Depth",      "Work",    "Registers", "Captures", "Undefined",
         "Redefined",  "Stray", "Empty", "Return", "Constants", "Prototypes", "Nesting", "Long",      "Room",     "Image frame",
-        "Image rule", "Mode",  "Prototype", "Decision", NULL,  NULL,         "List room", "Retired", NULL,       "Visits",
+        "Image rule", "Mode",  "Prototype", "Decision", NULL,  "Order",      "List room", "Retired", NULL,       "Visits",
     };
     return number < sizeof names / sizeof *names && names[number] ? names[number] : "Unknown";
 }
@@ -232,8 +238,8 @@ static inline const char *yengrazul_cause(uint64_t number)
         "the mode must be 0 or 1",
         "the image must have a prototype of this number",
         "a decision must be 0 or 1",
-        NULL, /* 24, 25 and 28 are given by no call */
-        NULL,
+        NULL, /* 24 and 28 are given by no call */
+        "a strike must be above the one before it",
         "the list must have eight bytes for each jump that is replaced",
         "classes are retired: mode 1 lowers none, and mode 0 lowers them as before",
         NULL,
@@ -245,7 +251,7 @@ static inline const char *yengrazul_cause(uint64_t number)
 /* answer[4] of a walk in words, for a line such as "17 steps, at instruction 9: at a Return". */
 static inline const char *yengrazul_ended(uint64_t ending)
 {
-    static const char *const endings[] = {"at a Return", "out of decisions", "out of budget"};
+    static const char *const endings[] = {"at a Return", "out of decisions", "out of budget", "failed, with no handler registered", "over 256 handlers registered"};
     return ending < sizeof endings / sizeof *endings ? endings[ending] : "no ending has this number";
 }
 

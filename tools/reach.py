@@ -1,4 +1,5 @@
-"""What walks reached of an image: instructions, script lines by their marks, and which way the Tests went; in words and for JSON."""
+"""What walks reached of an image: instructions, script lines by their marks, which way the Tests went, and which handlers were entered; in words and
+for JSON."""
 from imagefile import many, marked
 from walks import can_reach
 
@@ -9,10 +10,10 @@ TAILS = {NEXT_ONLY: "  only ever 0: to the next", SKIP_ONLY: "  only ever 1: ski
 
 
 class Part:
-    """A prototype: what was visited of it, what a walk can visit, which way each Test went and how often."""
+    """A prototype: what was visited of it, what a walk can visit, which way each Test went and how often, how often each handler was entered."""
 
     def __init__(self, code):
-        self.code, self.walks, self.visited, self.can, self.ways = code, 0, bytearray(len(code)), can_reach(code), {}
+        self.code, self.walks, self.visited, self.can, self.ways, self.entered = code, 0, bytearray(len(code)), can_reach(code), {}, {}
 
     def add(self, path):
         self.walks += 1
@@ -22,6 +23,8 @@ class Part:
             sums = self.ways.setdefault(index, [0, 0])
             sums[0] += times[0]
             sums[1] += times[1]
+        for index, times in path.entered.items():
+            self.entered[index] = self.entered.get(index, 0) + times
 
     def state(self, index):
         if not self.visited[index]:
@@ -39,6 +42,15 @@ class Part:
 
     def one_way(self):
         return [index for index in sorted(self.ways) if 0 in self.ways[index]]
+
+    def handlers(self):
+        """Each handler with the RegisterTryCatch instructions that name it, how often it was entered, and whether a strike can enter it."""
+        found = {}
+        for record in self.code:
+            if record["name"] == "RegisterTryCatch":
+                found.setdefault(record["to"], []).append(record["index"])
+        can = lambda at: at in self.can and self.code[at + 1]["name"] != "Return"
+        return [(handler, of, self.entered.get(handler, 0), any(map(can, of))) for handler, of in sorted(found.items())]
 
 
 class Coverage:
@@ -115,6 +127,12 @@ def one_way_line(number, part, index):
     return f"one way: prototype {number}, instruction {index}, {marked(part.code[index]['mark'])}: only ever {way}; {many(sum(times), 'time')}"
 
 
+def handler_line(number, part, handler, of, can):
+    registered = f"registered at {spans(of)}"
+    why = "" if can else "; no walk can enter it"
+    return f"handler never entered: prototype {number}, instruction {handler}, {marked(part.code[handler]['mark'])}, {registered}{why}"
+
+
 def summary(coverage):
     """The lines behind the listing."""
     yield from (part_line(number, part) for number, part in enumerate(coverage.parts))
@@ -123,6 +141,7 @@ def summary(coverage):
             yield f"script lines {what}: {spans(marks)}"
     for number, part in enumerate(coverage.parts):
         yield from (one_way_line(number, part, index) for index in part.one_way())
+        yield from (handler_line(number, part, handler, of, can) for handler, of, times, can in part.handlers() if not times)
     yield total_line(coverage.totals())
 
 
@@ -136,5 +155,7 @@ def records(coverage):
     for number, part in enumerate(coverage.parts):
         for index in part.one_way():
             yield {"kind": "one way", "prototype": number, "index": index, "mark": part.code[index]["mark"], "next": part.ways[index][0], "skip": part.ways[index][1]}
+        for handler, of, times, can in part.handlers():
+            yield {"kind": "handler", "prototype": number, "index": handler, "mark": part.code[handler]["mark"], "registered": of, "entered": times, "can": can}
     all_, reached, can = coverage.totals()
     yield {"kind": "total", "instructions": all_, "reached": reached, "can": can}

@@ -34,7 +34,7 @@ def page(name, covered, runs):
         f"<title>{escape(name)}: what the runs reached</title>\n<style>\n{STYLE}\n</style>\n</head>\n<body>\n",
         f"<h1>{escape(name)}: what the runs reached</h1>\n<p class=\"big\">{reach.percent(reached, can)}</p>\n",
         f"<p>{escape(reach.total_line(covered.totals()))}, by {imagefile.many(len(runs), 'walk')}.</p>\n{bar(reached, can, all_)}\n",
-        prototypes(covered), lines(covered), tests(covered), recorded(runs), listing(covered), "</body>\n</html>\n"])
+        prototypes(covered), lines(covered), tests(covered), handlers(covered), recorded(runs), listing(covered), "</body>\n</html>\n"])
 
 
 def bar(reached, can, all_):
@@ -78,10 +78,21 @@ def tests(covered):
     return heading + (table([" prototype", " instruction", " mark", " times", "only ever"], rows) if rows else "<p>None.</p>\n")
 
 
+def handlers(covered):
+    rows = []
+    for number, part in enumerate(covered.parts):
+        for handler, of, times, can in part.handlers():
+            mark = part.code[handler]["mark"]
+            state = "reached" if times else "never" if can else "dead"
+            told = str(times) if times else "never" if can else "no walk can enter it"
+            rows.append([number, handler, "none" if mark is None else mark, reach.spans(of), f'<span class="{state}">{told}</span>'])
+    return "<h2>Handlers</h2>\n" + (table([" prototype", " instruction", " mark", "registered at", "entered"], rows) if rows else "<p>None.</p>\n")
+
+
 def recorded(runs):
-    rows = [[escape(run.name()), run.walk.line, run.walk.prototype, run.path.steps, run.path.index, walks.ENDINGS[run.path.ending][1],
-             len(run.walk.decisions), len(run.walk.decisions) - run.path.used] for run in runs]
-    heads = ["run", " line", " prototype", " steps", " at instruction", "ended", " decisions", " left over"]
+    rows = [[escape(run.name()), run.line, run.asked.prototype, run.path.steps, run.path.index, walks.ENDINGS[run.path.ending][1],
+             len(run.asked.decisions), len(run.asked.decisions) - run.path.used, len(run.asked.strikes), len(run.asked.strikes) - run.path.struck] for run in runs]
+    heads = ["run", " line", " prototype", " steps", " at instruction", "ended", " decisions", " left over", " strikes", " left over"]
     return "<h2>Walks</h2>\n" + (table(heads, rows) if rows else "<p>None.</p>\n")
 
 

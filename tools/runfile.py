@@ -15,10 +15,10 @@ class Fault(Exception):
 
 
 class Walk:
-    """One recorded walk: the line that it starts at, its prototype, its decisions as bytes, its budget or None."""
+    """One recorded walk: the line that it starts at, its prototype, its decisions as bytes, its strikes as numbers, its budget or None."""
 
     def __init__(self, line, prototype):
-        self.line, self.prototype, self.decisions, self.budget = line, prototype, bytearray(), None
+        self.line, self.prototype, self.decisions, self.strikes, self.budget = line, prototype, bytearray(), [], None
 
 
 def read(data):
@@ -73,12 +73,14 @@ def last(line, words, walks):
 
 def belongs(line, words, walks):
     """A line that says more of the walk before it."""
-    if words[0] not in ("decisions", "budget"):
-        raise Fault(line, f"`{words[0][:40]}` starts no line; walk, decisions, budget and end do")
+    if words[0] not in ("decisions", "strikes", "budget"):
+        raise Fault(line, f"`{words[0][:40]}` starts no line; walk, decisions, strikes, budget and end do")
     if not walks:
         raise Fault(line, f"`{words[0]}` belongs to a walk, and no `walk` stands before it")
     if words[0] == "decisions":
         walks[-1].decisions += decisions(line, words[1:])
+    elif words[0] == "strikes":
+        walks[-1].strikes += [number(line, ["strikes", step]) for step in words[1:]]
     elif walks[-1].budget is None:
         walks[-1].budget = number(line, words)
     else:
@@ -96,5 +98,6 @@ def decisions(line, words):
 def number(line, words):
     """The one number behind a line's first word."""
     if len(words) != 2 or not re.fullmatch("[0-9]{1,20}", words[1]) or int(words[1]) > MOST:
-        raise Fault(line, f"`{words[0]}` wants one decimal number of 64 bits, not `{' '.join(words[1:])[:40]}`")
+        due = "decimal numbers" if words[0] == "strikes" else "one decimal number"
+        raise Fault(line, f"`{words[0]}` wants {due} of 64 bits, not `{' '.join(words[1:])[:40]}`")
     return int(words[1])

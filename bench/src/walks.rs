@@ -10,6 +10,8 @@ extern "C" {
         prototype: u64,
         decisions: *const u8,
         decisions_len: usize,
+        strikes: *const u64,
+        strikes_len: usize,
         budget: u64,
         visited: *mut u8,
         visited_len: usize,
@@ -85,8 +87,10 @@ fn plain(code: &[[u8; 4]], decisions: &[u8], visited: &mut [u8]) -> (usize, usiz
 fn proved(image: &[u8], decisions: &[u8], visited: &mut [u8]) -> [u64; 5] {
     let mut answer = [9; 5];
     let (lent, told) = (visited.as_mut_ptr(), answer.as_mut_ptr());
-    let (i, d, budget) = (image.as_ptr(), decisions.as_ptr(), STEPS as u64);
-    unsafe { yengrazul_walk(i, image.len(), 0, d, decisions.len(), budget, lent, visited.len(), told) };
+    let (i, d, none, budget) = (image.as_ptr(), decisions.as_ptr(), [0u64; 0], STEPS as u64);
+    unsafe {
+        yengrazul_walk(i, image.len(), 0, d, decisions.len(), none.as_ptr(), 0, budget, lent, visited.len(), told)
+    };
     answer
 }
 

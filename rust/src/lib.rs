@@ -18,7 +18,7 @@
 //! ```
 //!
 //! [`Image::read`] takes an image back, whoever wrote it, and gives its prototypes, instructions and constants; it is proved too. So is [`walk`],
-//! which follows a prototype by the decisions that a rig recorded; [`Coverage`] adds such runs up and tells what none of them reached.
+//! which follows a prototype by the decisions and failures that a rig recorded; [`Coverage`] adds such runs up and tells what none of them reached.
 //!
 //! [`mend`] mends an image that the Rust left on an old card: its stray jumps become returns, and are told. It is proved too.
 //!

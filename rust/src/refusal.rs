@@ -81,6 +81,7 @@ causes! {
     21 Mode "Mode" "the mode must be 0 or 1",
     22 Prototype "Prototype" "the image must have a prototype of this number",
     23 Decision "Decision" "a decision must be 0 or 1",
+    25 Order "Order" "a strike must be above the one before it",
     26 ListRoom "List room" "the list must have eight bytes for each jump that is replaced",
     27 Retired "Retired" "classes are retired: mode 1 lowers none, and mode 0 lowers them as before",
     29 Visits "Visits" "there must be a lent byte for each instruction of the prototype",
@@ -113,7 +114,8 @@ pub struct Refusal {
     pub cause: Cause,
     /// Where: nodes are counted from 0, in the order of their fields. Of [`Cause::Frame`] and [`Cause::ImageFrame`], the whole fields before it;
     /// of [`Cause::ImageRule`], the field of the image, or how many there are where the end comes too soon; of [`Cause::Decision`], the offset of
-    /// the decision; of [`Cause::Mode`], [`Cause::Prototype`], [`Cause::ListRoom`] and [`Cause::Visits`], 0.
+    /// the decision; of [`Cause::Order`], the strike's number in its list; of [`Cause::Mode`], [`Cause::Prototype`], [`Cause::ListRoom`] and
+    /// [`Cause::Visits`], 0.
     pub node: u64,
 }
 
@@ -126,6 +128,7 @@ impl Display for Refusal {
             }
             Cause::ImageRule => write!(f, "refused {cause} at field {node}: {}", cause.text()),
             Cause::Decision => write!(f, "refused {cause} at byte {node}: {}", cause.text()),
+            Cause::Order => write!(f, "refused {cause} at strike {node}: {}", cause.text()),
             Cause::Mode | Cause::Prototype | Cause::ListRoom | Cause::Visits => {
                 write!(f, "refused {cause}: {}", cause.text())
             }

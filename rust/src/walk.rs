@@ -1,4 +1,4 @@
-//! Walks of a prototype by recorded decisions, and what they reached, added up.
+//! Walks of a prototype by recorded decisions and failures, and what they reached, added up.
 use crate::{Cause, Image, Refusal};
 use std::collections::BTreeMap;
 use std::fmt::{Display, Formatter};
@@ -11,6 +11,8 @@ extern "C" {
         prototype: u64,
         decisions: *const u8,
         decisions_len: usize,
+        strikes: *const u64,
+        strikes_len: usize,
         budget: u64,
         visited: *mut u8,
         visited_len: usize,
@@ -24,14 +26,18 @@ extern "C" {
 pub enum Ending {
     /// At a Return.
     Return,
-    /// At a Test, and no decision was left.
+    /// At a Test that was not struck, and no decision was left.
     Decisions,
     /// All steps of the budget were taken.
     Budget,
+    /// Struck, and no handler was registered. The step is not counted.
+    Failed,
+    /// At a RegisterTryCatch that was not struck, and 256 handlers were registered. The step is not counted.
+    Handlers,
 }
 
 impl Ending {
-    const ALL: [Ending; 3] = [Ending::Return, Ending::Decisions, Ending::Budget];
+    const ALL: [Ending; 5] = [Ending::Return, Ending::Decisions, Ending::Budget, Ending::Failed, Ending::Handlers];
 }
 
 /// As in `out of decisions`.
@@ -41,6 +47,8 @@ impl Display for Ending {
             Ending::Return => "at a Return",
             Ending::Decisions => "out of decisions",
             Ending::Budget => "out of budget",
+            Ending::Failed => "failed, with no handler registered",
+            Ending::Handlers => "over 256 handlers registered",
         })
     }
 }
@@ -66,9 +74,14 @@ impl Display for Walk {
     }
 }
 
-/// Walks a prototype from its first instruction on: each Test takes the next decision, 0 to the next instruction, 1 past it, and a
-/// RegisterTryCatch goes on to the next. Any numbers and bytes may be asked about: a prototype that the image has not is refused by
-/// [`Cause::Prototype`], a decision that is neither 0 nor 1 by [`Cause::Decision`] at its offset. Decisions that are left over are no fault.
+/// Walks a prototype from its first instruction on: each Test takes the next decision, 0 to the next instruction, 1 past it; a
+/// RegisterTryCatch registers its handler and goes on to the next, and a DeregisterTryCatch takes the last one off. At the steps that `strikes`
+/// names, from 0 and rising, a failure strikes in place of the ordinary step: it enters the handler registered last, which stays registered, and uses
+/// no decision.
+///
+/// Any numbers and bytes may be asked about: a prototype that the image has not is refused by [`Cause::Prototype`], a decision that is neither
+/// 0 nor 1 by [`Cause::Decision`] at its offset, strikes that do not rise by [`Cause::Order`] at the first that does not. Decisions and strikes that
+/// are left over are no fault.
 ///
 /// ```
 /// use yengrazul::{walk, Ending, Image};
@@ -80,20 +93,22 @@ impl Display for Walk {
 ///     bytes.extend([0, 7]);
 /// }
 /// let image = Image::read(&bytes)?;
-/// let done = walk(&image, 0, &[0, 0, 1], 100)?;
+/// let done = walk(&image, 0, &[0, 0, 1], &[], 100)?;
 /// assert_eq!((done.steps, done.index, done.ending), (5, 2, Ending::Return));
-/// assert_eq!(walk(&image, 0, &[1], 100)?.visited, [true, false, true]);
-/// assert_eq!(walk(&image, 0, &[0, 0], 100)?.to_string(), "4 steps, at instruction 0: out of decisions");
+/// assert_eq!(walk(&image, 0, &[1], &[], 100)?.visited, [true, false, true]);
+/// assert_eq!(walk(&image, 0, &[0, 0], &[], 100)?.to_string(), "4 steps, at instruction 0: out of decisions");
+/// // a failure at step 3, and there is no handler
+/// assert_eq!(walk(&image, 0, &[0, 0], &[3], 100)?.ending, Ending::Failed);
 /// # Ok::<(), yengrazul::Refusal>(())
 /// ```
-pub fn walk(image: &Image, prototype: u64, decisions: &[u8], budget: u64) -> Result<Walk, Refusal> {
+pub fn walk(image: &Image, prototype: u64, decisions: &[u8], strikes: &[u64], budget: u64) -> Result<Walk, Refusal> {
     let place = usize::try_from(prototype).ok();
     let instructions = place.and_then(|at| image.prototypes().nth(at)).map_or(0, |found| found.instructions().count());
     let mut visited = vec![0; instructions];
     // an answer that is not written is none
     let mut answer = [u64::MAX; 5];
     let bytes = image.as_bytes();
-    // Safe: image and decisions are lent for the call, visited and answer are its own, and nothing else is touched.
+    // Safe: image, decisions and strikes are lent for the call, visited and answer are its own, and nothing else is touched.
     unsafe {
         yengrazul_walk(
             bytes.as_ptr(),
@@ -101,6 +116,8 @@ pub fn walk(image: &Image, prototype: u64, decisions: &[u8], budget: u64) -> Res
             prototype,
             decisions.as_ptr(),
             decisions.len(),
+            strikes.as_ptr(),
+            strikes.len(),
             budget,
             visited.as_mut_ptr(),
             visited.len(),
@@ -129,7 +146,7 @@ fn told([number, place, steps, index, ending]: [u64; 5], visited: Vec<u8>, budge
 /// let image = lower(&[0x1E, 0, 0])?;
 /// let mut coverage = Coverage::new(&image);
 /// assert_eq!(coverage.to_string(), "prototype 0: 0 of 1 instructions reached; never: 0\n");
-/// coverage.walk(0, &[], 10)?;
+/// coverage.walk(0, &[], &[], 10)?;
 /// assert_eq!((coverage.reached(), coverage.instructions()), (1, 1));
 /// assert_eq!(coverage.to_string(), "prototype 0: 1 of 1 instructions reached\n");
 /// # Ok::<(), yengrazul::Refusal>(())
@@ -148,8 +165,8 @@ impl<'i> Coverage<'i> {
     }
 
     /// Walks as [`walk`] does and adds what was visited; a walk that is refused adds nothing.
-    pub fn walk(&mut self, prototype: u64, decisions: &[u8], budget: u64) -> Result<Walk, Refusal> {
-        let done = walk(self.image, prototype, decisions, budget)?;
+    pub fn walk(&mut self, prototype: u64, decisions: &[u8], strikes: &[u64], budget: u64) -> Result<Walk, Refusal> {
+        let done = walk(self.image, prototype, decisions, strikes, budget)?;
         if let Some(part) = usize::try_from(prototype).ok().and_then(|at| self.visited.get_mut(at)) {
             join(part, &done.visited);
         }

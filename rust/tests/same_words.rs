@@ -44,11 +44,11 @@ fn of_the_command_line() {
 #[test]
 fn of_a_walk() {
     let (words, header) = (text_of("tools/walks.py"), text_of("include/yengrazul.h"));
-    for cause in [Cause::Prototype, Cause::Decision, Cause::Visits] {
+    for cause in [Cause::Prototype, Cause::Decision, Cause::Order, Cause::Visits] {
         let row = format!("{}: (\"{}\", \"{}\")", cause.number(), cause.name(), cause.text());
         assert!(words.contains(&row), "{row}");
     }
-    let endings = [Ending::Return, Ending::Decisions, Ending::Budget];
+    let endings = [Ending::Return, Ending::Decisions, Ending::Budget, Ending::Failed, Ending::Handlers];
     let texts = endings.map(|ending| ending.to_string());
     assert!(quoted(&header).windows(texts.len()).any(|window| window == texts), "the endings in their order");
     let from = words.find("ENDINGS = [").expect("the table");
@@ -77,12 +77,12 @@ fn sizes_of_the_header() {
 
 #[test]
 fn numbers_are_those_of_the_documents() {
-    let known: Vec<u64> = (1..=23).chain([26, 27, 29]).collect();
+    let known: Vec<u64> = (1..=23).chain([25, 26, 27, 29]).collect();
     assert_eq!(Cause::ALL.map(Cause::number).as_slice(), known);
     for (number, cause) in known.into_iter().zip(Cause::ALL) {
         assert_eq!(Cause::from_number(number), Some(cause));
     }
-    let unknown = [0, 24, 25, 28, 30, 21 + 256, u64::MAX];
+    let unknown = [0, 24, 28, 30, 21 + 256, u64::MAX];
     assert!(unknown.into_iter().all(|number| Cause::from_number(number).is_none()));
 }
 
@@ -97,5 +97,6 @@ fn a_refusal_as_a_line() {
     assert!(of(Cause::ImageFrame, 3).starts_with("refused 19 Image frame after 3 whole fields: a header"));
     assert!(of(Cause::ImageRule, 3).starts_with("refused 20 Image rule at field 3: the image's fields"));
     assert_eq!(of(Cause::Decision, 4), "refused 23 Decision at byte 4: a decision must be 0 or 1");
+    assert_eq!(of(Cause::Order, 2), "refused 25 Order at strike 2: a strike must be above the one before it");
     assert_eq!(of(Cause::Prototype, 0), "refused 22 Prototype: the image must have a prototype of this number");
 }

@@ -1,4 +1,4 @@
-//! Walks through the library: endings in their order, decisions, refusals with their places, and runs added up.
+//! Walks through the library: endings in their order, decisions, strikes, refusals with their places, and runs added up.
 use yengrazul::{walk, Cause, Coverage, Ending, Image};
 
 mod common;
@@ -20,7 +20,11 @@ const BACK: [u8; 4] = [3, 0, 255, 255];
 const RETURN: [u8; 4] = [20, 0, 0, 0];
 
 fn told(image: &Image, decisions: &[u8], budget: u64) -> (u64, usize, Ending) {
-    let done = walk(image, 0, decisions, budget).expect("a walk");
+    struck(image, decisions, &[], budget)
+}
+
+fn struck(image: &Image, decisions: &[u8], strikes: &[u64], budget: u64) -> (u64, usize, Ending) {
+    let done = walk(image, 0, decisions, strikes, budget).expect("a walk");
     (done.steps, done.index, done.ending)
 }
 
@@ -38,19 +42,46 @@ fn endings_in_their_order() {
     assert_eq!(told(&image(&[[3, 0, 0, 0], RETURN]), &[], 1000), (1000, 0, Ending::Budget));
 }
 
+/// 0 RegisterTryCatch to 4; 1 Test; 2 Jmp to 5; 3 Return; 4 DeregisterTryCatch; 5 Test; 6 Jmp to 5; 7 Return.
+#[test]
+fn a_strike_enters_the_handler_registered_last() {
+    let guarded = image(&[[48, 0, 0, 4], TEST, [3, 0, 0, 3], RETURN, [49, 0, 0, 0], TEST, BACK, RETURN]);
+    assert_eq!(struck(&guarded, &[1], &[], 9), (2, 3, Ending::Return));
+    // at a Test: no decision is asked for or used
+    assert_eq!(struck(&guarded, &[], &[1], 9), (3, 5, Ending::Decisions));
+    assert_eq!(struck(&guarded, &[1], &[1], 9), (4, 7, Ending::Return));
+    // the handler stays registered while it is entered, and is taken off by its DeregisterTryCatch
+    assert_eq!(struck(&guarded, &[1], &[1, 2], 9), (5, 7, Ending::Return));
+    assert_eq!(struck(&guarded, &[1], &[1, 3], 9), (3, 5, Ending::Failed));
+    // struck before it registers; at a Return nothing strikes; the budget is judged before a failure
+    assert_eq!(struck(&guarded, &[1], &[0], 9), (0, 0, Ending::Failed));
+    assert_eq!(struck(&guarded, &[1], &[2], 9), (2, 3, Ending::Return));
+    assert_eq!(struck(&guarded, &[1], &[0], 0), (0, 0, Ending::Budget));
+}
+
+#[test]
+fn handlers_are_256_at_most() {
+    let again = image(&[[48, 0, 0, 2], BACK, RETURN]);
+    assert_eq!(struck(&again, &[], &[], 10_000), (512, 0, Ending::Handlers));
+    assert_eq!(struck(&again, &[], &[], 512), (512, 0, Ending::Budget));
+    assert_eq!(struck(&again, &[], &[512], 10_000), (513, 2, Ending::Return));
+}
+
 #[test]
 fn refusals_with_their_places() {
     let one = image(&[TEST, BACK, RETURN]);
-    let refused = |prototype, decisions: &[u8]| {
-        let refusal = walk(&one, prototype, decisions, 9).expect_err("refused");
+    let refused = |prototype, decisions: &[u8], strikes: &[u64]| {
+        let refusal = walk(&one, prototype, decisions, strikes, 9).expect_err("refused");
         (refusal.cause, refusal.node)
     };
     for prototype in [1, 256, 1 << 32, u64::MAX] {
-        assert_eq!(refused(prototype, &[2]), (Cause::Prototype, 0));
+        assert_eq!(refused(prototype, &[2], &[1, 1]), (Cause::Prototype, 0));
     }
-    assert_eq!(refused(0, &[2]), (Cause::Decision, 0));
+    assert_eq!(refused(0, &[2], &[1, 1]), (Cause::Decision, 0));
     // also behind what the walk uses
-    assert_eq!(refused(0, &[1, 0, 1, 255, 2]), (Cause::Decision, 3));
+    assert_eq!(refused(0, &[1, 0, 1, 255, 2], &[]), (Cause::Decision, 3));
+    assert_eq!(refused(0, &[1], &[0, 7, u64::MAX, u64::MAX]), (Cause::Order, 3));
+    assert_eq!(refused(0, &[1], &[5, 4, 3]), (Cause::Order, 1));
 }
 
 #[test]
@@ -58,11 +89,11 @@ fn runs_are_added_up() {
     let one = image(&[TEST, [3, 0, 0, 2], RETURN, TEST, BACK, RETURN]);
     let mut coverage = Coverage::new(&one);
     assert_eq!(coverage.marks_never(), [0, 10, 20, 30, 40, 50]);
-    coverage.walk(0, &[1], 9).expect("a walk");
+    coverage.walk(0, &[1], &[], 9).expect("a walk");
     assert_eq!(coverage.to_string(), "prototype 0: 2 of 6 instructions reached; never: 1, 3-5\n");
-    assert!(coverage.walk(0, &[2], 9).is_err());
+    assert!(coverage.walk(0, &[2], &[], 9).is_err());
     let mut other = Coverage::new(&one);
-    other.walk(0, &[0, 1], 9).expect("a walk");
+    other.walk(0, &[0, 1], &[], 9).expect("a walk");
     coverage.add(&other);
     assert_eq!(coverage.never(0).collect::<Vec<_>>(), [4]);
     assert_eq!((coverage.marks_never(), coverage.reached(), coverage.instructions()), (vec![40], 5, 6));
@@ -79,7 +110,7 @@ fn the_example() {
     let mut coverage = Coverage::new(&image);
     let runs: [(u64, &[u8]); 4] = [(1, &[]), (0, &[1, 0, 0, 1, 0, 0, 0]), (0, &[1, 1, 1, 0, 0, 0]), (0, &[0])];
     for (prototype, decisions) in runs {
-        assert_eq!(coverage.walk(prototype, decisions, 1000).expect("a walk").ending, Ending::Return);
+        assert_eq!(coverage.walk(prototype, decisions, &[], 1000).expect("a walk").ending, Ending::Return);
     }
     for line in coverage.to_string().lines() {
         assert!(report.lines().any(|found| found == line || found.starts_with(&format!("{line}; "))), "{line}");

@@ -148,14 +148,15 @@ void yengrazul_read(const uint8_t *image, size_t image_len, uint64_t answer[2])
     keep(i, image), fetch(a, answer);
 }
 
-void yengrazul_walk(const uint8_t *image, size_t image_len, uint64_t prototype, const uint8_t *decisions, size_t decisions_len, uint64_t budget,
-                    uint8_t *visited, size_t visited_len, uint64_t answer[5])
+void yengrazul_walk(const uint8_t *image, size_t image_len, uint64_t prototype, const uint8_t *decisions, size_t decisions_len,
+                    const uint64_t *strikes, size_t strikes_len, uint64_t budget, uint8_t *visited, size_t visited_len, uint64_t answer[5])
 {
     if (!child.shared) start();
     uint64_t end = 0;
-    struct lent i = lay(&end, image, image_len), d = lay(&end, decisions, decisions_len), v = lay(&end, visited, visited_len), a = lay(&end, answer, 8 * 5);
-    ASK(WALK, i.at, image_len, prototype, d.at, decisions_len, budget, v.at, visited_len, a.at);
-    keep(i, image), keep(d, decisions), fetch(v, visited), fetch(a, answer);
+    struct lent i = lay(&end, image, image_len), d = lay(&end, decisions, decisions_len), s = lay(&end, strikes, 8 * (uint64_t)strikes_len);
+    struct lent v = lay(&end, visited, visited_len), a = lay(&end, answer, 8 * 5);
+    ASK(WALK, i.at, image_len, prototype, d.at, decisions_len, s.at, strikes_len, budget, v.at, visited_len, a.at);
+    keep(i, image), keep(d, decisions), keep(s, strikes), fetch(v, visited), fetch(a, answer);
 }
 
 void yengrazul_mend(const uint8_t *image, size_t image_len, uint8_t *out, size_t out_len, uint8_t *list, size_t list_len, uint64_t answer[4])

@@ -22,7 +22,7 @@ static u8 *shared;
 void yengrazul_lower(const u8 *, u64, u32 *, u64, u8 *, u64, u64, u64 *);
 void yengrazul_check(const u8 *, u64, u64, u64, u64 *);
 void yengrazul_read(const u8 *, u64, u64 *);
-void yengrazul_walk(const u8 *, u64, u64, const u8 *, u64, u64, u8 *, u64, u64 *);
+void yengrazul_walk(const u8 *, u64, u64, const u8 *, u64, const u64 *, u64, u64, u8 *, u64, u64 *);
 void yengrazul_mend(const u8 *, u64, u8 *, u64, u8 *, u64, u64 *);
 
 static void __attribute__((noinline)) call(u64 which, const u64 *r)
@@ -31,7 +31,7 @@ static void __attribute__((noinline)) call(u64 which, const u64 *r)
     case 0: yengrazul_lower(BYTES(0), r[1], WORDS(2), r[3], BYTES(4), r[5], r[6], TOLD(7)); break;
     case 1: yengrazul_check(BYTES(0), r[1], r[2], r[3], TOLD(4)); break;
     case 2: yengrazul_read(BYTES(0), r[1], TOLD(2)); break;
-    case 3: yengrazul_walk(BYTES(0), r[1], r[2], BYTES(3), r[4], r[5], BYTES(6), r[7], TOLD(8)); break;
+    case 3: yengrazul_walk(BYTES(0), r[1], r[2], BYTES(3), r[4], TOLD(5), r[6], r[7], BYTES(8), r[9], TOLD(10)); break;
     case 4: yengrazul_mend(BYTES(0), r[1], BYTES(2), r[3], BYTES(4), r[5], TOLD(6)); break;
     default: _exit(3);
     }

@@ -11,10 +11,11 @@ use lib.ListN.{length}
 use Rattle.meaning.specs.State.{Proto}
 use Rattle.meaning.specs.Images.{Image}
 use Rattle.meaning.specs.Image.{written}
-use Rattle.meaning.specs.Steps.{inst-at, Step, Walk}
+use Rattle.meaning.specs.Steps.{inst-at, Step, Amended, Walk}
 use Rattle.meaning.specs.Safety.{All, Facts, Stands}
 use Rattle.meaning.specs.Rules.{let-pass}
 use Rattle.meaning.specs.Reader.{read-as, taken}
+use Rattle.meaning.proofs.Safe.Walk.{stands-01}
 use Rattle.meaning.proofs.Images.Fielded.{Bytes}
 use Rattle.meaning.proofs.Images.Assembled.{Tagged, HeaderFits}
 use Rattle.meaning.proofs.Images.Back.{taken-is, read-back}
@@ -40,8 +41,12 @@ module _ (tag : ℕ) (ok : Tagged tag) (bytes : List ℕ) (are : Bytes bytes) (i
     pub taken-facts : (i : ℕ) → i < length (p .code) → let-pass p i (inst-at (p .code) i) ≡ false → Facts (im .constants) before p i (inst-at (p .code) i)
     taken-facts i l spared = lawful-facts (im .constants) before p i (each im (taken-is tag bytes im e .facts) before p after at i l) spared
 
-    -- every walk of 01's steps stays inside, and meets the facts where it stands
-    pub taken-stands : (o : Option ℕ) → Walk (Step (p .code)) 0 o → Stands (im .constants) before p (Step (p .code)) o
+    -- every walk of the amended steps stays inside, and meets the facts where it stands
+    pub taken-stands : (o : Option ℕ) → Walk (Amended (p .code)) 0 o → Stands (im .constants) before p (Amended (p .code)) o
     taken-stands =
         let h = all-at (HeaderFits tag) before p after (subst (All (HeaderFits tag)) at (taken-good tag ok bytes im are e .numbers)) in
         stands im (taken-is tag bytes im e .facts) before p after at (h .some)
+
+    -- and so does every walk of the steps of 01 alone
+    pub taken-stands-01 : (o : Option ℕ) → Walk (Step (p .code)) 0 o → Stands (im .constants) before p (Step (p .code)) o
+    taken-stands-01 = stands-01 (im .constants) before p taken-stands

@@ -1,4 +1,4 @@
--- Walks with the answer and the bytes that are due: the image, prototype, decisions, budget and number of lent bytes go in.
+-- Walks with the answer and the bytes that are due: the image, prototype, decisions, strikes, budget and number of lent bytes go in.
 use Prim.Native.Nat.{ℕ}
 use mathlib.Core.Path.{_≡_, refl}
 use mathlib.Core.List.{List, [], _∷_, _++_, map}
@@ -18,13 +18,18 @@ pub record Case : Type 0 where
   pub image : List ℕ
   pub prototype : ℕ
   pub decisions : List ℕ
+  pub strikes : List ℕ
   pub budget : ℕ
   pub lent : ℕ
   pub answer : List ℕ
   pub bytes : List ℕ
 
+abbrev struck : (image : List ℕ) → (prototype : ℕ) → (decisions strikes : List ℕ) → (budget lent : ℕ) → (answer bytes : List ℕ) → Case
+struck i q ds ss b n a v = record { image = i; prototype = q; decisions = ds; strikes = ss; budget = b; lent = n; answer = a; bytes = v }
+
+-- without a failure
 abbrev case : (image : List ℕ) → (prototype : ℕ) → (decisions : List ℕ) → (budget lent : ℕ) → (answer bytes : List ℕ) → Case
-case i q ds b n a v = record { image = i; prototype = q; decisions = ds; budget = b; lent = n; answer = a; bytes = v }
+case i q ds b n a v = struck i q ds [] b n a v
 
 -- five numbers
 abbrev numbers : WalkAnswer → List ℕ
@@ -34,7 +39,7 @@ abbrev told : Walking → (lent : ℕ) → List ℕ × List ℕ
 told w n = (numbers (walk-answer w), lent-bytes w n)
 
 abbrev given : Case → List ℕ × List ℕ
-given c = told (walk-image 0x43 (c .image) (c .prototype) (c .decisions) (c .budget) (c .lent)) (c .lent)
+given c = told (walk-image 0x43 (c .image) (c .prototype) (c .decisions) (c .strikes) (c .budget) (c .lent)) (c .lent)
 
 abbrev due : Case → List ℕ × List ℕ
 due c = (c .answer, c .bytes)
@@ -95,3 +100,50 @@ rows =
 pub walk-rows : map given rows ≡ map due rows
 unfolding walking
 walk-rows = refl
+
+-- ---- failures
+
+abbrev tries : List ℕ
+tries = join (
+    -- 0: a try around a try, whose handlers stand at 7 and 5; each takes its own off
+    header 1 10 ∷ op RegisterTryCatch 0 0 7 ∷ op RegisterTryCatch 0 0 4 ∷ op Test 0 0 0 ∷ op DeregisterTryCatch 0 0 0 ∷ op Jmp 0 0 2 ∷ op GetExcept 0 0 0 ∷
+    op DeregisterTryCatch 0 0 0 ∷ op GetExcept 0 0 0 ∷ op DeregisterTryCatch 0 0 0 ∷ op Return 0 0 0 ∷
+    -- 1: a handler registered in every round
+    header 0 2 ∷ op RegisterTryCatch 0 0 0 ∷ op Jmp 0 255 255 ∷
+    -- 2: one taken off where none is registered
+    header 0 2 ∷ op DeregisterTryCatch 0 0 0 ∷ op Return 0 0 0 ∷
+    -- 3: a handler that asks once more
+    header 1 5 ∷ op RegisterTryCatch 0 0 1 ∷ op Test 0 0 0 ∷ op Jmp 0 0 2 ∷ op Jmp 0 255 254 ∷ op Return 0 0 0 ∷ [])
+
+abbrev failures : List Case
+failures =
+    -- the handler registered last is entered, and asks for no decision at the Test; it stays, so that the first DeregisterTryCatch takes it off
+    struck tries 0 [] (2 ∷ []) 100 10 (0 ∷ 0 ∷ 7 ∷ 9 ∷ 0 ∷ []) (1 ∷ 1 ∷ 1 ∷ 0 ∷ 0 ∷ 1 ∷ 1 ∷ 1 ∷ 1 ∷ 1 ∷ []) ∷
+    -- the decision is there for the next Test
+    struck tries 3 (0 ∷ []) (1 ∷ []) 100 5 (0 ∷ 0 ∷ 4 ∷ 4 ∷ 0 ∷ []) (1 ∷ 1 ∷ 1 ∷ 0 ∷ 1 ∷ []) ∷
+    -- a second failure in the handler enters it once more
+    struck tries 0 [] (2 ∷ 3 ∷ []) 100 10 (0 ∷ 0 ∷ 8 ∷ 9 ∷ 0 ∷ []) (1 ∷ 1 ∷ 1 ∷ 0 ∷ 0 ∷ 1 ∷ 1 ∷ 1 ∷ 1 ∷ 1 ∷ []) ∷
+    -- behind the DeregisterTryCatch the other handler is the last; a struck one takes nothing off
+    struck tries 0 [] (2 ∷ 5 ∷ []) 100 10 (0 ∷ 0 ∷ 8 ∷ 9 ∷ 0 ∷ []) (1 ∷ 1 ∷ 1 ∷ 0 ∷ 0 ∷ 1 ∷ 1 ∷ 1 ∷ 1 ∷ 1 ∷ []) ∷
+    struck tries 0 [] (2 ∷ 4 ∷ []) 5 10 (0 ∷ 0 ∷ 5 ∷ 5 ∷ 2 ∷ []) (1 ∷ 1 ∷ 1 ∷ 0 ∷ 0 ∷ 1 ∷ 1 ∷ 0 ∷ 0 ∷ 0 ∷ []) ∷
+    -- a struck RegisterTryCatch: the failure enters the handler that was registered before
+    struck tries 0 [] (1 ∷ []) 2 10 (0 ∷ 0 ∷ 2 ∷ 7 ∷ 2 ∷ []) (1 ∷ 1 ∷ 0 ∷ 0 ∷ 0 ∷ 0 ∷ 0 ∷ 1 ∷ 0 ∷ 0 ∷ []) ∷
+    -- it registers nothing itself, so that none is registered here; Failed is not counted, and is told behind the budget
+    struck tries 0 [] (0 ∷ []) 1 10 (0 ∷ 0 ∷ 0 ∷ 0 ∷ 3 ∷ []) (1 ∷ replicate 9 0) ∷
+    struck tries 0 [] (0 ∷ []) 0 10 (0 ∷ 0 ∷ 0 ∷ 0 ∷ 2 ∷ []) (1 ∷ replicate 9 0) ∷
+    -- without a strike the Test asks, before the budget
+    struck tries 0 [] (3 ∷ []) 2 10 (0 ∷ 0 ∷ 2 ∷ 2 ∷ 1 ∷ []) (1 ∷ 1 ∷ 1 ∷ replicate 7 0) ∷
+    -- a Return ends it, struck or not
+    struck tries 2 [] (1 ∷ []) 1 2 (0 ∷ 0 ∷ 1 ∷ 1 ∷ 0 ∷ []) (1 ∷ 1 ∷ []) ∷
+    -- 256 handlers and no more, told behind the budget
+    struck tries 1 [] [] 600 2 (0 ∷ 0 ∷ 512 ∷ 0 ∷ 4 ∷ []) (1 ∷ 1 ∷ []) ∷
+    struck tries 1 [] [] 512 2 (0 ∷ 0 ∷ 512 ∷ 0 ∷ 2 ∷ []) (1 ∷ 1 ∷ []) ∷
+    -- 25 at the entry's number, behind 23 and before 29; the first may be 0
+    struck tries 0 (0 ∷ 2 ∷ []) (3 ∷ 3 ∷ []) 1 0 (23 ∷ 1 ∷ 0 ∷ 0 ∷ 0 ∷ []) [] ∷
+    struck tries 0 [] (0 ∷ 3 ∷ 3 ∷ 1 ∷ []) 1 2 (25 ∷ 2 ∷ 0 ∷ 0 ∷ 0 ∷ []) (0 ∷ 0 ∷ []) ∷
+    struck tries 0 [] (0 ∷ 3 ∷ []) 1 2 (29 ∷ 0 ∷ 0 ∷ 0 ∷ 0 ∷ []) (0 ∷ 0 ∷ []) ∷
+    []
+
+pub failure-rows : map given failures ≡ map due failures
+unfolding walking
+failure-rows = refl

@@ -14,7 +14,7 @@ use Rattle.meaning.specs.Read.{read-program}
 use Rattle.meaning.specs.State.{Capture, Proto, State, done, among}
 use Rattle.meaning.specs.Lower.{lower-program}
 use Rattle.meaning.specs.Image.{image}
-use Rattle.meaning.specs.Steps.{inst-at, opcode-at, Step, Walk}
+use Rattle.meaning.specs.Steps.{inst-at, opcode-at, Step, Amended, Walk}
 use Rattle.meaning.specs.declared.Instruction.{Instruction}
 use Rattle.meaning.specs.declared.Outcome.the-variants.{Accepted}
 
@@ -79,7 +79,7 @@ Inside n (some i) = i < n
 
 -- of instruction x, at index i of the prototype p, which stands behind the prototypes `earlier`
 pub record Facts (constants : List Constant) (earlier : List Proto) (p : Proto) (i : ℕ) (x : Instruction) : Type 0 where
-  -- "Allowed steps": none leads out of the prototype
+  -- "Allowed steps": none of 01's leads out of the prototype
   pub steps : (o : Option ℕ) → Step (p .code) i o → Inside (length (p .code)) o
   -- a is 1 or 2 in a continue or break that was not patched: none is left
   pub jump : x .opcode ≡ Jmp → x .a ≡ 0
@@ -119,8 +119,18 @@ pub record Lowered (mode : ℕ) (tree : List ℕ) (work : ℕ) (bytes : List ℕ
   pub lowering : lower-program mode (nodes - 1) (read-program (fields tree)) ≡ done main state
   pub image-of : bytes ≡ image state
 
--- demand 3: every prototype is safe, and every walk from its first instruction stands within it
-pub record Demand3 (s : State) : Type 0 where
+-- every prototype is safe, no step from any of its instructions leads out of it, and every walk from its first instruction stands within it
+pub record Demand3-over (step : List Instruction → ℕ → Option ℕ → Type 0) (s : State) : Type 0 where
   pub safe : (before : List Proto) (p : Proto) (after : List Proto) → s .prototypes ≡ before ++ p ∷ after → Safe (s .constants) before p
+  pub stays : (before : List Proto) (p : Proto) (after : List Proto) → s .prototypes ≡ before ++ p ∷ after
+      → (i : ℕ) (o : Option ℕ) → step (p .code) i o → Inside (length (p .code)) o
   pub walks : (before : List Proto) (p : Proto) (after : List Proto) → s .prototypes ≡ before ++ p ∷ after
-      → (o : Option ℕ) → Walk (Step (p .code)) 0 o → Stands (s .constants) before p (Step (p .code)) o
+      → (o : Option ℕ) → Walk (step (p .code)) 0 o → Stands (s .constants) before p (step (p .code)) o
+
+-- demand 3: "Demand 3 reads over these steps from now on" (E8)
+abbrev pub Demand3 : State → Type 0
+Demand3 s = Demand3-over Amended s
+
+-- the older one, over the steps of 01 alone
+abbrev pub Demand3-01 : State → Type 0
+Demand3-01 s = Demand3-over Step s

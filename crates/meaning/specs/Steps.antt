@@ -1,4 +1,4 @@
--- 01, "Allowed steps": where control may go within a prototype.
+-- 01, "Allowed steps", and E8's amendment: where control may go within a prototype.
 use Prim.Native.Nat.{ℕ, _+_, _-_, _<_}
 use mathlib.Core.Path.{_≡_}
 use mathlib.Core.Bool.{cond}
@@ -21,7 +21,7 @@ opcode-at code i = inst-at code i .opcode
 abbrev pub target : (i offset : ℕ) → Option ℕ
 target i w = cond (ltb w 32768) (some (i + w)) (cond (leb 65536 (i + w)) (some (i + w - 65536)) none)
 
--- an allowed step from instruction i, and where it leads
+-- a step of 01 from instruction i, and where it leads
 pub data Step (code : List Instruction) (i : ℕ) : Option ℕ → Type 0 where
   -- "to the next instruction", but from Jmp, and "none after Return"
   next : i < length code → (opcode-at code i ≡ Jmp → ⊥) → (opcode-at code i ≡ Return → ⊥) → Step code i (some (i + 1))
@@ -31,6 +31,13 @@ pub data Step (code : List Instruction) (i : ℕ) : Option ℕ → Type 0 where
   skip : i < length code → opcode-at code i ≡ Test → Step code i (some (i + 2))
   -- "RegisterTryCatch to the next or to its index plus bx"
   handler : i < length code → opcode-at code i ≡ RegisterTryCatch → Step code i (some (i + bx (inst-at code i)))
+
+-- the steps as E8 amends them
+pub data Amended (code : List Instruction) (i : ℕ) : Option ℕ → Type 0 where
+  -- those of 01
+  ordinary : {o : Option ℕ} → Step code i o → Amended code i o
+  -- "from any instruction other than Return, control may also go to the handler of any RegisterTryCatch in the same prototype"
+  struck : (k : ℕ) → i < length code → (opcode-at code i ≡ Return → ⊥) → k < length code → opcode-at code k ≡ RegisterTryCatch → Amended code i (some (k + bx (inst-at code k)))
 
 -- any number of steps from instruction i, and where they lead
 pub data Walk (step : ℕ → Option ℕ → Type 0) (i : ℕ) : Option ℕ → Type 0 where

@@ -88,11 +88,13 @@ pub struct Due {
     pub constants: usize,
 }
 
-// How a walk ended (document 02, E4): at a Return, out of decisions, out of budget.
+// How a walk ended (document 02, E4 and E8): at a Return, out of decisions, out of budget; a failure with no handler registered, a 257th handler.
 pub enum Ending {
     AtReturn,
     NoDecision,
     NoBudget,
+    Failed,
+    Handlers,
 }
 
 // What a caller is told of a walk: 0 or the cause's number, the place; the steps taken, the index where it stood, and how it ended.

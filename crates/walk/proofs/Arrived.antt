@@ -4,10 +4,11 @@ use mathlib.Core.Bool.{true}
 use mathlib.Core.Option.{none}
 use mathlib.Core.Logic.{⊎-elim}
 use mathlib.Core.List.{List, [], _∷_, _++_}
-use Prim.Native.Nat.{ℕ, zero, suc, _+_, _*_, _<_, _≤_}
+use Prim.Native.Nat.{ℕ, zero, suc, _+_, _-_, _*_, _<_, _≤_}
 use native.Mathlib.Omega.{arith}
 use lib.ListN.{length, getD, replicate}
-use borrow.Author.Tests.{lt-ltb, le-ltb, leb-true}
+use lib.Dec.{ltb}
+use borrow.Author.Tests.{lt-ltb, le-ltb, ltb-true, leb-true, ne-eqb}
 use Rattle.meaning.specs.Base.{lowest}
 use Rattle.meaning.specs.Fields.{word-at, whole, fields}
 use Rattle.meaning.specs.State.{Proto}
@@ -17,10 +18,10 @@ use Rattle.meaning.specs.Images.{Image, image-of, inst-size}
 use Rattle.meaning.specs.Rules.{all, inside, leads}
 use Rattle.meaning.specs.Reader.{Read, refused, taken, broken, read-as, read-outcome}
 use Rattle.meaning.specs.Answer.{cause-number}
-use Rattle.meaning.specs.Paths.{point, Path, path, visits}
-use Rattle.meaning.specs.Walker.{Walking, stopped, walked, code-of, fair, with-room, walk-in, walk-read, ending-number, walk-answer, lent-bytes}
+use Rattle.meaning.specs.Paths.{start, Path, path, visits}
+use Rattle.meaning.specs.Walker.{Walking, stopped, walked, code-of, fair, rises, Asked, with-room, walk-in, walk-read, ending-number, walk-answer, lent-bytes}
 use Rattle.meaning.specs.declared.Cause.{Cause}
-use Rattle.meaning.specs.declared.Cause.the-variants.{Prototype, Decision, Visits}
+use Rattle.meaning.specs.declared.Cause.the-variants.{Prototype, Decision, Order, Visits}
 use Rattle.meaning.specs.declared.Instruction.{Instruction}
 use Rattle.meaning.specs.declared.Outcome.the-variants.{Accepted, Refused}
 use Rattle.meaning.specs.declared.WalkAnswer.{WalkAnswer}
@@ -33,7 +34,7 @@ use Rattle.reader.proofs.Scanned.{inst-size-small}
 use Rattle.reader.proofs.Marking.{code-length}
 use Rattle.reader.proofs.Answered.{outcome-of, accepted-taken, accepted-ordered}
 use Rattle.walk.specs.declared.route.Walked.{Walked}
-use Rattle.walk.specs.Route.{Walkable, Decisions, Told}
+use Rattle.walk.specs.Route.{Walkable, Decisions, Rising, Told}
 
 pub all-zero : (l : List ℕ) → ((j : ℕ) → j < length l → getD l j 0 ≡ 0) → l ≡ replicate (length l) 0
 all-zero [] h = refl
@@ -51,6 +52,13 @@ all-fair ds h j = ⊎-elim
     past (x ∷ l) zero k = absurd (omega arith)
     past (x ∷ l) (suc i) k = past l i (omega arith)
 
+-- strikes of which each is above the one before it
+pub all-rise : (ss : List ℕ) → length ss ≤ lowest (rises ss) (length ss) → Rising ss
+all-rise ss h j l = ltb-true (getD ss j 0) (getD ss (suc j) 0) (second (lowest-all (rises ss) (length ss) h (suc j) l))
+  where
+    second : rises ss (suc j) ≡ true → ltb (getD ss j 0) (getD ss (suc j) 0) ≡ true
+    second e = let z : suc j - 1 ≡ j = omega arith in rw (ne-eqb (suc j) 0 (λ q. omega arith), z) at e
+
 -- ---- what is answered
 
 abbrev pub Answers : Walking → (budget lent : ℕ) → WalkAnswer → List ℕ → Type 0
@@ -67,26 +75,38 @@ answered-so w w′ budget lent lent′ r v e el a = (a .0 ∙ ap walk-answer e, 
 
 -- ---- the stages
 
-module _ (im : Image) (q : ℕ) (ds : List ℕ) (budget lent : ℕ) where
-  pub unknown : length (im .prototypes) ≤ q → walk-in im q ds budget lent ≡ stopped Prototype 0
+module _ (im : Image) (q : ℕ) (a : Asked) where
+  -- the first decision above 1, the first strike that does not rise
+  abbrev over : ℕ
+  over = lowest (fair (a .decisions)) (length (a .decisions))
+
+  abbrev fallen : ℕ
+  fallen = lowest (rises (a .strikes)) (length (a .strikes))
+
+  pub unknown : length (im .prototypes) ≤ q → walk-in im q a ≡ stopped Prototype 0
   unfolding walk-in
   unknown h = rw (le-ltb q (length (im .prototypes)) h) refl
 
   module _ (h : q < length (im .prototypes)) where
-    pub unfair : lowest (fair ds) (length ds) < length ds → walk-in im q ds budget lent ≡ stopped Decision (lowest (fair ds) (length ds))
+    pub unfair : over < length (a .decisions) → walk-in im q a ≡ stopped Decision over
     unfolding walk-in
-    unfair k = rw (lt-ltb q (length (im .prototypes)) h, lt-ltb (lowest (fair ds) (length ds)) (length ds) k) refl
+    unfair k = rw (lt-ltb q (length (im .prototypes)) h, lt-ltb over (length (a .decisions)) k) refl
 
-    module _ (k : length ds ≤ lowest (fair ds) (length ds)) (code : List Instruction) (ec : code-of (im .prototypes) q ≡ code) where
-      on : walk-in im q ds budget lent ≡ with-room code ds budget lent
+    module _ (k : length (a .decisions) ≤ over) where
+      pub falls : fallen < length (a .strikes) → walk-in im q a ≡ stopped Order fallen
       unfolding walk-in
-      on = rw (lt-ltb q (length (im .prototypes)) h, le-ltb (lowest (fair ds) (length ds)) (length ds) k, ec) refl
+      falls l = rw (lt-ltb q (length (im .prototypes)) h, le-ltb over (length (a .decisions)) k, lt-ltb fallen (length (a .strikes)) l) refl
 
-      pub no-room : lent < length code → walk-in im q ds budget lent ≡ stopped Visits 0
-      no-room l = on ∙ rw (lt-ltb lent (length code) l) refl
+      module _ (l : length (a .strikes) ≤ fallen) (code : List Instruction) (ec : code-of (im .prototypes) q ≡ code) where
+        on : walk-in im q a ≡ with-room code a
+        unfolding walk-in
+        on = rw (lt-ltb q (length (im .prototypes)) h, le-ltb over (length (a .decisions)) k, le-ltb fallen (length (a .strikes)) l, ec) refl
 
-      pub goes-on : length code ≤ lent → walk-in im q ds budget lent ≡ walked (path budget code (point 0 ds))
-      goes-on l = on ∙ rw (le-ltb lent (length code) l) refl
+        pub no-room : a .lent < length code → walk-in im q a ≡ stopped Visits 0
+        no-room r = on ∙ rw (lt-ltb (a .lent) (length code) r) refl
+
+        pub goes-on : length code ≤ a .lent → walk-in im q a ≡ walked (path (a .budget) code (a .strikes) (start (a .decisions)))
+        goes-on r = on ∙ rw (le-ltb (a .lent) (length code) r) refl
 
 -- ---- the prototype
 
@@ -147,19 +167,19 @@ module _ (im : Image) (tag q : ℕ) (r : List ℕ) (l : Located im tag q r) wher
 
 -- ---- the reader's outcome
 
-refused-of : (n : ℕ) (r : Read) (q : ℕ) (ds : List ℕ) (budget lent : ℕ) (c : Cause) (place : ℕ) → Refused c place ≡ read-outcome n r → walk-read r q ds budget lent ≡ stopped c place
-refused-of n (refused d p) q ds budget lent c place e = let a : c ≡ d = cc in let b : place ≡ p = cc in rw (a, b) refl
-refused-of n (taken im) q ds budget lent c place e = absurd (let z : _≡_ {A = ℕ} 0 1 = cc in omega arith)
+refused-of : (n : ℕ) (r : Read) (q : ℕ) (a : Asked) (c : Cause) (place : ℕ) → Refused c place ≡ read-outcome n r → walk-read r q a ≡ stopped c place
+refused-of n (refused d p) q a c place e = let x : c ≡ d = cc in let y : place ≡ p = cc in rw (x, y) refl
+refused-of n (taken im) q a c place e = absurd (let z : _≡_ {A = ℕ} 0 1 = cc in omega arith)
 
-module _ (tag : ℕ) (s : List ℕ) (q : ℕ) (ds : List ℕ) (budget lent : ℕ) where
-  pub read-refused : (c : Cause) (place : ℕ) → outcome-of tag s ≡ Refused c place → walk-read (read-as tag s) q ds budget lent ≡ stopped c place
-  read-refused c place e = refused-of (length (fields s)) (read-as tag s) q ds budget lent c place (sym e)
+module _ (tag : ℕ) (s : List ℕ) (q : ℕ) (a : Asked) where
+  pub read-refused : (c : Cause) (place : ℕ) → outcome-of tag s ≡ Refused c place → walk-read (read-as tag s) q a ≡ stopped c place
+  read-refused c place e = refused-of (length (fields s)) (read-as tag s) q a c place (sym e)
 
   -- an accepted image: all facts hold, and the walk is that of its value
-  pub read-taken : (m : ℕ) → outcome-of tag s ≡ Accepted m → (broken (image-of tag (fields s)) ≡ none) × (walk-in (image-of tag (fields s)) q ds budget lent ≡ walk-read (read-as tag s) q ds budget lent)
+  pub read-taken : (m : ℕ) → outcome-of tag s ≡ Accepted m → (broken (image-of tag (fields s)) ≡ none) × (walk-in (image-of tag (fields s)) q a ≡ walk-read (read-as tag s) q a)
   read-taken m e =
-      let a = accepted-taken tag s m e in
-      let k = taken-is tag s (a .0) (a .1) in (
+      let t = accepted-taken tag s m e in
+      let k = taken-is tag s (t .0) (t .1) in (
         ap broken (sym (k .image)) ∙ k .facts,
-        ap (λ (i : Image). walk-in i q ds budget lent) (sym (k .image)) ∙ sym (ap (λ (x : Read). walk-read x q ds budget lent) (a .1)),
+        ap (λ (i : Image). walk-in i q a) (sym (k .image)) ∙ sym (ap (λ (x : Read). walk-read x q a) (t .1)),
       )

@@ -5,5 +5,5 @@ use denote.Ref.{now}
 use Rattle.walk.proofs.walk.Reads as walk
 
 -- the answer, and the lent bytes
-pub walk-determined : (κs : _) (args : _) (r r' : _) (s s' : _) → walk.Post κs args r s → walk.Post κs args r' s' → (r ≡ r') × (now (s .1 .1 .1 .1 .0) ≡ now (s' .1 .1 .1 .1 .0))
+pub walk-determined : (κs : _) (args : _) (r r' : _) (s s' : _) → walk.Post κs args r s → walk.Post κs args r' s' → (r ≡ r') × (now (s .1 .1 .1 .1 .1 .0) ≡ now (s' .1 .1 .1 .1 .1 .0))
 walk-determined κs args r r' s s' p q = (p .0 ∙ sym (q .0), p .1 .0 ∙ sym (q .1 .0))

@@ -14,7 +14,7 @@ use Rattle.meaning.proofs.Lists.{false-true, lt-or-le}
 use Rattle.meaning.proofs.Images.Lawful.{next-in, skip-in, jump-in}
 use Rattle.meaning.specs.Rules.{all, inside, leads}
 use Rattle.meaning.specs.Paths.{landing}
-use Rattle.walk.specs.Route.{onward}
+use Rattle.walk.specs.Turn.{onward}
 
 module _ (n i : ℕ) (x : Instruction) (stay : all (inside n) (leads i x) ≡ true) where
   -- a jump back does not lead before the first instruction

@@ -1,76 +1,34 @@
 -- What a turn of the walk keeps. The idea: the path from here on, behind the places that were left, is the whole path. `done`, the places left, is no
 -- variable of the code; the step count is its length, and the bytes are 1 on it and where the walk stands.
-use mathlib.Core.Path.{_≡_, refl, sym, ap, ap₂, _∙_}
+use mathlib.Core.Path.{_≡_, refl, sym, ap, ap₂, _∙_, subst}
 use mathlib.Core.Bool.{Bool, true, false, not, _&&_, _||_, cond}
 use mathlib.Core.Logic.{_⊎_, inl, inr, ⊎-elim}
 use mathlib.Core.List.{List, [], _∷_, _++_, append-assoc, append-nil}
 use Prim.Native.Nat.{ℕ, zero, suc, _+_, _-_, _*_, _<_, _≤_}
 use native.Mathlib.Nat.{zero-mul}
-use native.Mathlib.Numerals.{add-one}
 use native.Mathlib.Omega.{arith}
 use lib.ListN.{length, getD, set, drop, replicate, length-append, length-set}
-use lib.Seq.{drop-cons, drop-length, getD-set-same, getD-set-other, ext-getD}
+use lib.Seq.{getD-set-same, getD-set-other, ext-getD}
 use lib.Dec.{eqb, ltb}
-use borrow.Author.Tests.{eqb-true, eqb-false, eq-eqb, ne-eqb, ltb-true, ltb-false, lt-ltb, not-true}
+use borrow.Author.Tests.{eqb-true, eqb-false, ne-eqb, ltb-true, ltb-false, not-true}
 use Rattle.meaning.specs.Fields.{word-at}
-use Rattle.meaning.specs.Opcode.{bx, Jmp, Test, Return}
+use Rattle.meaning.specs.Opcode.{bx}
 use Rattle.meaning.specs.State.{among}
-use Rattle.meaning.specs.Steps.{target, inst-at}
+use Rattle.meaning.specs.Steps.{inst-at}
+use Rattle.meaning.specs.Paths.{Point, start, Path, steps-of, Move, goes, move, stop, step-from, path, visited, visits-from, visits}
 use Rattle.meaning.specs.declared.Instruction.{Instruction}
 use Rattle.meaning.specs.declared.Ending.{Ending}
-use Rattle.meaning.specs.declared.Ending.the-variants.{AtReturn, NoDecision, NoBudget}
+use Rattle.meaning.specs.declared.Ending.the-variants.{Failed, Handlers}
 use Rattle.meaning.proofs.Lists.{and-left, and-right, false-true, lt-or-le}
-use Rattle.meaning.specs.Paths.{Point, point, Path, steps-of, Move, ends, goes, landing, decide, move, stop, step-from, path, visited, visits-from, visits}
+use Rattle.meaning.proofs.Images.Lawful.{handler-in}
 use Rattle.reader.specs.Laid.{code-in}
 use Rattle.reader.proofs.Marking.{opcode-there, bx-there}
 use Rattle.walk.specs.declared.route.Walked.{Walked}
-use Rattle.walk.specs.Route.{Walkable, onward, Decisions, Told}
+use Rattle.walk.specs.Turn.{undecided, handled, goes-on, ends-as, onward, registered-after, registered}
+use Rattle.walk.specs.Route.{Walkable, Decisions, Rising, Told}
+use Rattle.walk.proofs.Strikes.{next-is, Ahead, ahead-start, among-is, ahead-more}
 use Rattle.walk.proofs.Onward.{jump-far, onward-in}
-
--- ---- what is asked before a step
-
--- the decisions left after an opcode
-abbrev left-after : (o : ℕ) → List ℕ → (k : ℕ) → List ℕ
-left-after o ds k = cond (eqb o 4) (drop (k + 1) ds) (drop k ds)
-
-module _ (x : Instruction) (ds : List ℕ) (k i : ℕ) where
-  abbrev asked : Move
-  asked = move x (point i (drop k ds))
-
-  move-return : x .opcode ≡ Return → asked ≡ ends AtReturn
-  move-return e = rw (eq-eqb (x .opcode) Return e) refl
-
-  move-undecided : x .opcode ≡ Test → k ≡ length ds → asked ≡ ends NoDecision
-  move-undecided t e = rw (ne-eqb (x .opcode) Return (λ r. omega arith), eq-eqb (x .opcode) Test t, e, drop-length ds) refl
-
-  move-on : (x .opcode ≡ Return → ⊥) → (x .opcode ≡ Test → k < length ds) → (d : ℕ) → (x .opcode ≡ Test → d ≡ getD ds k 0) → asked ≡ goes (point (onward (x .opcode) (bx x) i d) (left-after (x .opcode) ds k))
-  move-on r t d e = rw (ne-eqb (x .opcode) Return r) (go (eqb (x .opcode) Test) refl (eqb (x .opcode) Jmp))
-    where
-      decided : x .opcode ≡ Test → drop k ds ≡ d ∷ drop (k + 1) ds
-      decided q = drop-cons ds k 0 (t q) ∙ ap₂ (λ (y : ℕ) (z : List ℕ). y ∷ z) (sym (e q)) (ap (λ (m : ℕ). drop m ds) (sym (add-one k)))
-
-      go : (b : Bool) → eqb (x .opcode) Test ≡ b → (c : Bool) → cond b (decide i (drop k ds)) (cond c (goes (point (landing (target i (bx x))) (drop k ds))) (goes (point (i + 1) (drop k ds))))
-          ≡ goes (point (cond b (i + 1 + d) (cond c (landing (target i (bx x))) (i + 1))) (cond b (drop (k + 1) ds) (drop k ds)))
-      go true p c = ap (decide i) (decided (eqb-true (x .opcode) Test p))
-      go false p true = refl
-      go false p false = refl
-
-module _ (code : List Instruction) (p : Point) where
-  abbrev first : Move
-  first = move (inst-at code (p .place)) p
-
-  path-stop : (b : ℕ) (e : Ending) → first ≡ ends e → path b code p ≡ stop p e
-  unfolding path
-  path-stop zero e m = rw m refl
-  path-stop (suc b) e m = rw m refl
-
-  path-spent : (q : Point) → first ≡ goes q → path 0 code p ≡ stop p NoBudget
-  unfolding path
-  path-spent q m = rw m refl
-
-  path-step : (b : ℕ) (q : Point) → first ≡ goes q → path (suc b) code p ≡ step-from p (path b code q)
-  unfolding path
-  path-step b q m = rw m refl
+use Rattle.walk.proofs.Moves.{standing, moves, goes-so, ends-so, path-goes}
 
 -- ---- the bytes
 
@@ -104,50 +62,106 @@ unfolding visits-from
 visits-length p i zero = refl
 visits-length p i (suc n) = ap suc (visits-length p (suc i) n)
 
+-- ---- the test of the loop
+
+module _ (o : ℕ) (s decided within : Bool) (h : ℕ) (t : goes-on o s decided within h ≡ true) where
+  pub not-return : o ≡ 20 → ⊥
+  not-return = eqb-false o 20 (not-true (eqb o 20) (and-left (not (eqb o 20)) _ t))
+
+  asked-not : undecided o s decided ≡ false
+  asked-not = not-true (undecided o s decided) (and-left (not (undecided o s decided)) _ (and-right (not (eqb o 20)) _ t))
+
+  rest-of : (within && handled o s h) ≡ true
+  rest-of = and-right (not (undecided o s decided)) _ (and-right (not (eqb o 20)) _ t)
+
+  pub is-within : within ≡ true
+  is-within = and-left within _ rest-of
+
+  is-handled : handled o s h ≡ true
+  is-handled = and-right within _ rest-of
+
+  -- a decision is left where one is asked for
+  pub is-decided : (not s && eqb o 4) ≡ true → decided ≡ true
+  is-decided e = go s (eqb o 4) decided e asked-not
+    where
+      go : (a b c : Bool) → (not a && b) ≡ true → (not a && (b && not c)) ≡ false → c ≡ true
+      go true b c e f = absurd (false-true e)
+      go false true true e f = refl
+      go false true false e f = absurd (false-true (sym f))
+      go false false c e f = absurd (false-true e)
+
+  -- a handler is registered where a failure strikes
+  pub has-handler : s ≡ true → 0 < h
+  has-handler e = ltb-true 0 h (go s e (and-left (not s || ltb 0 h) _ is-handled))
+    where
+      go : (a : Bool) → a ≡ true → (not a || ltb 0 h) ≡ true → ltb 0 h ≡ true
+      go true e f = f
+      go false e f = absurd (false-true e)
+
+  -- there is room where one is registered
+  pub has-room : (not s && eqb o 48) ≡ true → h < 256
+  has-room e = ltb-true h 256 (go s (eqb o 48) e (and-right (not s || ltb 0 h) _ is-handled))
+    where
+      go : (a b : Bool) → (not a && b) ≡ true → (a || (not b || ltb h 256)) ≡ true → ltb h 256 ≡ true
+      go true b e f = absurd (false-true e)
+      go false true e f = f
+      go false false e f = absurd (false-true e)
+
 -- ---- a turn
 
 -- steps from these places, then the path p
 abbrev after : List ℕ → Path → Path
 after done p = record { left = done ++ p .left; stood = p .stood; ended = p .ended }
 
--- the walk stands at i with k decisions used; `done` are the places that it left
-pub record Walking (s : List ℕ) (tag span at n : ℕ) (ds : List ℕ) (budget room : ℕ) (vis : List ℕ) (i k steps o : ℕ) : Type 0 where
+-- the walk stands at i with k decisions used, m strikes behind it, and the first h of `hs` registered; s tells whether a failure strikes now. `done` are the
+-- places that it left
+pub record Walking (s : List ℕ) (tag span at n : ℕ) (ds ss : List ℕ) (budget room : ℕ) (vis hs : List ℕ) (h i k m steps o : ℕ) (struck : Bool) : Type 0 where
   pub done : List ℕ
   pub count : length done ≡ steps
   pub within : steps ≤ budget
   pub here : i < n
   pub used : k ≤ length ds
   pub opcode : o ≡ getD s (at + i * span + 3) 0
+  pub full : length hs ≡ 256
+  pub most : h ≤ 256
+  pub inside : (t : ℕ) → t < h → getD hs t 0 < n
+  pub ahead : Ahead ss m steps
+  pub strikes : struck ≡ next-is ss m steps
   pub size : length vis ≡ room
   pub marks : (j : ℕ) → getD vis j 0 ≡ cond (among j done || eqb j i) 1 0
-  pub rest : path budget (code-in s tag span at n) (point 0 ds) ≡ after done (path (budget - steps) (code-in s tag span at n) (point i (drop k ds)))
+  pub rest : path budget (code-in s tag span at n) ss (start ds) ≡ after done (path (budget - steps) (code-in s tag span at n) ss (standing i (drop k ds) steps (registered hs h)))
 
 -- one more place that was left
 after-step : (done : List ℕ) (p : Point) (q : Path) → after done (step-from p q) ≡ after (done ++ p .place ∷ []) q
 after-step done p q = ap (λ (l : List ℕ). (let r : Path = record { left = l; stood = q .stood; ended = q .ended } in r)) (sym (append-assoc done (p .place ∷ []) (q .left)))
 
-path-same : (a b : ℕ) (code : List Instruction) (p : Point) → a ≡ b → path a code p ≡ path b code p
-path-same a b code p e = ap (λ (n : ℕ). path n code p) e
+path-same : (a b : ℕ) (code : List Instruction) (ss : List ℕ) (p : Point) → a ≡ b → path a code ss p ≡ path b code ss p
+path-same a b code ss p e = ap (λ (n : ℕ). path n code ss p) e
 
-module _ (s : List ℕ) (tag span at n : ℕ) (v : Walkable s tag span at n) (ds : List ℕ) (budget room : ℕ) where
+module _ (s : List ℕ) (tag span at n : ℕ) (v : Walkable s tag span at n) (ds ss : List ℕ) (rising : Rising ss) (budget room : ℕ) where
   abbrev code : List Instruction
   code = code-in s tag span at n
 
-  pub walking-start : (vis₀ : List ℕ) → n ≤ room → length vis₀ ≡ room → vis₀ ≡ replicate room 0 → (o : ℕ) → o ≡ getD s (at + 3) 0
-      → Walking s tag span at n ds budget room (set vis₀ 0 1) 0 0 0 o
-  walking-start vis₀ h e z o q = record {
+  pub walking-start : (vis₀ hs : List ℕ) → n ≤ room → length vis₀ ≡ room → vis₀ ≡ replicate room 0 → length hs ≡ 256 → (o : ℕ) → o ≡ getD s (at + 3) 0 → (b : Bool) → b ≡ next-is ss 0 0
+      → Walking s tag span at n ds ss budget room (set vis₀ 0 1) hs 0 0 0 0 0 o b
+  walking-start vis₀ hs h e z f o q b eb = record {
     done = [];
     count = refl;
     within = omega arith;
     here = v .some;
     used = omega arith;
     opcode = q ∙ ap (λ (m : ℕ). getD s m 0) (let z : at + 3 ≡ at + 0 * span + 3 = omega (arith, zero-mul span) in z);
+    full = f;
+    most = omega arith;
+    inside = λ t l. absurd (omega arith);
+    ahead = ahead-start ss;
+    strikes = eb;
     size = length-set vis₀ 0 1 ∙ e;
     marks = λ j. ⊎-elim
         (λ (r : j ≡ 0). rw (r) (getD-set-same vis₀ 0 1 0 (omega (arith, v .some))))
         (λ (r : 0 < j). rw (ne-eqb j 0 (λ t. omega arith)) (getD-set-other vis₀ 0 j 1 0 (λ t. omega arith) ∙ rw z (zero-at room j)))
         (zero-or j);
-    rest = path-same budget (budget - 0) code (point 0 ds) (omega arith);
+    rest = path-same budget (budget - 0) code ss (start ds) (omega arith);
   }
     where
       zero-or : (j : ℕ) → (j ≡ 0) ⊎ (0 < j)
@@ -159,23 +173,34 @@ module _ (s : List ℕ) (tag span at n : ℕ) (v : Walkable s tag span at n) (ds
       zero-at (suc r) zero = refl
       zero-at (suc r) (suc j) = zero-at r j
 
-  module _ (vis : List ℕ) (i k steps o : ℕ) (t : Walking s tag span at n ds budget room vis i k steps o) where
+  module _ (vis hs : List ℕ) (h i k m steps o : ℕ) (struck : Bool) (t : Walking s tag span at n ds ss budget room vis hs h i k m steps o struck) where
     abbrev x : Instruction
     x = inst-at code i
 
     abbrev now-at : Point
-    now-at = point i (drop k ds)
+    now-at = standing i (drop k ds) steps (registered hs h)
 
     abbrev whole : Path
-    whole = path budget code (point 0 ds)
+    whole = path budget code ss (start ds)
 
     op : x .opcode ≡ o
     op = opcode-there s tag span at n i (t .here) ∙ sym (t .opcode)
 
+    strikes-now : among steps ss ≡ struck
+    strikes-now = among-is ss rising m steps (t .ahead) ∙ sym (t .strikes)
+
     -- the walk ends here
-    module _ (e : Ending) (m : path (budget - steps) code now-at ≡ stop now-at e) where
+    module _ (stops : goes-on o struck (ltb k (length ds)) (ltb steps budget) h ≡ false) where
+      abbrev e : Ending
+      e = ends-as o struck (ltb k (length ds)) (ltb steps budget)
+
+      ends-here : path (budget - steps) code ss now-at ≡ stop now-at e
+      ends-here = ends-so code ss now-at _ (cond struck Failed Handlers) (budget - steps) (eqb o 20) (undecided o struck (ltb k (length ds))) (ltb steps budget) (handled o struck h)
+          (λ q. omega (arith, ltb-false steps budget q)) (λ q. omega (arith, ltb-true steps budget q))
+          (moves x ds k i steps hs h o (bx x) (getD ds k 0) (t .used) (t .full) ss struck (λ q. refl) strikes-now op refl) stops
+
       whole-path : whole ≡ after (t .done) (stop now-at e)
-      whole-path = t .rest ∙ ap (after (t .done)) m
+      whole-path = t .rest ∙ ap (after (t .done)) ends-here
 
       pub told : (r : Walked) → r .steps ≡ steps → r .stood ≡ i → r .ended ≡ e → Told whole budget r
       told r a b c = record {
@@ -187,96 +212,99 @@ module _ (s : List ℕ) (tag span at n : ℕ) (v : Walkable s tag span at n) (ds
 
       pub seen : vis ≡ visits whole room
       seen = rw whole-path (ext-getD 0 vis (visits (after (t .done) (stop now-at e)) room) (t .size ∙ sym (visits-length (after (t .done) (stop now-at e)) 0 room))
-          (λ j h. t .marks j ∙ ap (λ (l : List ℕ). cond (among j l || eqb j i) 1 0) (sym (append-nil (t .done))) ∙ sym (visits-first (after (t .done) (stop now-at e)) room j (omega (arith, t .size)))))
+          (λ j l. t .marks j ∙ ap (λ (l : List ℕ). cond (among j l || eqb j i) 1 0) (sym (append-nil (t .done))) ∙ sym (visits-first (after (t .done) (stop now-at e)) room j (omega (arith, t .size)))))
 
-    -- at a Return, out of decisions, out of budget
-    pub at-end : o ≡ 20 → path (budget - steps) code now-at ≡ stop now-at AtReturn
-    at-end q = path-stop code now-at (budget - steps) AtReturn (move-return x ds k i (op ∙ q))
+    -- the walk goes on
+    module _ (on : goes-on o struck (ltb k (length ds)) (ltb steps budget) h ≡ true) (decisions : Decisions ds) (w : ℕ) (ew : w ≡ word-at s (at + i * span + 5)) (d : ℕ)
+        (ed : (not struck && eqb o 4) ≡ true → d ≡ getD ds k 0) where
+      wide : bx x ≡ w
+      wide = bx-there s tag span at n i (t .here) ∙ sym ew
 
-    pub at-test : o ≡ 4 → k ≡ length ds → path (budget - steps) code now-at ≡ stop now-at NoDecision
-    at-test q r = path-stop code now-at (budget - steps) NoDecision (move-undecided x ds k i (op ∙ q) r)
+      pub far : 32768 ≤ w → o ≡ 3 → 65536 ≤ i + w
+      far l q = omega (arith, wide, jump-far n i x (v .stays i (t .here)) (omega (arith, wide)) (op ∙ q))
 
-    module _ (nr : o ≡ 20 → ⊥) (nd : o ≡ 4 → k < length ds) where
-      on : (d : ℕ) → (o ≡ 4 → d ≡ getD ds k 0) → move x now-at ≡ goes (point (onward (x .opcode) (bx x) i d) (left-after (x .opcode) ds k))
-      on d e = move-on x ds k i (λ q. nr (sym op ∙ q)) (λ q. nd (sym op ∙ q)) d (λ q. e (sym op ∙ q))
+      abbrev j : ℕ
+      j = cond struck (getD hs (h - 1) 0) (onward o w i d)
 
-      pub at-spent : budget ≤ steps → path (budget - steps) code now-at ≡ stop now-at NoBudget
-      at-spent h = path-same (budget - steps) 0 code now-at (omega arith) ∙ path-spent code now-at _ (on (getD ds k 0) (λ q. refl))
+      pub inside-again : j < n
+      inside-again = go struck refl
+        where
+          go : (b : Bool) → struck ≡ b → cond b (getD hs (h - 1) 0) (onward o w i d) < n
+          go true q = t .inside (h - 1) (let z = has-handler o struck (ltb k (length ds)) (ltb steps budget) h on q in omega arith)
+          go false q = subst (λ (y : ℕ). y < n) (ap₂ (λ (y z : ℕ). onward y z i d) op wide)
+              (onward-in n i x (v .stays i (t .here)) d
+              (λ r. let z = ed (rw (q, ap (λ (y : ℕ). eqb y 4) (sym op ∙ r)) refl) in let y = decisions k in omega arith)
+              (λ r. not-return o struck (ltb k (length ds)) (ltb steps budget) h on (sym op ∙ r)))
 
-      module _ (decisions : Decisions ds) (w : ℕ) (ew : w ≡ word-at s (at + i * span + 5)) (d : ℕ) (ed : o ≡ 4 → d ≡ getD ds k 0) where
-        wide : bx x ≡ w
-        wide = bx-there s tag span at n i (t .here) ∙ sym ew
+      module _ (hs′ : List ℕ) (eh : hs′ ≡ cond (not struck && eqb o 48) (set hs h (i + w)) hs) (h′ : ℕ) (en : h′ ≡ registered-after o struck h) (k′ : ℕ) (ek : k′ ≡ cond (not struck && eqb o 4) (k + 1) k)
+          (m′ : ℕ) (em : m′ ≡ cond struck (m + 1) m) (i′ : ℕ) (ei : i′ ≡ j) where
+        used-again : k′ ≤ length ds
+        used-again = rw ek (go (not struck && eqb o 4) refl)
+          where
+            go : (b : Bool) → (not struck && eqb o 4) ≡ b → cond b (k + 1) k ≤ length ds
+            go true q = let z = ltb-true k (length ds) (is-decided o struck (ltb k (length ds)) (ltb steps budget) h on q) in omega arith
+            go false q = t .used
 
-        pub far : 32768 ≤ w → o ≡ 3 → 65536 ≤ i + w
-        far h q = omega (arith, wide, jump-far n i x (v .stays i (t .here)) (omega (arith, wide)) (op ∙ q))
+        full-again : length hs′ ≡ 256
+        full-again = rw eh (go (not struck && eqb o 48))
+          where
+            go : (b : Bool) → length (cond b (set hs h (i + w)) hs) ≡ 256
+            go true = length-set hs h (i + w) ∙ t .full
+            go false = t .full
 
-        module _ (j : ℕ) (ej : j ≡ onward o w i d) where
-          same-place : onward (x .opcode) (bx x) i d ≡ j
-          same-place = ap₂ (λ (y z : ℕ). onward y z i d) op wide ∙ sym ej
+        -- the handlers registered stand within the prototype
+        handlers-again : (h′ ≤ 256) × ((u : ℕ) → u < h′ → getD hs′ u 0 < n)
+        handlers-again = rw (eh, en) (go struck refl (eqb o 48) refl (eqb o 49))
+          where
+            kept : (u : ℕ) → u < h → getD hs u 0 < n
+            kept = t .inside
 
-          pub inside-again : j < n
-          inside-again = rw (sym same-place) (onward-in n i x (v .stays i (t .here)) d (λ q. omega (arith, ed (sym op ∙ q), decisions k)) (λ q. nr (sym op ∙ q)))
+            put : struck ≡ false → o ≡ 48 → (h + 1 ≤ 256) × ((u : ℕ) → u < h + 1 → getD (set hs h (i + w)) u 0 < n)
+            put q r =
+                let room-for = has-room o struck (ltb k (length ds)) (ltb steps budget) h on (rw (q, r) refl) in (
+                  omega arith,
+                  λ u l. ⊎-elim
+                      (λ (c : u < h). let y = getD-set-other hs h u (i + w) 0 (λ z. omega arith) in let z = kept u c in omega arith)
+                      (λ (c : h ≤ u). subst (λ (y : ℕ). getD (set hs h (i + w)) y 0 < n) (let z : h ≡ u = omega arith in z)
+                      (let y = getD-set-same hs h (i + w) 0 (omega (arith, t .full)) in let z = handler-in n i x (v .stays i (t .here)) (op ∙ r) in omega (arith, wide)))
+                      (lt-or-le u h),
+                )
 
-          pub walking-more : steps < budget → n ≤ room → (k′ : ℕ) → k′ ≡ cond (eqb o 4) (k + 1) k → (o′ : ℕ) → o′ ≡ getD s (at + j * span + 3) 0
-              → Walking s tag span at n ds budget room (set vis j 1) j k′ (steps + 1) o′
-          walking-more h fits k′ ek o′ eo = record {
-            done = t .done ++ i ∷ [];
-            count = length-append (t .done) (i ∷ []) ∙ omega (arith, t .count);
-            within = omega arith;
-            here = inside-again;
-            used = rw ek (used-more (eqb o 4) refl);
-            opcode = eo;
-            size = length-set vis j 1 ∙ t .size;
-            marks = λ m. marked m (eqb m j) refl;
-            rest = t .rest ∙ ap (after (t .done)) stepped ∙ after-step (t .done) now-at _;
-          }
-            where
-              used-more : (b : Bool) → eqb o 4 ≡ b → cond b (k + 1) k ≤ length ds
-              used-more true p = omega (arith, nd (eqb-true o 4 p))
-              used-more false p = t .used
+            go : (a : Bool) → struck ≡ a → (b : Bool) → eqb o 48 ≡ b → (c : Bool)
+                → (cond a h (cond b (h + 1) (cond c (h - 1) h)) ≤ 256) × ((u : ℕ) → u < cond a h (cond b (h + 1) (cond c (h - 1) h)) → getD (cond (not a && b) (set hs h (i + w)) hs) u 0 < n)
+            go true q b r c = (t .most, kept)
+            go false q true r c = put q (eqb-true o 48 r)
+            go false q false r true = (omega (arith, t .most), λ u l. kept u (omega arith))
+            go false q false r false = (t .most, kept)
 
-              marked : (m : ℕ) → (b : Bool) → eqb m j ≡ b → getD (set vis j 1) m 0 ≡ cond (among m (t .done ++ i ∷ []) || eqb m j) 1 0
-              marked m true p = rw (p, or-true (among m (t .done ++ i ∷ []))) (rw (eqb-true m j p) (getD-set-same vis j 1 0 (omega (arith, inside-again, t .size))))
-              marked m false p = rw (p, or-none (among m (t .done ++ i ∷ [])), among-more m i (t .done)) (getD-set-other vis j m 1 0 (eqb-false m j p) ∙ t .marks m)
+        stepped : steps < budget → path (budget - steps) code ss now-at ≡ step-from now-at (path (budget - (steps + 1)) code ss (standing i′ (drop k′ ds) (steps + 1) (registered hs′ h′)))
+        stepped l =
+            path-same (budget - steps) (suc (budget - (steps + 1))) code ss now-at (omega arith)
+            ∙ path-goes code ss now-at _ (cond struck Failed Handlers) (budget - (steps + 1)) (goes-so code ss now-at _ (cond struck Failed Handlers) (eqb o 20) (undecided o struck (ltb k (length ds))) (ltb steps budget) (handled o struck h)
+            (moves x ds k i steps hs h o w d (t .used) (t .full) ss struck ed strikes-now op wide) on)
+            ∙ ap (λ (p : Point). step-from now-at (path (budget - (steps + 1)) code ss p)) (rw (eh, en, ek, ei) refl)
 
-              dropped : (b : Bool) → cond b (drop (k + 1) ds) (drop k ds) ≡ drop (cond b (k + 1) k) ds
-              dropped true = refl
-              dropped false = refl
-
-              after-is : left-after (x .opcode) ds k ≡ drop k′ ds
-              after-is = ap (λ (y : ℕ). left-after y ds k) op ∙ dropped (eqb o 4) ∙ ap (λ (y : ℕ). drop y ds) (sym ek)
-
-              stepped : path (budget - steps) code now-at ≡ step-from now-at (path (budget - (steps + 1)) code (point j (drop k′ ds)))
-              stepped =
-                  path-same (budget - steps) (suc (budget - (steps + 1))) code now-at (omega arith)
-                  ∙ path-step code now-at (budget - (steps + 1)) _ (on d ed)
-                  ∙ ap₂ (λ (es : List ℕ) (y : ℕ). step-from now-at (path (budget - (steps + 1)) code (point y es))) after-is same-place
-
--- ---- the test of the loop
-
-module _ (o k len steps budget : ℕ) where
-  abbrev goes-on : Bool
-  goes-on = not (eqb o 20) && ((not (eqb o 4) || ltb k len) && ltb steps budget)
-
-  pub not-return : goes-on ≡ true → o ≡ 20 → ⊥
-  not-return e q = eqb-false o 20 (not-true (eqb o 20) (and-left (not (eqb o 20)) _ e)) q
-
-  tested : goes-on ≡ true → ((not (eqb o 4) || ltb k len) && ltb steps budget) ≡ true
-  tested e = and-right (not (eqb o 20)) _ e
-
-  pub decided : goes-on ≡ true → o ≡ 4 → k < len
-  decided e q = ltb-true k len (rw (eq-eqb o 4 q) at (and-left (not (eqb o 4) || ltb k len) _ (tested e)))
-
-  pub within-budget : goes-on ≡ true → steps < budget
-  within-budget e = ltb-true steps budget (and-right (not (eqb o 4) || ltb k len) _ (tested e))
-
-  module _ (nr : o ≡ 20 → ⊥) (more : k ≤ len) (nd : (eqb o 4 && eqb k len) ≡ false) where
-    pub not-out : o ≡ 4 → k < len
-    not-out q = ⊎-elim (λ (h : k < len). h) (λ (h : len ≤ k). absurd (false-true (sym nd ∙ rw (eq-eqb o 4 q, eq-eqb k len (omega arith)) refl))) (lt-or-le k len)
-
-    pub spent : goes-on ≡ false → budget ≤ steps
-    spent e = go (eqb o 4) refl (rw (ne-eqb o 20 nr) at e)
-      where
-        go : (t : Bool) → eqb o 4 ≡ t → ((not t || ltb k len) && ltb steps budget) ≡ false → budget ≤ steps
-        go true p q = ltb-false steps budget (rw (lt-ltb k len (not-out (eqb-true o 4 p))) at q)
-        go false p q = ltb-false steps budget q
+        pub walking-more : n ≤ room → (o′ : ℕ) → o′ ≡ getD s (at + i′ * span + 3) 0 → (b : Bool) → b ≡ next-is ss m′ (steps + 1)
+            → Walking s tag span at n ds ss budget room (set vis i′ 1) hs′ h′ i′ k′ m′ (steps + 1) o′ b
+        walking-more fits o′ eo b eb =
+            let within = ltb-true steps budget (is-within o struck (ltb k (length ds)) (ltb steps budget) h on) in
+            record {
+              done = t .done ++ i ∷ [];
+              count = length-append (t .done) (i ∷ []) ∙ omega (arith, t .count);
+              within = omega arith;
+              here = omega (arith, inside-again, ei);
+              used = used-again;
+              opcode = eo;
+              full = full-again;
+              most = handlers-again .0;
+              inside = handlers-again .1;
+              ahead = rw em (subst (λ (c : Bool). Ahead ss (cond c (m + 1) m) (steps + 1)) (sym (t .strikes)) (ahead-more ss rising m steps (t .ahead) (next-is ss m steps) refl));
+              strikes = eb;
+              size = length-set vis i′ 1 ∙ t .size;
+              marks = λ u. marked u (eqb u i′) refl;
+              rest = t .rest ∙ ap (after (t .done)) (stepped within) ∙ after-step (t .done) now-at _;
+            }
+          where
+            marked : (u : ℕ) → (b : Bool) → eqb u i′ ≡ b → getD (set vis i′ 1) u 0 ≡ cond (among u (t .done ++ i ∷ []) || eqb u i′) 1 0
+            marked u true p = rw (p, or-true (among u (t .done ++ i ∷ []))) (rw (eqb-true u i′ p) (getD-set-same vis i′ 1 0 (omega (arith, inside-again, ei, t .size))))
+            marked u false p = rw (p, or-none (among u (t .done ++ i ∷ [])), among-more u i (t .done)) (getD-set-other vis i′ u 1 0 (eqb-false u i′ p) ∙ t .marks u)

@@ -1,2 +1,3 @@
 -- What the contracts cite beside the definition of `meaning`: by inner functions alone.
+pub mod Turn
 pub mod Route

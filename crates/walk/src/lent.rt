@@ -1,8 +1,8 @@
-// The bytes and the decisions that a walk is lent.
+// The bytes, the decisions and the strikes that a walk is lent.
 ghost use mathlib.Core.Path.{_≡_};
 ghost use lib.ListN.{length, replicate};
 ghost use Rattle.meaning.specs.Base.{lowest};
-ghost use Rattle.meaning.specs.Walker.{fair};
+ghost use Rattle.meaning.specs.Walker.{fair, rises};
 
 // Every byte is zero.
 pub(crate) fn clear(bytes: &mut [u8])
@@ -27,4 +27,18 @@ pub(crate) fn first_over(decisions: &[u8]) -> usize
         i = i + 1;
     }
     i
+}
+
+// The first strike that is not above the one before it, or their number.
+pub(crate) fn first_fallen(strikes: &[u64]) -> usize
+    ensures { λ r. ⌜ r ≡ lowest (rises (now (strikes .entry))) (length (now (strikes .entry))) ⌝ }
+{
+    let mut i: usize = 1;
+    while i < strikes.len() {
+        if strikes[i] <= strikes[i - 1] {
+            return i;
+        }
+        i = i + 1;
+    }
+    strikes.len()
 }

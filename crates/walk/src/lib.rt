@@ -1,6 +1,7 @@
-// The walk of a prototype by recorded decisions (document 02, E4): which instructions a run visited, and how it ended.
+// The walk of a prototype by recorded decisions and failures (document 02, E4 and E8): which instructions a run visited, and how it ended.
 mod lent;
 mod route;
+mod turn;
 
 use meaning::Cause;
 use meaning::Ending;
@@ -15,7 +16,7 @@ ghost use Rattle.meaning.specs.Fields.{fields};
 ghost use Rattle.meaning.specs.Answer.{cause-number};
 ghost use Rattle.meaning.specs.Images.{image-of};
 ghost use Rattle.meaning.specs.Reader.{broken};
-ghost use Rattle.meaning.specs.Walker.{walk-in, walk-image, ending-number, walk-answer, lent-bytes};
+ghost use Rattle.meaning.specs.Walker.{asked, walk-in, walk-image, ending-number, walk-answer, lent-bytes};
 ghost use Rattle.reader.specs.Laid.{Ordered};
 
 // A refusal has 0 for the three last numbers.
@@ -38,6 +39,8 @@ fn ending_number(e: Ending) -> u64
         Ending::AtReturn => 0,
         Ending::NoDecision => 1,
         Ending::NoBudget => 2,
+        Ending::Failed => 3,
+        Ending::Handlers => 4,
     }
 }
 
@@ -54,18 +57,19 @@ fn arrival(w: Walked) -> WalkAnswer
     }
 }
 
-// The walk in an image that is taken: 22 Prototype, 23 Decision, 29 Visits. Every lent byte is zero before.
+// The walk in an image that is taken: 22 Prototype, 23 Decision, 25 Order, 29 Visits. Every lent byte is zero before.
 fn walk_taken(
     image: &[u8],
     tag: u8,
     q: usize,
     decisions: &[u8],
+    strikes: &[u64],
     budget: u64,
     visited: &mut [u8],
 ) -> WalkAnswer
     requires { ⌜ Ordered (now image) tag × (broken (image-of tag (fields (now image))) ≡ none) × (now visited ≡ replicate (length (now visited)) 0) ⌝ }
-    ensures answer { λ r. ⌜ r ≡ walk-answer (walk-in (image-of tag (fields (now (image .entry)))) q (now (decisions .entry)) «budget» (length (now (visited .entry)))) ⌝ }
-    ensures visited { λ r. ⌜ now (visited .exit) ≡ lent-bytes (walk-in (image-of tag (fields (now (image .entry)))) q (now (decisions .entry)) «budget» (length (now (visited .entry)))) (length (now (visited .entry))) ⌝ }
+    ensures answer { λ r. ⌜ r ≡ walk-answer (walk-in (image-of tag (fields (now (image .entry)))) q (asked (now (decisions .entry)) (now (strikes .entry)) «budget» (length (now (visited .entry))))) ⌝ }
+    ensures visited { λ r. ⌜ now (visited .exit) ≡ lent-bytes (walk-in (image-of tag (fields (now (image .entry)))) q (asked (now (decisions .entry)) (now (strikes .entry)) «budget» (length (now (visited .entry))))) (length (now (visited .entry))) ⌝ }
     ensures within { λ r. ⌜ r .steps ≤ «budget» ⌝ }
 {
     let size = 3 + reader::inst_size(tag);
@@ -77,24 +81,29 @@ fn walk_taken(
     if over < decisions.len() {
         return refusal(Cause::Decision, over);
     }
+    let fallen = lent::first_fallen(strikes);
+    if fallen < strikes.len() {
+        return refusal(Cause::Order, fallen);
+    }
     let n = fields::word(part, 11);
     if visited.len() < n {
         return refusal(Cause::Visits, 0);
     }
     let at = 13 + fields::word(part, 9) * 5;
-    arrival(route::walk_code(part, tag, size, at, n, decisions, budget, visited))
+    arrival(route::walk_code(part, tag, size, at, n, decisions, strikes, budget, visited))
 }
 
-// The walk of a prototype, `budget` steps at most: a lent byte is 1 exactly where an instruction was visited, whatever it was before.
+// The walk of a prototype, `budget` steps at most, a failure striking at each step whose number is among `strikes`: a lent byte is 1 exactly where an instruction was visited, whatever it was before.
 pub fn walk(
     image: &[u8],
     prototype: u64,
     decisions: &[u8],
+    strikes: &[u64],
     budget: u64,
     visited: &mut [u8],
 ) -> WalkAnswer
-    ensures answer { λ r. ⌜ r ≡ walk-answer (walk-image 0x43 (now (image .entry)) «prototype» (now (decisions .entry)) «budget» (length (now (visited .entry)))) ⌝ }
-    ensures visited { λ r. ⌜ now (visited .exit) ≡ lent-bytes (walk-image 0x43 (now (image .entry)) «prototype» (now (decisions .entry)) «budget» (length (now (visited .entry)))) (length (now (visited .entry))) ⌝ }
+    ensures answer { λ r. ⌜ r ≡ walk-answer (walk-image 0x43 (now (image .entry)) «prototype» (now (decisions .entry)) (now (strikes .entry)) «budget» (length (now (visited .entry)))) ⌝ }
+    ensures visited { λ r. ⌜ now (visited .exit) ≡ lent-bytes (walk-image 0x43 (now (image .entry)) «prototype» (now (decisions .entry)) (now (strikes .entry)) «budget» (length (now (visited .entry)))) (length (now (visited .entry))) ⌝ }
     ensures within { λ r. ⌜ r .steps ≤ «budget» ⌝ }
 {
     lent::clear(visited);
@@ -106,6 +115,7 @@ pub fn walk(
             0x43,
             prototype as usize,
             decisions,
+            strikes,
             budget,
             visited,
         ),

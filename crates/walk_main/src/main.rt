@@ -1,14 +1,15 @@
-// Walks a prototype of an image by recorded decisions (document 02, E4). Arguments, in decimal: the prototype, the budget, and how many bytes at the
-// front of standard input are the decisions; the image is what follows them. On standard output one line, number, place, steps, index and ending;
-// with the word `visited` behind the numbers, and where nothing was refused, a second line with a 0 or a 1 for each instruction of the prototype.
-// Wrong words, or an input that no room holds: nothing is written. There is no heap, so every room is an array on the stack.
+// Walks a prototype of an image by recorded decisions and failures (document 02, E4 and E8). Arguments, in decimal: the prototype, the budget, how many
+// bytes at the front of standard input are the decisions, and how many numbers behind them, of eight bytes with the high byte first, are the strikes;
+// the image is what follows. On standard output one line, number, place, steps, index and ending; with the word `visited` behind the numbers, and where
+// nothing was refused, a second line with a 0 or a 1 for each instruction of the prototype. Wrong words, or an input that no room holds: nothing is
+// written. There is no heap, so every room is an array on the stack.
 mod words;
 
 use meaning::Outcome;
 use meaning::WalkAnswer;
 use words::Asked;
 use words::Said;
-ghost use Prim.Native.Nat.{_≤_};
+ghost use Prim.Native.Nat.{_*_, _≤_};
 ghost use lib.ListN.{length};
 
 fn main() {
@@ -41,7 +42,7 @@ fn never() -> bool {
 }
 
 // The compiler takes 2 GiB of locals in a function at most. An image that is taken has 234,892,032 bytes at most, so there is room for more than
-// 1,900,000,000 decisions.
+// 1,900,000,000 bytes of decisions and strikes.
 fn large(read: &[u8], turns: usize, asked: Asked) {
     if never() && 0 < turns {
         large(read, turns - 1, asked);
@@ -76,23 +77,78 @@ fn copied(read: &[u8], room: &mut [u8]) -> usize
     n
 }
 
-// The decisions stand before the image.
+// The decisions stand first, then the strikes, then the image.
 fn walked(input: &[u8], asked: Asked) {
-    if (input.len() as u64) < asked.decisions {
+    let length = input.len() as u64;
+    if length < asked.decisions {
+        return;
+    }
+    if (length - asked.decisions) / 8 < asked.strikes {
         return;
     }
     let at = asked.decisions as usize;
-    parted(&input[0..at], &input[at..], asked);
+    let end = at + (asked.strikes as usize) * 8;
+    parted(&input[0..at], &input[at..end], &input[end..], asked);
+}
+
+fn parted(decisions: &[u8], strikes: &[u8], image: &[u8], asked: Asked) {
+    if strikes.len() <= 32768 {
+        few(decisions, strikes, image, asked);
+        return;
+    }
+    many(decisions, strikes, image, asked, 1);
+}
+
+fn few(decisions: &[u8], strikes: &[u8], image: &[u8], asked: Asked) {
+    let mut room = [0u64; 4096];
+    struck(decisions, strikes, image, asked, &mut room);
+}
+
+// 16,777,216 strikes at most.
+fn many(decisions: &[u8], strikes: &[u8], image: &[u8], asked: Asked, turns: usize) {
+    if never() && 0 < turns {
+        many(decisions, strikes, image, asked, turns - 1);
+    }
+    let mut room = [0u64; 16777216];
+    struck(decisions, strikes, image, asked, &mut room);
+}
+
+fn struck(decisions: &[u8], strikes: &[u8], image: &[u8], asked: Asked, room: &mut [u64]) {
+    let n = strikes.len() / 8;
+    if n <= room.len() {
+        numbers(strikes, n, room);
+        lent(decisions, &room[0..n], image, asked);
+    }
+}
+
+// The first n numbers.
+fn numbers(strikes: &[u8], n: usize, room: &mut [u64])
+    requires { ⌜ (n ≤ length (now room)) × (n * 8 ≤ length (now strikes)) ⌝ }
+{
+    let mut i: usize = 0;
+    while i < n {
+        let at = i * 8;
+        let end = at + 8;
+        room[i] = values::bits_at(&strikes[at..end]);
+        i += 1;
+    }
 }
 
 // A prototype has 65,535 instructions at most.
-fn parted(decisions: &[u8], image: &[u8], asked: Asked) {
+fn lent(decisions: &[u8], strikes: &[u64], image: &[u8], asked: Asked) {
     let mut visited = [0u8; 65536];
-    told(decisions, image, asked, &mut visited);
+    told(decisions, strikes, image, asked, &mut visited);
 }
 
-fn told(decisions: &[u8], image: &[u8], asked: Asked, visited: &mut [u8]) {
-    let answer = walk::walk(image, asked.prototype, decisions, asked.budget, visited);
+fn told(decisions: &[u8], strikes: &[u64], image: &[u8], asked: Asked, visited: &mut [u8]) {
+    let answer = walk::walk(
+        image,
+        asked.prototype,
+        decisions,
+        strikes,
+        asked.budget,
+        visited,
+    );
     line(answer);
     if asked.visited & (answer.number == 0) {
         shown(image, asked.prototype as usize, visited);

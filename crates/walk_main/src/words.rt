@@ -1,10 +1,11 @@
 // What the program is asked, by its arguments.
 
-// A walk of a prototype, `budget` steps at most, with so many decisions; and whether the lent bytes are to be told.
+// A walk of a prototype, `budget` steps at most, with so many decisions and strikes; and whether the lent bytes are to be told.
 pub(crate) struct Asked {
     pub prototype: u64,
     pub budget: u64,
     pub decisions: u64,
+    pub strikes: u64,
     pub visited: bool,
 }
 
@@ -18,7 +19,7 @@ enum Told {
     Wrong,
 }
 
-// Three numbers, and perhaps the word `visited`.
+// Four numbers, and perhaps the word `visited`.
 pub(crate) fn heard() -> Said {
     let count = os::arg_count();
     let Told::Number(prototype) = number(1) else {
@@ -30,12 +31,16 @@ pub(crate) fn heard() -> Said {
     let Told::Number(decisions) = number(3) else {
         return Said::Wrong;
     };
-    let visited = is_visited(4);
-    if (count == 4) | ((count == 5) & visited) {
+    let Told::Number(strikes) = number(4) else {
+        return Said::Wrong;
+    };
+    let visited = is_visited(5);
+    if (count == 5) | ((count == 6) & visited) {
         return Said::Walk(Asked {
             prototype: prototype,
             budget: budget,
             decisions: decisions,
+            strikes: strikes,
             visited: visited,
         });
     }

@@ -23,7 +23,7 @@ yengrazul-read-determined κs args r r' s s' p q = p ∙ sym q
 
 -- the five numbers, the lent bytes
 pub yengrazul-walk-determined : (κs : _) (args : _) (r r' : _) (s s' : _) → yengrazul-walk.Post κs args r s → yengrazul-walk.Post κs args r' s'
-    → (now (s .1 .1 .1 .1 .1 .0) ≡ now (s' .1 .1 .1 .1 .1 .0)) × (now (s .1 .1 .1 .1 .0) ≡ now (s' .1 .1 .1 .1 .0))
+    → (now (s .1 .1 .1 .1 .1 .1 .0) ≡ now (s' .1 .1 .1 .1 .1 .1 .0)) × (now (s .1 .1 .1 .1 .1 .0) ≡ now (s' .1 .1 .1 .1 .1 .0))
 yengrazul-walk-determined κs args r r' s s' p q = (p .0 ∙ sym (q .0), p .1 ∙ sym (q .1))
 
 -- the four numbers, the output, the list

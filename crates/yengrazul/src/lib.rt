@@ -55,14 +55,15 @@ pub extern "C" fn yengrazul_walk(
     image: &[u8],
     prototype: u64,
     decisions: &[u8],
+    strikes: &[u64],
     budget: u64,
     visited: &mut [u8],
     answer: &mut [u64; 5],
 )
-    ensures answered { λ _. ⌜ now (answer .exit) ≡ walk-told (walk-answer (walk-image 0x43 (now (image .entry)) «prototype» (now (decisions .entry)) «budget» (length (now (visited .entry))))) ⌝ }
-    ensures visited { λ _. ⌜ now (visited .exit) ≡ lent-bytes (walk-image 0x43 (now (image .entry)) «prototype» (now (decisions .entry)) «budget» (length (now (visited .entry)))) (length (now (visited .entry))) ⌝ }
+    ensures answered { λ _. ⌜ now (answer .exit) ≡ walk-told (walk-answer (walk-image 0x43 (now (image .entry)) «prototype» (now (decisions .entry)) (now (strikes .entry)) «budget» (length (now (visited .entry))))) ⌝ }
+    ensures visited { λ _. ⌜ now (visited .exit) ≡ lent-bytes (walk-image 0x43 (now (image .entry)) «prototype» (now (decisions .entry)) (now (strikes .entry)) «budget» (length (now (visited .entry)))) (length (now (visited .entry))) ⌝ }
 {
-    let walked = walk::walk(image, prototype, decisions, budget, visited);
+    let walked = walk::walk(image, prototype, decisions, strikes, budget, visited);
     *answer = [
         walked.number,
         walked.place,

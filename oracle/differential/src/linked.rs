@@ -33,6 +33,8 @@ extern "C" {
         prototype: u64,
         decisions: *const u8,
         decisions_len: usize,
+        strikes: *const u64,
+        strikes_len: usize,
         budget: u64,
         visited: *mut u8,
         visited_len: usize,

@@ -81,7 +81,7 @@ pub struct Report {
     /// How many trees and images were asked about, by the number that was due.
     pub by_number: [u64; 30],
     /// How many walks were asked about, by the ending that was due.
-    pub endings: [u64; 3],
+    pub endings: [u64; 5],
     pub differences: Vec<String>,
 }
 

@@ -18,7 +18,7 @@ fn a_right_walker() {
     let report = runs(yengrazul_walk, 20_000);
     assert_eq!(report.differences, Vec::<String>::new());
     assert!(report.total() > 20_400, "{}", report.total());
-    assert!(report.endings.iter().all(|n| *n > 1000), "{:?}", report.endings);
+    assert!(report.endings.iter().all(|n| *n > 100), "{:?}", report.endings);
 }
 
 /// A wrong walker: from what the right one leaves, or from another run or image, something else. The bytes are what was there before.
@@ -32,13 +32,16 @@ macro_rules! wrong {
                 prototype: u64,
                 d: *const u8,
                 dn: usize,
+                s: *const u64,
+                sn: usize,
                 budget: u64,
                 v: *mut u8,
                 vn: usize,
                 a: *mut u64,
             ) {
                 let $image = from_raw_parts(i, n);
-                let $run = Run { prototype, decisions: from_raw_parts(d, dn).to_vec(), budget };
+                let (decisions, strikes) = (from_raw_parts(d, dn).to_vec(), from_raw_parts(s, sn).to_vec());
+                let $run = Run { prototype, decisions, strikes, budget };
                 let visited = from_raw_parts_mut(v, vn);
                 #[allow(unused_variables)]
                 let $before = visited.to_vec();
@@ -219,12 +222,14 @@ macro_rules! harm {
                 prototype: u64,
                 d: *const u8,
                 dn: usize,
+                s: *const u64,
+                sn: usize,
                 budget: u64,
                 v: *mut u8,
                 vn: usize,
                 a: *mut u64,
             ) {
-                yengrazul_walk(i, n, prototype, d, dn, budget, v, vn, a);
+                yengrazul_walk(i, n, prototype, d, dn, s, sn, budget, v, vn, a);
                 let ($image, $decisions, $visited, $lent, $answer) = ((i as *mut u8, n), (d as *mut u8, dn), v, vn, a);
                 $harm
             }
@@ -251,6 +256,8 @@ fn nothing_done() {
         _: usize,
         _: u64,
         _: *const u8,
+        _: usize,
+        _: *const u64,
         _: usize,
         _: u64,
         _: *mut u8,

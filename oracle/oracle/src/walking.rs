@@ -1,4 +1,5 @@
-//! A second walker, from E4 of document 02 and 01's steps: where a run of a prototype went by its decisions.
+//! A second walker, from E4 and E8 of document 02 and 01's steps: where a run of a prototype went by its decisions, and by the failures
+//! that struck.
 use crate::facts::targets;
 use crate::reading::read;
 use files::image::{Instruction, Prototype};
@@ -9,6 +10,8 @@ use files::listing::opcode;
 pub struct Run {
     pub prototype: u64,
     pub decisions: Vec<u8>,
+    /// Step numbers at which a failure strikes in place of the ordinary step.
+    pub strikes: Vec<u64>,
     pub budget: u64,
 }
 
@@ -25,7 +28,12 @@ pub enum Ending {
     Return = 0,
     Decisions = 1,
     Budget = 2,
+    Failed = 3,
+    Handlers = 4,
 }
+
+/// So many handlers may be registered.
+const MOST_HANDLERS: usize = 256;
 
 /// Number and place, or the prototype to be walked.
 fn admitted(image: &[u8], run: &Run, lent: usize) -> Result<Prototype, [u64; 2]> {
@@ -34,6 +42,9 @@ fn admitted(image: &[u8], run: &Run, lent: usize) -> Result<Prototype, [u64; 2]>
     let prototype = image.prototypes[place.ok_or([22, 0])?].clone();
     if let Some(offset) = run.decisions.iter().position(|byte| *byte > 1) {
         return Err([23, offset as u64]);
+    }
+    if let Some(before) = run.strikes.windows(2).position(|pair| pair[1] <= pair[0]) {
+        return Err([25, before as u64 + 1]);
     }
     if lent < prototype.instructions.len() {
         return Err([29, 0]);
@@ -59,18 +70,27 @@ pub fn walk(image: &[u8], run: &Run, lent: usize) -> Walked {
 struct Walker<'r> {
     code: &'r [Instruction],
     decisions: &'r [u8],
+    strikes: &'r [u64],
     budget: u64,
     at: usize,
     steps: u64,
+    /// Where the registered handlers stand, the last on top.
+    handlers: Vec<usize>,
 }
 
 impl<'r> Walker<'r> {
     fn new(code: &'r [Instruction], run: &'r Run) -> Walker<'r> {
-        Walker { code, decisions: &run.decisions, budget: run.budget, at: 0, steps: 0 }
+        let (decisions, strikes, budget) = (&run.decisions[..], &run.strikes[..], run.budget);
+        Walker { code, decisions, strikes, budget, at: 0, steps: 0, handlers: vec![] }
     }
 
     fn stands_at(&self, name: &str) -> bool {
         self.code[self.at].opcode == opcode(name)
+    }
+
+    /// Whether a failure strikes at the step that comes next.
+    fn is_struck(&self) -> bool {
+        self.strikes.contains(&self.steps)
     }
 
     /// Steps until the walk ends; every instruction stood at is visited, the last included.
@@ -84,27 +104,41 @@ impl<'r> Walker<'r> {
         }
     }
 
-    /// "At a Return, out of decisions, or out of budget, judged in that order before each step"; only a Test asks for a decision.
+    /// "At a Return, out of decisions, or out of budget, judged in that order before each step"; only a Test asks for a decision, and not
+    /// where it is struck. Then what a step ends as: Failed without a handler, Handlers where one more would be registered.
     fn ending(&self) -> Option<Ending> {
         if self.stands_at("Return") {
             Some(Ending::Return)
-        } else if self.stands_at("Test") && self.decisions.is_empty() {
+        } else if self.stands_at("Test") && self.decisions.is_empty() && !self.is_struck() {
             Some(Ending::Decisions)
         } else if self.steps == self.budget {
             Some(Ending::Budget)
+        } else if self.is_struck() && self.handlers.is_empty() {
+            Some(Ending::Failed)
+        } else if !self.is_struck() && self.stands_at("RegisterTryCatch") && self.handlers.len() == MOST_HANDLERS {
+            Some(Ending::Handlers)
         } else {
             None
         }
     }
 
-    /// One of 01's steps: at a Test the one that was decided, from RegisterTryCatch on, else the only one.
+    /// To the handler registered last, which stays, where a failure strikes; else one of 01's steps.
     fn step(&mut self) {
+        self.at = if self.is_struck() { *self.handlers.last().expect("else it had failed") } else { self.ordinary() };
+        self.steps += 1;
+    }
+
+    /// At a Test the step that was decided, from RegisterTryCatch on, else the only one.
+    fn ordinary(&mut self) -> usize {
         let to = targets(self.at, &self.code[self.at]);
         let mut which = 0;
         if self.stands_at("Test") {
             (which, self.decisions) = (usize::from(self.decisions[0]), &self.decisions[1..]);
+        } else if self.stands_at("RegisterTryCatch") {
+            self.handlers.push(to[1] as usize);
+        } else if self.stands_at("DeregisterTryCatch") {
+            self.handlers.pop();
         }
-        self.at = to[which] as usize;
-        self.steps += 1;
+        to[which] as usize
     }
 }

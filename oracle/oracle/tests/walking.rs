@@ -26,7 +26,7 @@ fn mazes_are_taken() {
 /// Random walks reach every answer and ending, often with the budget's last step at the end; a walk is as long as it is said to be.
 #[test]
 fn random_walks_reach_everything() {
-    let (mut numbers, mut endings, mut last, mut long) = ([0; 30], [0; 3], [0; 3], 0);
+    let (mut numbers, mut endings, mut last, mut long) = ([0; 30], [0; 5], [0; 5], 0);
     for k in 0..20_000 {
         let question = random::any(7, k);
         let Run { budget, .. } = question.run;
@@ -44,9 +44,9 @@ fn random_walks_reach_everything() {
         last[ending as usize] += u32::from(steps == budget);
         long += u32::from(steps > 300);
     }
-    assert!([0, 19, 20, 22, 23, 29].iter().all(|n| numbers[*n] > 100), "{numbers:?}");
+    assert!([0, 19, 20, 22, 23, 25, 29].iter().all(|n| numbers[*n] > 100), "{numbers:?}");
     assert!(
-        endings.iter().all(|n| *n > 1000) && last.iter().all(|n| *n > 300) && long > 50,
+        endings.iter().all(|n| *n > 100) && last[..3].iter().all(|n| *n > 300) && last[3..] == [0, 0] && long > 50,
         "{endings:?} {last:?} {long}"
     );
 }

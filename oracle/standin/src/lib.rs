@@ -60,6 +60,8 @@ pub unsafe extern "C" fn yengrazul_walk(
     prototype: u64,
     decisions: *const u8,
     decisions_len: usize,
+    strikes: *const u64,
+    strikes_len: usize,
     budget: u64,
     visited: *mut u8,
     visited_len: usize,
@@ -67,7 +69,8 @@ pub unsafe extern "C" fn yengrazul_walk(
 ) {
     let (image, decisions) = (from_raw_parts(image, image_len), from_raw_parts(decisions, decisions_len));
     let (visited, answer) = (from_raw_parts_mut(visited, visited_len), from_raw_parts_mut(answer, 5));
-    let run = Run { prototype, decisions: decisions.to_vec(), budget };
+    let strikes = from_raw_parts(strikes, strikes_len).to_vec();
+    let run = Run { prototype, decisions: decisions.to_vec(), strikes, budget };
     let walked = walking::walk(image, &run, visited_len);
     visited.copy_from_slice(&walked.visited);
     answer.copy_from_slice(&walked.numbers);

@@ -1,4 +1,5 @@
--- Theorem (d): in an image whose tests pass, every walk from the first instruction stands within its prototype, and the facts of demand 3 hold where it stands.
+-- Theorem (d): in an image whose tests pass, every walk of the amended steps from the first instruction stands within its prototype, and the facts of
+-- demand 3 hold where it stands. A handler that a failure leads to is entered by a step of 01 too, so the exception of E1 is not met there.
 use mathlib.Core.Path.{_≡_, refl, sym, ap, _∙_, subst}
 use mathlib.Core.Bool.{Bool, true, false, not, _&&_, _||_}
 use mathlib.Core.Option.{Option, none, some}
@@ -11,7 +12,7 @@ use borrow.Author.Tests.{eq-eqb, ne-eqb}
 use Rattle.meaning.specs.Opcode.{inst, no-mark, Jmp, Test, Return, RegisterTryCatch}
 use Rattle.meaning.specs.Constant.{Constant}
 use Rattle.meaning.specs.State.{Proto}
-use Rattle.meaning.specs.Steps.{inst-at, Step, next, jump, skip, handler, Walk, here, and-on}
+use Rattle.meaning.specs.Steps.{inst-at, opcode-at, Step, next, jump, skip, handler, Amended, ordinary, struck, Walk, here, and-on}
 use Rattle.meaning.specs.Safety.{All, Facts, Inside, Stands}
 use Rattle.meaning.specs.declared.Instruction.{Instruction}
 use Rattle.meaning.proofs.Lists.{false-true}
@@ -118,17 +119,24 @@ module _ (im : Image) (good : broken im ≡ none) (before : List Proto) (p : Pro
       go true = refl
       go false = refl
 
-  after-step : (j : ℕ) (o : Option ℕ) → Step (p .code) j o → Inside (length (p .code)) o → Stands (im .constants) before p (Step (p .code)) o
+  -- from any instruction but Return there is a step
+  on : (m : ℕ) → m < length (p .code) → (opcode-at (p .code) m ≡ Return → ⊥) → (further : Option ℕ) × Amended (p .code) m further
+  on m h r = let g = goes-on (p .code) m h r in (g .0, ordinary (g .1))
+
+  after-step : (j : ℕ) (o : Option ℕ) → Step (p .code) j o → Inside (length (p .code)) o → Stands (im .constants) before p (Amended (p .code)) o
   after-step j none s h = absurd h
   after-step j (some m) s h = record {
     place = m;
     there = refl;
     inside = h;
     facts = fine m h (entered-not m (enters (p .code) 0 j m (step-from (p .code) j (some m) s) (subst (λ (k : ℕ). some-of (is m) (leads k (inst-at (p .code) j)) ≡ true) (let z : j ≡ 0 + j = omega arith in z) (leads-to (p .code) j m (some m) s refl))));
-    goes-on = goes-on (p .code) m h;
+    goes-on = on m h;
   }
 
-  pub stands : 0 < length (p .code) → (o : Option ℕ) → Walk (Step (p .code)) 0 o → Stands (im .constants) before p (Step (p .code)) o
-  stands some-code _ here = record { place = 0; there = refl; inside = some-code; facts = fine 0 some-code refl; goes-on = goes-on (p .code) 0 some-code }
-  stands some-code o (and-on {j = j} w s) =
-      after-step j o s (steps-inside (p .code) j (lawful-stays (im .constants) before p j (each j (step-from (p .code) j o s))) o s)
+  stays : (j : ℕ) (o : Option ℕ) → Step (p .code) j o → Inside (length (p .code)) o
+  stays j o s = steps-inside (p .code) j (lawful-stays (im .constants) before p j (each j (step-from (p .code) j o s))) o s
+
+  pub stands : 0 < length (p .code) → (o : Option ℕ) → Walk (Amended (p .code)) 0 o → Stands (im .constants) before p (Amended (p .code)) o
+  stands some-code _ here = record { place = 0; there = refl; inside = some-code; facts = fine 0 some-code refl; goes-on = on 0 some-code }
+  stands some-code o (and-on {j = j} w (ordinary s)) = after-step j o s (stays j o s)
+  stands some-code o (and-on w (struck k l r h e)) = after-step k o (handler h e) (stays k o (handler h e))

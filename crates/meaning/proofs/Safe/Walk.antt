@@ -14,7 +14,7 @@ use borrow.Author.Tests.{eqb-true, eqb-false, ltb-true, ltb-false, leb-false}
 use Rattle.meaning.specs.Opcode.{inst, bx, no-mark, Jmp, Test, Call, Return, GetUpval, Closure, LoadK, RegisterTryCatch}
 use Rattle.meaning.specs.Constant.{Constant}
 use Rattle.meaning.specs.State.{Proto, among}
-use Rattle.meaning.specs.Steps.{inst-at, opcode-at, target, Step, next, jump, skip, handler, Walk, here, and-on}
+use Rattle.meaning.specs.Steps.{inst-at, opcode-at, target, Step, next, jump, skip, handler, Amended, ordinary, struck, Walk, here, and-on}
 use Rattle.meaning.specs.Safety.{met, name-due, All, Inside, Facts, Safe, Stands}
 use Rattle.meaning.specs.declared.Instruction.{Instruction}
 use Rattle.meaning.proofs.Safe.Fine.{View, Fine, FineAs, Kind, kind, name-of, Sane, Leap, lands, continues, breaks, Lands, Any, holds-below, fine-at}
@@ -163,17 +163,28 @@ step-from code i o (jump l e) = l
 step-from code i o (skip l e) = l
 step-from code i o (handler l e) = l
 
-pub steps-stand : (cs : List Constant) (earlier : List Proto) (p : Proto) → Safe cs earlier p → (o : Option ℕ) → Walk (Step (p .code)) 0 o → Stands cs earlier p (Step (p .code)) o
-steps-stand cs earlier p σ = walk-stands cs earlier p (Step (p .code)) σ (λ i o s. s) (λ i o s. σ .facts i (step-from (p .code) i o s) .steps o s)
+-- ---- the amended steps
 
--- with a failure that may strike at any instruction but Return, and leads to the handler of any RegisterTryCatch
-pub data Struck (code : List Instruction) (i : ℕ) : Option ℕ → Type 0 where
-  ordinary : {o : Option ℕ} → Step code i o → Struck code i o
-  strikes : (h : ℕ) → i < length code → (opcode-at code i ≡ Return → ⊥) → h < length code → opcode-at code h ≡ RegisterTryCatch → Struck code i (some (h + bx (inst-at code h)))
+-- a failure leads where a step of the RegisterTryCatch leads that has the handler
+pub amended-inside : (code : List Instruction) → ((i : ℕ) (o : Option ℕ) → Step code i o → Inside (length code) o) → (i : ℕ) (o : Option ℕ) → Amended code i o → Inside (length code) o
+amended-inside code stays i o (ordinary s) = stays i o s
+amended-inside code stays i o (struck k l r h e) = stays k _ (handler h e)
 
-struck-inside : (cs : List Constant) (earlier : List Proto) (p : Proto) → Safe cs earlier p → (i : ℕ) (o : Option ℕ) → Struck (p .code) i o → Inside (length (p .code)) o
-struck-inside cs earlier p σ i o (ordinary s) = σ .facts i (step-from (p .code) i o s) .steps o s
-struck-inside cs earlier p σ i o (strikes h l r k e) = σ .facts h k .steps _ (handler k e)
+pub safe-inside : (cs : List Constant) (earlier : List Proto) (p : Proto) → Safe cs earlier p → (i : ℕ) (o : Option ℕ) → Step (p .code) i o → Inside (length (p .code)) o
+safe-inside cs earlier p σ i o s = σ .facts i (step-from (p .code) i o s) .steps o s
 
-pub struck-stand : (cs : List Constant) (earlier : List Proto) (p : Proto) → Safe cs earlier p → (o : Option ℕ) → Walk (Struck (p .code)) 0 o → Stands cs earlier p (Struck (p .code)) o
-struck-stand cs earlier p σ = walk-stands cs earlier p (Struck (p .code)) σ (λ i o s. ordinary s) (struck-inside cs earlier p σ)
+pub amended-stand : (cs : List Constant) (earlier : List Proto) (p : Proto) → Safe cs earlier p → (o : Option ℕ) → Walk (Amended (p .code)) 0 o → Stands cs earlier p (Amended (p .code)) o
+amended-stand cs earlier p σ = walk-stands cs earlier p (Amended (p .code)) σ (λ i o s. ordinary s) (amended-inside (p .code) (safe-inside cs earlier p σ))
+
+-- ---- the older statement, from that
+
+pub walk-amended : (code : List Instruction) (o : Option ℕ) → Walk (Step code) 0 o → Walk (Amended code) 0 o
+walk-amended code _ here = here
+walk-amended code o (and-on {j} w s) = and-on (walk-amended code (some j) w) (ordinary s)
+
+-- a walk of 01's steps is one of the amended steps, and stands where that stands; from there 01 has a step too, but from a Return
+pub stands-01 : (cs : List Constant) (earlier : List Proto) (p : Proto) → ((o : Option ℕ) → Walk (Amended (p .code)) 0 o → Stands cs earlier p (Amended (p .code)) o)
+    → (o : Option ℕ) → Walk (Step (p .code)) 0 o → Stands cs earlier p (Step (p .code)) o
+stands-01 cs earlier p amended o w =
+    let s = amended o (walk-amended (p .code) o w) in
+    record { place = s .place; there = s .there; inside = s .inside; facts = s .facts; goes-on = goes-on (p .code) (s .place) (s .inside) }

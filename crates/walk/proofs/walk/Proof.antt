@@ -9,7 +9,7 @@ use denote.Ref.{now}
 use Rattle.meaning.specs.Fields.{fields}
 use Rattle.meaning.specs.Images.{image-of}
 use Rattle.meaning.specs.Reader.{broken}
-use Rattle.meaning.specs.Walker.{Walking, walk-in, walk-image}
+use Rattle.meaning.specs.Walker.{Walking, Asked, asked, walk-in, walk-image}
 use Rattle.meaning.specs.declared.Outcome.the-variants.{Accepted}
 use Rattle.reader.proofs.Answered.{outcome-of, accepted-ordered}
 use Rattle.walk.proofs.Arrived.{refused-so, answered-so, read-refused, read-taken}
@@ -17,28 +17,31 @@ use Rattle.walk.proofs.walk.Statement.{statement}
 use Rattle.walk.proofs.walk.Tie as tie
 
 abbrev S : tie.After-clear → tie.Start
-S c = c .before .before .before .before .before
+S c = c .before .before .before .before .before .before
 
 abbrev N : tie.Start → ℕ
 N s = length (now (s .args .visited))
 
+abbrev A : tie.Start → (lent : ℕ) → Asked
+A s n = asked (now (s .args .decisions)) (now (s .args .strikes)) (s .args .budget) n
+
 abbrev W : tie.Start → Walking
-W s = walk-image 0x43 (now (s .args .image)) (s .args .prototype) (now (s .args .decisions)) (s .args .budget) (N s)
+W s = walk-image 0x43 (now (s .args .image)) (s .args .prototype) (now (s .args .decisions)) (now (s .args .strikes)) (s .args .budget) (N s)
 
 accepted : (c : tie.After-walk-taken-arg) → outcome-of 0x43 (now (S (c .before .before .before .before .before .before) .args .image)) ≡ Accepted (c .before .enum-told .given .0 .0)
 accepted c = sym (c .before .before .before .read .ensures) ∙ c .before .enum-told .given .1
 
 taken : (c : tie.After-walk-taken-arg) → let s = S (c .before .before .before .before .before .before) in
-    (broken (image-of 0x43 (fields (now (s .args .image)))) ≡ none) × (walk-in (image-of 0x43 (fields (now (s .args .image)))) (s .args .prototype) (now (s .args .decisions)) (s .args .budget) (N s) ≡ W s)
+    (broken (image-of 0x43 (fields (now (s .args .image)))) ≡ none) × (walk-in (image-of 0x43 (fields (now (s .args .image)))) (s .args .prototype) (A s (N s)) ≡ W s)
 taken c = let s = S (c .before .before .before .before .before .before) in
-    read-taken 0x43 (now (s .args .image)) (s .args .prototype) (now (s .args .decisions)) (s .args .budget) (N s) _ (accepted c)
+    read-taken 0x43 (now (s .args .image)) (s .args .prototype) (A s (N s)) _ (accepted c)
 
 returns : tie.Need-returns
 returns c =
     let k = c .before .before .before .before .before .before .before in
     let s = S k in
     refused-so (W s) _ _ (s .args .budget) (N s) _ _
-    (read-refused 0x43 (now (s .args .image)) (s .args .prototype) (now (s .args .decisions)) (s .args .budget) (N s) _ _ (sym (c .before .before .before .before .read .ensures) ∙ c .before .before .outcome .given .1))
+    (read-refused 0x43 (now (s .args .image)) (s .args .prototype) (A s (N s)) _ _ (sym (c .before .before .before .before .read .ensures) ∙ c .before .before .outcome .given .1))
     (c .refusal .ensures) (k .clear .ensures)
 
 returns-2 : tie.Need-returns-2
@@ -49,7 +52,7 @@ returns-2 c =
     let s = S k in
     let same = k .clear .kept .0 in
     answered-so _ (W s) (s .args .budget) _ (N s) _ _
-    (ap (λ (m : ℕ). walk-in (image-of 0x43 (fields (now (s .args .image)))) (s .args .prototype) (now (s .args .decisions)) (s .args .budget) m) same ∙ taken a .1)
+    (ap (λ (m : ℕ). walk-in (image-of 0x43 (fields (now (s .args .image)))) (s .args .prototype) (A s m)) same ∙ taken a .1)
     same (t .walk-taken .ensures)
 
 pub walk-spec : {M : Type 1} → statement M
@@ -64,5 +67,5 @@ walk-spec =
     (λ c κs. let k = c .before .before .before .before .before .before in (accepted-ordered 0x43 (now (S k .args .image)) _ (accepted c) (inl refl), taken c .0, k .clear .ensures ∙ ap (λ (n : ℕ). replicate n 0) (sym (k .clear .kept .0))))
     (λ c. c .before .before .before .before .before .before .before .clear .kept .0)
     returns
-    (λ c. c .before .before .walk-taken .kept .1 .1 .1 .1 .1 .0 ∙ c .before .before .before .before .before .before .before .before .before .clear .kept .0)
+    (λ c. c .before .before .walk-taken .kept .1 .1 .1 .1 .1 .1 .0 ∙ c .before .before .before .before .before .before .before .before .before .clear .kept .0)
     returns-2)

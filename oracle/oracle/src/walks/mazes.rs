@@ -7,11 +7,28 @@ use files::image::Instruction;
 pub fn any(rng: &mut Rng) -> Vec<u8> {
     let mut prototypes = vec![];
     for _ in 0..rng.range(1, 4) {
+        if rng.chance(100) {
+            prototypes.push(prototype(1, vec![], registering(rng)));
+            continue;
+        }
         let length = if rng.chance(20) { rng.range(200, 700) } else { rng.range(1, 30) };
         let returns = *rng.pick(&[0, 20, 60, 200]);
         prototypes.push(prototype(1, vec![], maze(rng, length, returns)));
     }
     image(prototypes, vec![])
+}
+
+/// A loop that registers one to three handlers in a round, takes off at most as many, and so ends by their number, or by the budget.
+fn registering(rng: &mut Rng) -> Vec<Instruction> {
+    let (on, off) = (rng.range(1, 3), rng.below(3));
+    let mut code: Vec<Instruction> = (0..on).map(|k| wide("RegisterTryCatch", 0, on + off + 1 - k)).collect();
+    code.extend((0..off.min(on)).map(|_| ins("DeregisterTryCatch", 0, 0, 0)));
+    while code.len() < on + off {
+        code.push(ins("LoadNil", 0, 0, 0));
+    }
+    let back = code.len();
+    code.extend([wide("Jmp", 0, 0usize.wrapping_sub(back)), ins("LoadNil", 0, 0, 0), end()]);
+    code
 }
 
 /// So many instructions, and how often one is a Return, in 1,000. The last is a Return or a Jmp.

@@ -22,12 +22,15 @@ pub fn any(seed: u64, k: u64) -> Question {
 /// A run over an image: mostly of a prototype that is there, with decisions that mostly are some, and all the bytes that are due.
 fn asked(rng: &mut Rng, image: Vec<u8>) -> Question {
     let Ok(parts) = read(&image) else {
-        let run = Run { prototype: rng.below(3) as u64, decisions: decisions(rng), budget: rng.below(50) as u64 };
+        let (prototype, budget) = (rng.below(3) as u64, rng.below(50) as u64);
+        let run = Run { prototype, decisions: decisions(rng), strikes: strikes(rng, 9), budget };
         return Question { image, run, lent: rng.below(40) };
     };
     let own = rng.below(parts.prototypes.len());
     let length = parts.prototypes[own].instructions.len();
-    let mut run = Run { prototype: own as u64, decisions: decisions(rng), budget: LONG };
+    let mut run = Run { prototype: own as u64, decisions: decisions(rng), strikes: vec![], budget: LONG };
+    let steps = walk(&image, &run, length).numbers[2];
+    run.strikes = if rng.chance(400) { vec![] } else { strikes(rng, steps) };
     run.budget = budget(rng, &image, &run, length);
     if rng.chance(60) {
         run.prototype = unknown(rng, parts.prototypes.len() as u64);
@@ -50,6 +53,25 @@ fn asked(rng: &mut Rng, image: Vec<u8>) -> Question {
 fn decisions(rng: &mut Rng) -> Vec<u8> {
     let (n, ones) = (*rng.pick(&[0, 0, 1, 2, 5, 20, 100]), *rng.pick(&[0, 300, 500, 1000]));
     (0..n).map(|_| u8::from(rng.chance(ones))).collect()
+}
+
+/// Rising step numbers about a path of so many steps, often one right behind the other; now and then far beyond, or out of order.
+fn strikes(rng: &mut Rng, steps: u64) -> Vec<u64> {
+    let mut next = rng.below(steps.min(40) as usize + 1) as u64;
+    let mut all = vec![];
+    for _ in 0..*rng.pick(&[0, 1, 1, 2, 3, 8, 40]) {
+        all.push(next);
+        let apart = *rng.pick(&[1, 3, 20]);
+        next += 1 + rng.below(apart) as u64;
+    }
+    if rng.chance(100) {
+        all.extend([next + (1 << 32), u64::MAX]);
+    }
+    if rng.chance(60) && all.len() > 1 {
+        let at = rng.range(1, all.len() - 1);
+        all[at] = all[at - 1].saturating_sub(rng.below(2) as u64);
+    }
+    all
 }
 
 /// Beside the path's length, where it ends of itself; none of a loop is without end.

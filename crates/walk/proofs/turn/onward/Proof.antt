@@ -2,8 +2,8 @@ use mathlib.Core.Path.{_≡_, refl, ap}
 use native.Mathlib.Omega.{arith}
 use borrow.Author.Tests.{ne-eqb, eq-eqb, lt-ltb, le-ltb, le-leb}
 use Prim.Native.Nat.{_+_}
-use Rattle.walk.proofs.route.onward.Statement.{statement}
-use Rattle.walk.proofs.route.onward.Tie as tie
+use Rattle.walk.proofs.turn.onward.Statement.{statement}
+use Rattle.walk.proofs.turn.onward.Tie as tie
 
 returns : tie.Need-returns
 returns c = rw (eq-eqb (c .before .args .o) 4 (c .if1 .taken)) refl

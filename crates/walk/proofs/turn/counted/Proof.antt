@@ -1,0 +1,8 @@
+use borrow.Author.Needs.{needs}
+use mathlib.Core.Path.{refl}
+use native.Mathlib.Omega.{arith}
+use Rattle.walk.proofs.turn.counted.Statement.{statement}
+use Rattle.walk.proofs.turn.counted.Tie as tie
+
+pub counted-spec : {M : Type 1} → statement M
+counted-spec = tie.close (tie.spec (λ c. omega (arith, c .before .pre (c .if1 .taken))) (λ c. rw (c .if1 .taken) refl) (λ c. search needs))
