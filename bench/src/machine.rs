@@ -11,8 +11,21 @@ pub fn processor() -> String {
     let numbers = ["cpu family", "model\t", "stepping"].map(|name| field(name).unwrap_or("?".into()));
     let cores = std::thread::available_parallelism().map_or(0, |n| n.get());
     let [family, model, stepping] = numbers;
-    let name = field("model name").unwrap_or("unknown processor".into());
-    format!("{name} (family {family}, model {model}, stepping {stepping}), {cores} cores")
+    let arm = || {
+        Some(format!(
+            "{} of implementer {}, part {}",
+            std::env::consts::ARCH,
+            field("CPU implementer")?,
+            field("CPU part")?
+        ))
+    };
+    let name = field("model name").or_else(arm).unwrap_or("unknown processor".into());
+    let built = if cfg!(target_arch = "x86_64") {
+        ""
+    } else {
+        "; rt compiles for x86-64, so the proved module was compiled for this one (bench/native)"
+    };
+    format!("{name} (family {family}, model {model}, stepping {stepping}), {cores} cores{built}")
 }
 
 /// The first line that a program says.
