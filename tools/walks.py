@@ -11,7 +11,7 @@ import struct
 import imagefile
 from streams import MOST, ROOT, Failure, child
 
-LONGEST = 2147418111  # what the program reads
+LONGEST, MOST_STRIKES = 2147418111, 16777216  # what the program reads: bytes in all, strikes
 START = os.path.join(ROOT, "tools", "start.sh")
 CAUSES = {22: ("Prototype", "the image must have a prototype of this number"),
           23: ("Decision", "a decision must be 0 or 1"),
@@ -169,8 +169,8 @@ class Program:
             raise Failure(f"{self.found[0]} does not run on this machine")
         if status == 139:
             raise Failure("the stack is too small: this image takes more than its limit (ulimit -s) allows")
-        if status == 0 and not out and len(lent) > LONGEST:
-            raise Failure(f"decisions, strikes and image have {len(lent)} bytes, and the program reads {LONGEST}")
+        if status == 0 and not out and (len(lent) > LONGEST or len(asked.strikes) > MOST_STRIKES):
+            raise Failure(f"the program reads {LONGEST} bytes and {MOST_STRIKES} strikes among them, and here are {len(lent)} and {len(asked.strikes)}")
         told = re.fullmatch(rb"(\d+) (\d+) (\d+) (\d+) (\d+)\n(?:([01]+)\n)?", out)
         if status != 0 or not told:
             raise Failure(f"the program ended with status {status}, and answered {out[:80]!r}")

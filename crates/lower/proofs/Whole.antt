@@ -1,7 +1,7 @@
 -- A whole program: its statements, the prototype of main, the constants. The run that the words stand for at the end is the definition's `lower-program`.
 use mathlib.Core.Path.{_≡_, refl, sym, ap, subst, _∙_}
 use mathlib.Core.List.{List, [], _++_}
-use Prim.Native.Nat.{ℕ, _-_, _<_, _≤_}
+use Prim.Native.Nat.{ℕ, _+_, _-_, _<_, _≤_}
 use native.Mathlib.Omega.{arith}
 use lib.ListN.{length, take, replicate}
 use Rattle.meaning.specs.Fields.{fields}
@@ -11,9 +11,9 @@ use Rattle.meaning.specs.Read.{read-program}
 use Rattle.meaning.specs.State.{Res, refused, done}
 use Rattle.meaning.specs.Lower.{lower-stmts, lower-program}
 use Rattle.meaning.specs.Answer.{Finished, imaged, stopped, lowered, finished-after, finished, outcome, answer, reply, output}
-use Rattle.meaning.specs.Visits.{visits-program}
+use Rattle.meaning.specs.Visits.{visits-stmts, visits-program}
 use Rattle.meaning.proofs.Imaged.{finished-lowered}
-use Rattle.meaning.proofs.Bounded.{program-exact}
+use Rattle.meaning.proofs.VisitsMost.{program-exact}
 use Rattle.meaning.specs.declared.Answer.{Answer}
 use Rattle.meaning.specs.declared.Reply.{Reply}
 use Rattle.meaning.specs.declared.Cause.{Cause}
@@ -86,7 +86,8 @@ module _ (mode : ℕ) (t : List ℕ) (work n : ℕ) (e : checked mode t work ≡
         let u = due (s1 .outcome) (rows .does .moves .used) (row-going f (s1 .outcome) refl) .visits in
         let l = finished-lowered mode t work (length o) bytes f in
         let small = program-exact mode t work (l .nodes) (l .main) (l .state) (l .accepted) (l .lowering) in
-        rw (program-is mode t work n e) (omega (arith, u, begun .counts, rw (program-is mode t work n e) at small))
+        let less : 1 + visits-stmts (stmts-at (fields t) (n - 1) 0 (count-of (fields t) (n - 1))) < 4294967296 = rw (program-is mode t work n e) at small in
+        rw (program-is mode t work n e) (omega (arith, u, begun .counts, less))
 
     long-enough : 3144 ≤ length w'
     long-enough = omega (arith, rows .does .moves .fine .sound .long)
@@ -104,10 +105,6 @@ module _ (mode : ℕ) (t : List ℕ) (work n : ℕ) (e : checked mode t work ≡
 pub not-begun : (mode : ℕ) (t o : List ℕ) (work room : ℕ) (r : Outcome) {c : Cause} {k : ℕ} → r ≡ checked mode t work → r ≡ Refused c k → Ending (finished mode t work room) o r
 unfolding finished
 not-begun mode t o work room r {c} {k} e f = subst (λ x. Ending (finished-after mode x t room) o r) (sym f ∙ e) (record { told = f; fits = rw f (omega arith); front = rw f refl })
-
--- a refusal counts nothing
-pub none-counted : (t w : List ℕ) (r : Outcome) {c : Cause} {k : ℕ} → r ≡ Refused c k → Counted t w r
-none-counted t w r e = rw e tt
 
 -- ---- what is left once the bytes behind the image are cleared
 

@@ -220,7 +220,7 @@ module _ {nx vx : ℕ} {x : M Chunk} (h : Costs nx vx x) where
     both-costs node op mark = counted _ _ 1 (omega arith) (omega arith) (bind h λ l. bind k λ r. bind (by-register node) λ t. by-pure _)
 
     -- the left gains a constant, and is one node
-    minus-costs : (node op mark j : ℕ) → Keeps One x → nx ≡ 1 → vx ≡ 1 → Costs (1 + (nx + ny)) (1 + (vx + (vy + vy))) (visit-binary node op mark none (some j) x y)
+    minus-costs : (node op mark j : ℕ) → Keeps One x → nx ≡ 1 → vx ≡ 1 → Costs (1 + (nx + ny)) (1 + (vx + right-visits none (some j) vy)) (visit-binary node op mark none (some j) x y)
     unfolding visit-binary visit-dropped visit-both One
     minus-costs node op mark j one en ev =
         next-by (λ s t u p q. all p q)
@@ -230,12 +230,12 @@ module _ {nx vx : ℕ} {x : M Chunk} (h : Costs nx vx x) where
         rest : {s t u : State} → One s t → Gained (ny + (0 + 0)) (vy + (0 + 0)) t u → Rest ny vy s u
         rest p q = record { gain = q .gain; constants = omega (arith, p, q .constants); few = slim ny vy (q .gain) (q .few) }
 
-        all : {s t u : State} → Gained (ny + (0 + 0)) (vy + (0 + 0)) s t → Rest ny vy t u → Gained (1 + (nx + ny)) (1 + (vx + (vy + vy))) s u
+        all : {s t u : State} → Gained (ny + (0 + 0)) (vy + (0 + 0)) s t → Rest ny vy t u → Gained (1 + (nx + ny)) (1 + (vx + right-visits none (some j) vy)) s u
         all p q =
             record {
               gain = p .gain + (1 + q .gain);
               constants = omega (arith, p .constants, q .constants);
-              few = rw (en, ev) (twice-few ny (p .gain) (q .gain) vy vy (slim ny vy (p .gain) (p .few)) (q .few));
+              few = rw (en, ev) (omega (arith, twice-few ny (p .gain) (q .gain) vy vy (slim ny vy (p .gain) (p .few)) (q .few)));
             }
 
     binary-costs : (node op mark : ℕ) (i j : Option ℕ) → ((k : ℕ) → j ≡ some k → Keeps One x × (nx ≡ 1) × (vx ≡ 1)) → Costs (1 + (nx + ny)) (1 + (vx + right-visits i j vy)) (visit-binary node op mark i j x y)
@@ -415,7 +415,7 @@ module _ (mode : ℕ) where
 
     elifs-cost : (es : Elifs) → Costs (size-elifs es) (visits-elifs es) (lower-elifs mode es)
     elifs-cost no-elif = by-pure _
-    elifs-cost (and-elif e ss es) = elif-costs (expr-costs e) (stmts-cost ss) (elifs-cost es)
+    elifs-cost (and-elif e ss es) = counted _ _ 0 (omega arith) (omega arith) (elif-costs (expr-costs e) (stmts-cost ss) (elifs-cost es))
 
     fun-stmt-costs : (f : Fun) → Costs (size-fun f) (visits-fun f) (lower-fun mode f)
     fun-stmt-costs (fun node x ps b) = fun-costs (stmts-cost b) node x ps

@@ -22,9 +22,10 @@ pub mod Grows
 pub mod Gains
 pub mod Imaged
 pub mod Safe
-pub mod Bounded
+pub mod VisitsMost
 pub mod Ranges
 pub mod Images
 pub mod Mend
+pub mod WalkSteps
 pub mod Quick
 pub mod Modes

@@ -1,5 +1,6 @@
 -- The answer is that of the outcome, with the visits that the words hold; the words are cleared, and the bytes from the image's length on.
 use mathlib.Core.Path.{ap, _∙_}
+use denote.Ref.{now}
 use Rattle.meaning.specs.Answer.{work-area}
 use Rattle.lower.proofs.Whole.{told-fits, told-reply, told-output, countable}
 use borrow.Author.Needs.{needs}
@@ -10,7 +11,7 @@ visits-of-requires : tie.Need-visits-of-requires
 visits-of-requires c κs =
     let lowered = c .before .before .before .before .before .before .lowered in
     let answer-of = c .before .answer-of in
-    countable (lowered .ensures .0) (answer-of .ensures) _ _ (lowered .ensures .1)
+    countable (lowered .ensures .0) (answer-of .ensures) (now ((c .before .before .before .before .before .before .before .before .before .before .before .before) .args .tree)) (lowered .last .1 .0) (lowered .ensures .1)
 
 clear-bytes-requires : tie.Need-clear-bytes-requires
 clear-bytes-requires c κs =
@@ -27,7 +28,7 @@ returns c =
     let clear-bytes = c .before .before .clear-bytes in
     let ends = lowered .ensures .0 in
     let told = answer-of .ensures in
-    (told-reply ends told _ _ _ (lowered .ensures .1) (visits-of .ensures), (clear-words .ensures ∙ ap work-area (lowered .kept .1 .0), clear-bytes .ensures ∙ told-output ends told _ (lowered .kept .1 .1 .0)))
+    (told-reply ends told (now ((c .before .before .before .before .before .before .before .before .before .before .before .before .before .before .before .before .before .before .before .before .before) .args .tree)) (lowered .last .1 .0) (visits-of .result) (lowered .ensures .1) (visits-of .ensures), (clear-words .ensures ∙ ap work-area (lowered .kept .1 .0), clear-bytes .ensures ∙ told-output ends told _ (lowered .kept .1 .1 .0)))
 
 pub lower-spec : {M : Type 1} → statement M
 lower-spec =

@@ -4,7 +4,7 @@ use native.Mathlib.Omega.{arith}
 use lib.ListN.{length}
 use denote.Ref.{now}
 use Rattle.meaning.specs.Check.{checked}
-use Rattle.lower.proofs.Whole.{not-begun, none-counted}
+use Rattle.lower.proofs.Whole.{not-begun}
 use borrow.Author.Needs.{needs}
 use Rattle.lower.proofs.lowered.Statement.{statement}
 use Rattle.lower.proofs.lowered.Tie as tie
@@ -15,7 +15,7 @@ returns c =
     let check-in = c .before .before .before .before .check-in in
     let enum-told = c .enum-told in
     let a = start .args in
-    (not-begun (a .mode) (now (a .tree)) (now (a .out)) (length (now (a .work))) (length (now (a .out))) (check-in .result) (check-in .ensures .0) (enum-told .given .1), none-counted _ _ (check-in .result) (enum-told .given .1))
+    (not-begun (a .mode) (now (a .tree)) (now (a .out)) (length (now (a .work))) (length (now (a .out))) (check-in .result) (check-in .ensures .0) (enum-told .given .1), rw (enum-told .given .1) tt)
 
 lower-checked-requires : tie.Need-lower-checked-requires
 lower-checked-requires c κs =
