@@ -1,7 +1,9 @@
 -- Laws that the functions' proofs cite, and that a caller may (Answered: what an accepted image has).
 pub mod Glances
 pub mod Tested
+pub mod Quick
 pub mod Scanned
+pub mod Runs
 pub mod Blocks
 pub mod Locates
 pub mod Marking

@@ -1,7 +1,8 @@
 -- What the code reads of a field to judge whether it can follow: five numbers. Only contracts of inner functions cite this; proofs/Glances proves that it says what Follow says.
-use Prim.Native.Nat.{ℕ, _+_, _-_}
+use Prim.Native.Nat.{ℕ, _+_, _-_, _*_, _<_, _≤_}
 use mathlib.Core.Path.{_≡_}
 use mathlib.Core.Bool.{Bool, _&&_, _||_, cond}
+use mathlib.Core.List.{List}
 use lib.ListN.{length, getD}
 use lib.Dec.{eqb, leb, ltb}
 use Rattle.meaning.specs.Fields.{Field, word-at}
@@ -40,3 +41,19 @@ due-seen d r =
     (cond (ltb 0 (d .code)) (due 0 (d .code - 1) (d .prototypes) (d .constants))
     (cond (eqb (r .tag) 0x41) (due (r .captures) (r .code) (d .prototypes + 1) 0)
     (due 0 0 (d .prototypes) (d .constants + 1))))
+
+-- ---- instructions at once
+
+-- the instructions that are due at once: none while captures are
+abbrev pub ready : Due → ℕ
+ready d = cond (eqb (d .captures) 0) (d .code) 0
+
+-- so many fewer
+abbrev pub less : Due → ℕ → Due
+less d m = due (d .captures) (d .code - m) (d .prototypes) (d .constants)
+
+-- r of n fields from the front on are whole instructions
+pub record Run (s : List ℕ) (tag size n r : ℕ) : Type 0 where
+  pub few : r ≤ n
+  pub room : r * (3 + size) ≤ length s
+  pub each : (j : ℕ) → j < r → (getD s (j * (3 + size)) 0 ≡ tag) × (word-at s (j * (3 + size) + 1) ≡ size)

@@ -1,5 +1,6 @@
 -- The facts of an instruction as the code asks them: numbers, and tests of numbers. Only contracts of inner functions cite this; proofs/Tested proves that they say what Rules says.
-use Prim.Native.Nat.{ℕ, max, _+_}
+use Prim.Native.Nat.{ℕ, max, _+_, _<_}
+use mathlib.Core.Path.{_≡_}
 use mathlib.Core.Bool.{Bool, not, _&&_, _||_, cond}
 use lib.Dec.{eqb, leb, ltb}
 use lib.ListN.{getD}
@@ -71,6 +72,20 @@ lawful-seen v i n o a b c w closure text entered =
 unfoldable pub seen-test : (around : Around) → (locals outers texts marks : List ℕ) → (n i : ℕ) → Instruction → Bool
 seen-test v locals outers texts marks n i x =
     lawful-seen v i n (x .opcode) (x .a) (x .b) (x .c) (bx x) (closure-seen v locals outers (bx x)) (text-seen v texts (bx x)) (eqb (getD marks i 0) 1)
+
+-- ---- at once
+
+-- what is enough for an opcode's facts, with two more instructions behind it: that a is a register (0), a and b (1), a, b and c (2); 3 where it is not
+abbrev pub kind-seen : ℕ → ℕ
+kind-seen o = cond (three-seen o) 2 (cond (two-seen o) 1 (cond (eqb o 2 || (eqb o 20 || (eqb o 46 || (eqb o 49 || eqb o 50)))) 0 3))
+
+-- it is so
+abbrev pub plain-seen : (kind i n a b c registers : ℕ) → Bool
+plain-seen k i n a b c r = ltb (i + 2) n && (ltb a r && ((eqb k 0 || ltb b r) && (leb k 1 || ltb c r)))
+
+-- a table of the kinds
+pub record Kinds (m : List ℕ) : Type 0 where
+  pub each : (o : ℕ) → o < 51 → getD m o 0 ≡ kind-seen o
 
 -- ---- what captures need
 

@@ -63,11 +63,11 @@ fn read_as(image: &[u8], tag: u8, mend: bool) -> Outcome
     requires { ⌜ (tag ≡ 0x43) ⊎ (tag ≡ 0x47) ⌝ }
     ensures { λ r. ⌜ r ≡ read-outcome (length (fields (now (image .entry)))) (read-by mend tag (now (image .entry))) ⌝ }
 {
-    let framed = order::frame(image);
+    let framed = order::order(image, tag);
     if (framed.count == 0) | (framed.after != 0) {
         return Outcome::Refused(Cause::ImageFrame, framed.count);
     }
-    let spot = order::order(image, tag);
+    let spot = framed.spot;
     match spot {
         Spot::Nowhere => judged(image, tag, framed.count, mend),
         Spot::At(place) => Outcome::Refused(Cause::ImageRule, place),

@@ -7,12 +7,12 @@ use meaning::Due;
 ghost use mathlib.Core.Path.{_≡_};
 ghost use mathlib.Core.Bool.{true, _&&_};
 ghost use lib.Dec.{eqb, ltb};
-ghost use Prim.Native.Nat.{_+_, _<_};
+ghost use Prim.Native.Nat.{_+_, _<_, _≤_};
 ghost use lib.ListN.{length};
 ghost use Rattle.meaning.specs.Fields.{fields, left, front, whole};
 ghost use Rattle.meaning.specs.Images.{inst-size};
 ghost use Rattle.meaning.specs.Follow.{at-first, stray};
-ghost use Rattle.reader.specs.Glance.{Glanced, whole-seen, follows-seen, due-seen};
+ghost use Rattle.reader.specs.Glance.{Glanced, whole-seen, follows-seen, due-seen, ready, less, Run};
 ghost use Rattle.reader.specs.Spots.{spot-of};
 
 // A place, or none.
@@ -162,9 +162,67 @@ fn may_end(d: Due) -> bool
     (d.captures == 0) & ((d.code == 0) & (0 < d.prototypes))
 }
 
-// The first field that cannot follow, or the field count where the end comes too soon.
-pub fn order(image: &[u8], tag: u8) -> Spot
-    ensures { λ r. ⌜ spot-of r ≡ stray tag at-first (fields (now (image .entry))) ⌝ }
+// The instructions that are due at once: none while captures are.
+fn ready(d: Due) -> usize
+    ensures { λ r. ⌜ r ≡ ready d ⌝ }
+{
+    if d.captures == 0 {
+        return d.code;
+    }
+    0
+}
+
+// So many instructions fewer.
+fn less(d: Due, m: usize) -> Due
+    requires { ⌜ m ≤ d .code ⌝ }
+    ensures { λ e. ⌜ e ≡ less d m ⌝ }
+{
+    Due {
+        captures: d.captures,
+        code: d.code - m,
+        prototypes: d.prototypes,
+        constants: d.constants,
+    }
+}
+
+fn lesser(a: usize, b: usize) -> usize
+    ensures { λ r. ⌜ (r ≤ a) × (r ≤ b) ⌝ }
+{
+    if a < b {
+        return a;
+    }
+    b
+}
+
+// How many of n fields from the front on are whole instructions. They are of one size, so the next one's place is known before a length is read.
+fn run(t: &[u8], tag: u8, size: usize, n: usize) -> usize
+    requires { ⌜ size ≤ 8 ⌝ }
+    ensures { λ r. ⌜ Run (now (t .entry)) tag size n r ⌝ }
+{
+    let span = 3 + size;
+    let most = lesser(n, t.len() / span);
+    let mut at: usize = 0;
+    let mut i: usize = 0;
+    while i < most {
+        if (t[at] != tag) | (word(t, at + 1) != size) {
+            return i;
+        }
+        at = at + span;
+        i = i + 1;
+    }
+    i
+}
+
+// What one walk tells: the whole fields, the bytes after them, the first field that cannot follow, or the field count where the end is too soon.
+pub struct Walked {
+    pub count: usize,
+    pub after: usize,
+    pub spot: Spot,
+}
+
+// Frame and order in one walk. Where a field cannot follow, the fields are counted from the first on: 19 is of the whole input.
+pub fn order(image: &[u8], tag: u8) -> Walked
+    ensures { λ r. ⌜ (r .count ≡ length (fields (now (image .entry)))) × (r .after ≡ length (left (now (image .entry)))) × (spot-of (r .spot) ≡ stray tag at-first (fields (now (image .entry)))) ⌝ }
 {
     let size = inst_size(tag);
     let mut t = image;
@@ -178,15 +236,32 @@ pub fn order(image: &[u8], tag: u8) -> Spot
     while is_whole(t) {
         let seen = glance(t);
         if !follows_seen(tag, size, d, seen) {
-            return Spot::At(i);
+            let framed = frame(image);
+            return Walked {
+                count: framed.count,
+                after: framed.after,
+                spot: Spot::At(i),
+            };
         }
         d = due_seen(d, seen);
         let k = 3 + seen.size;
         t = &t[k..];
-        i = i + 1;
+        let m = run(t, tag, size, ready(d));
+        let q = m * (3 + size);
+        t = &t[q..];
+        d = less(d, m);
+        i = i + 1 + m;
     }
     if may_end(d) {
-        return Spot::Nowhere;
+        return Walked {
+            count: i,
+            after: t.len(),
+            spot: Spot::Nowhere,
+        };
     }
-    Spot::At(i)
+    Walked {
+        count: i,
+        after: t.len(),
+        spot: Spot::At(i),
+    }
 }

@@ -1,5 +1,6 @@
 // The lowest field whose fact fails (document 02, E1), as the image stands or as it is mended (E9).
 use crate::facts::Around;
+use crate::facts::KINDS;
 use crate::facts::first_unlawful;
 use crate::facts::needs_of;
 use crate::locate::heads;
@@ -29,8 +30,8 @@ fn first_in(
     tag: u8,
     size: usize,
     v: Around,
-    locals: &[usize; 256],
-    outers: &[usize; 256],
+    locals: &[u16; 256],
+    outers: &[u16; 256],
     texts: &[u8; 1024],
     marks: &mut [u8],
     mend: bool,
@@ -44,7 +45,20 @@ fn first_in(
     if v.registers == 0 {
         mark_entered(t, tag, size, at, n, marks, mend);
     }
-    first_unlawful(t, tag, size, at, n, v, locals, outers, texts, marks, mend)
+    first_unlawful(
+        t,
+        tag,
+        size,
+        at,
+        n,
+        v,
+        &KINDS,
+        locals,
+        outers,
+        texts,
+        marks,
+        mend,
+    )
 }
 
 // The lowest field whose fact fails, in an image in order. There is a mark for each instruction that a prototype may have: one takes nine bytes at least. The table of what captures need is filled as the prototypes are met.
@@ -61,8 +75,8 @@ pub(crate) fn first_broken(
     requires { ⌜ Table (λ k. flag (is-text k)) (now texts) (parts tag (fields (now image)) .constants) × (constants ≡ length (parts tag (fields (now image)) .constants)) × (constants ≤ 1024) ⌝ }
     ensures { λ r. ⌜ spot-of r ≡ broken (lens-image mend (image-of tag (fields (now (image .entry))))) ⌝ }
 {
-    let mut locals = [0usize; 256];
-    let mut outers = [0usize; 256];
+    let mut locals = [0u16; 256];
+    let mut outers = [0u16; 256];
     let mut t = image;
     let mut k: usize = 0;
     let mut f: usize = 0;

@@ -1,5 +1,5 @@
 -- Below i every instruction passes; the lowest that does not is answered.
-use mathlib.Core.Path.{_≡_, sym, _∙_}
+use mathlib.Core.Path.{_≡_, refl, sym, _∙_}
 use mathlib.Core.Bool.{true}
 use Prim.Native.Nat.{ℕ, _+_, _-_, _*_, _<_, _≤_}
 use native.Mathlib.Nat.{not-suc-le-zero}
@@ -17,18 +17,12 @@ use Rattle.reader.proofs.Scanned.{lies-in}
 use Rattle.reader.proofs.Lenses.{passed-is}
 use Rattle.reader.proofs.facts.first_unlawful.Statement.{statement}
 use Rattle.reader.proofs.facts.first_unlawful.Tie as tie
-use Rattle.reader.proofs.facts.first_unlawful.Reads as reads
-use Rattle.reader.proofs.facts.first_unlawful.Lts as lts
-use Rattle.reader.proofs.facts.passes.Reads as passes-reads
-use Rattle.reader.proofs.facts.makes.Reads as makes-reads
-use Rattle.reader.proofs.facts.names.Reads as names-reads
-use Rattle.fields.proofs.wide.Reads as wide-reads
 
 abbrev Inv-loop : tie.InvT-loop
-Inv-loop t tag span at n v locals outers texts marks mend i₀ i = (i ≤ n) × ((k : ℕ) → k < i → seen-test v locals outers texts marks n k (inst-at (lens-code mend (code-in t tag span at n)) k) ≡ true)
+Inv-loop t tag span at n v kinds locals outers texts marks mend i₀ i = (i ≤ n) × ((k : ℕ) → k < i → seen-test v locals outers texts marks n k (inst-at (lens-code mend (code-in t tag span at n)) k) ≡ true)
 
 abbrev μ-loop : tie.MeasureT-loop
-μ-loop t tag span at n v locals outers texts marks mend i₀ i = n - i
+μ-loop t tag span at n v kinds locals outers texts marks mend i₀ i = n - i
 
 -- the start, from the loop
 abbrev S : tie.At-loop Inv-loop μ-loop → tie.Start Inv-loop μ-loop
@@ -39,30 +33,28 @@ fit : (e : tie.In-loop Inv-loop μ-loop) → let s = S (e .before) in s .args .a
 fit e = let s = S (e .before) in omega (arith, lies-in (s .args .span) (s .args .at) (s .args .n) (e .before .loop .i) (length (now (s .args .t))) (e .loop-test .taken) (s .pre .2), s .pre .1)
 
 -- the test's answer
-answer : (c : tie.After-passes Inv-loop μ-loop) → let e = c .before .before .before .before .before .before .before .before .before .before .before in let l = e .before in let s = S l in
-    c .passes .result ≡ seen-test (s .args .v) (now (s .args .locals)) (now (s .args .outers)) (now (s .args .texts)) (now (s .args .marks)) (s .args .n) (l .loop .i) (inst-at (lens-code (s .args .mend) (code-in (now (s .args .t)) (s .args .tag) (s .args .span) (s .args .at) (s .args .n))) (l .loop .i))
+answer : (c : tie.After-has-facts Inv-loop μ-loop) → let e = c .before .before .before .before .before .before .before .before in let l = e .before in let s = S l in
+    c .has-facts .result ≡ seen-test (s .args .v) (now (s .args .locals)) (now (s .args .outers)) (now (s .args .texts)) (now (s .args .marks)) (s .args .n) (l .loop .i) (inst-at (lens-code (s .args .mend) (code-in (now (s .args .t)) (s .args .tag) (s .args .span) (s .args .at) (s .args .n))) (l .loop .i))
 answer c =
-    let n = c .before .before in
-    let m = n .before in
-    let w = m .before in
+    let w = c .before in
     let w2 = w .before .before in
     let w1 = w2 .before .before in
     let e = w1 .before .before .before in
     let l = e .before in
     let s = S l in
     passed-is (now (s .args .t)) (s .args .tag) (s .args .span) (s .args .at) (s .args .n) (l .loop .i) (e .loop-test .taken) (s .args .v) _ _ _ _ (s .args .mend)
-    _ _ _ (w1 .wide .ensures .0) (w2 .wide2 .ensures .0) (w .wide3 .ensures .0) _ _ _ (m .makes .ensures) (n .names .ensures) (c .passes .ensures)
+    _ _ _ (w1 .wide .ensures .0) (w2 .wide2 .ensures .0) (w .wide3 .ensures .0) _ _ _ refl refl (c .has-facts .ensures)
 
 returns : tie.Need-returns Inv-loop μ-loop
 returns c =
     let a = c .before in
-    let e = a .before .before .before .before .before .before .before .before .before .before .before in
+    let e = a .before .before .before .before .before .before .before .before in
     sym (lowest-found _ _ _ (e .loop-test .taken) (e .before .loop .inv .1) (sym (answer a) ∙ not-true _ (c .if1 .taken)))
 
 loop-again : tie.Need-loop-again Inv-loop μ-loop
 loop-again c =
     let a = c .before in
-    let e = a .before .before .before .before .before .before .before .before .before .before .before in
+    let e = a .before .before .before .before .before .before .before .before in
     let l = e .before in
     let s = S l in (
       omega (arith, e .loop-test .taken),
@@ -95,13 +87,10 @@ first-unlawful-spec =
     (λ c κs. tt)
     (λ c. omega (arith, c .before .before .wide2 .ensures .1))
     (λ c. omega (arith, c .before .before .wide2 .ensures .1, c .wide3 .ensures .1))
-    (λ c κs. let e = c .before .before .before .before .before .before .before in S (e .before) .pre .3)
-    (λ c κs. let e = c .before .before .before .before .before .before .before .before in S (e .before) .pre .4)
-    (λ c. let e = c .before .before .before .before .before .before .before .before .before .before in omega (arith, e .loop-test .taken, S (e .before) .pre .5))
-    (λ c κs. let w = c .before .before .before in let w2 = w .before .before in let e = w2 .before .before .before .before .before in let s = S (e .before) in
-    (omega (arith, w2 .wide2 .ensures .1, w .wide3 .ensures .1), omega (arith, e .loop-test .taken, s .pre .0), s .pre .0, w2 .before .before .wide .ensures .1, w2 .wide2 .ensures .1))
+    (λ c κs. let w2 = c .before .before in let e = w2 .before .before .before .before .before in let s = S (e .before) in
+    ((omega (arith, w2 .wide2 .ensures .1, c .wide3 .ensures .1), omega (arith, e .loop-test .taken, s .pre .0), s .pre .0, w2 .before .before .wide .ensures .1, w2 .wide2 .ensures .1, s .pre .4, s .pre .3, omega (arith, e .loop-test .taken, s .pre .5)), s .pre .6))
     returns
-    (λ c. let e = c .before .before .before .before .before .before .before .before .before .before .before .before in omega (arith, e .loop-test .taken, S (e .before) .pre .0))
-    (λ c. let e = c .before .before .before .before .before .before .before .before .before .before .before .before in omega (arith, e .loop-test .taken))
+    (λ c. let e = c .before .before .before .before .before .before .before .before .before in omega (arith, e .loop-test .taken, S (e .before) .pre .0))
+    (λ c. let e = c .before .before .before .before .before .before .before .before .before in omega (arith, e .loop-test .taken))
     loop-again
     returns-2)

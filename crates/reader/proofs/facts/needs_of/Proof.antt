@@ -27,13 +27,13 @@ loop-again : tie.Need-loop-again Inv-loop μ-loop
 loop-again c =
     let w = c .before .before .before in
     let e = w .before .before in
-    needed-local _ _ _ _ _ _ _ _ (last e) (e .before .loop .inv) (ap (λ (m : ℕ). m + 1) (w .wide .ensures .0)) (c .before .if1 .taken) _ (c .larger .ensures)
+    needed-local _ _ _ _ _ _ _ _ (last e) (e .before .loop .inv) (ap (λ (m : ℕ). m + 1) (w .short .ensures .0)) (c .before .if1 .taken) _ (c .larger .ensures)
 
 loop-again-2 : tie.Need-loop-again-2 Inv-loop μ-loop
 loop-again-2 c =
     let w = c .before .before .before in
     let e = w .before .before in
-    needed-outer _ _ _ _ _ _ _ _ (last e) (e .before .loop .inv) (ap (λ (m : ℕ). m + 1) (w .wide .ensures .0)) (c .before .if1 .left) _ (c .larger2 .ensures)
+    needed-outer _ _ _ _ _ _ _ _ (last e) (e .before .loop .inv) (ap (λ (m : ℕ). m + 1) (w .short .ensures .0)) (c .before .if1 .left) _ (c .larger2 .ensures)
 
 pub needs-of-spec : {M : Type 1} → statement M
 needs-of-spec =
@@ -48,7 +48,7 @@ needs-of-spec =
     (λ c. omega (arith, fit c, S (c .before) .good))
     (λ c. omega (arith, fit (c .before)))
     (λ c κs. tt)
-    (λ c. omega (arith, c .wide .ensures .1))
+    (λ c. omega (arith, c .short .ensures .1))
     (λ c. let e = c .before .before in omega (arith, fit e, S (e .before) .good))
     (λ c. let e = c .before .before in omega (arith, fit e, S (e .before) .good))
     (λ c. let e = c .before .before in omega (arith, fit e, S (e .before) .good))

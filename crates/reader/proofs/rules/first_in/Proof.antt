@@ -13,12 +13,13 @@ use Rattle.meaning.specs.Steps.{inst-at}
 use Rattle.reader.specs.declared.facts.Around.{Around}
 use Rattle.reader.specs.Tests.{seen-test}
 use Rattle.meaning.specs.Fields.{word-at}
-use Rattle.meaning.proofs.Lists.{lowest-same}
+use Rattle.meaning.proofs.Lists.{lowest-same, all-to}
 use Rattle.meaning.specs.Images.{inst-size}
 use Rattle.reader.specs.Laid.{code-in}
 use Rattle.reader.specs.Lens.{lens-code}
 use Rattle.reader.specs.Marks.{Entered}
 use Rattle.reader.proofs.Tables.{front-lawful}
+use Rattle.reader.proofs.Quick.{table-right}
 use Rattle.reader.proofs.rules.first_in.Statement.{statement}
 use Rattle.reader.proofs.rules.first_in.Tie as tie
 
@@ -52,10 +53,10 @@ answer : (mend : Bool) (v : Around) (l o x m t : List ℕ) (tag a n n′ c c′ 
 answer mend v l o x m t tag a n n′ c c′ z z′ p q r e = e ∙ rw (p, q, r) refl
 
 -- the marks are right where they are asked for
-marked : (c : tie.After-first-unlawful) → let k = c .before .before .before in let t = now (S k .args .t) in
-    word-at t 7 ≡ 0 → Entered (lens-code (S k .args .mend) (code-in t (S k .args .tag) (3 + inst-size (S k .args .tag)) (13 + word-at t 9 * 5) (word-at t 11))) (word-at t 11) (c .before .before .if1 .marks)
+marked : (c : tie.After-first-unlawful) → let k = c .before .before .before .before in let t = now (S k .args .t) in
+    word-at t 7 ≡ 0 → Entered (lens-code (S k .args .mend) (code-in t (S k .args .tag) (3 + inst-size (S k .args .tag)) (13 + word-at t 9 * 5) (word-at t 11))) (word-at t 11) (c .before .before .before .if1 .marks)
 marked c z =
-    let j = c .before .before in
+    let j = c .before .before .before in
     let k = j .before in
     let p = S k .pre .0 in
     ⊎-elim (λ x. moved (S k .args .mend) (now (S k .args .t)) _ _ (S k .args .tag) _ _ _ _ _ _ (k .before .before .word .ensures .0) (p .4) (p .1) (x .5) (x .2 .ensures)) (λ x. absurd (x .0 .left (p .3 ∙ z))) (j .if1 .came)
@@ -65,7 +66,7 @@ long j = ⊎-elim (λ x. ap length (x .5) ∙ x .2 .kept .1 .1 .1 .1 .1 .0) (λ 
 
 returns : tie.Need-returns
 returns c =
-    let j = c .before .before in
+    let j = c .before .before .before in
     let k = j .before in
     let s = S k in
     let p = s .pre .0 in
@@ -74,6 +75,7 @@ returns c =
     answer (s .args .mend) _ _ _ _ _ (now (s .args .t)) (s .args .tag) _ _ _ _ _ _ _ n (p .4) (p .1) (c .first-unlawful .ensures) ∙ lowest-same _ _ _ (front-lawful _ _ _ _ _ _ (q .0) (s .args .v) (q .1) (q .2) (now (s .args .t)) (s .args .tag) (s .args .mend) (λ i. omega (arith, k .before .before .before .before .shared-slice-known2 .given i)) (p .3) (p .4) (marked c))
 
 pub first-in-spec : {M : Type 1} → statement M
+unfolding all-to
 first-in-spec =
     tie.close
     (tie.spec
@@ -81,6 +83,6 @@ first-in-spec =
     (λ c. let s = c .before .before .before .before .before in omega (arith, s .pre .0 .0, s .pre .0 .4, s .good))
     (λ c. let s = c .before .before .before .before .before in omega (arith, s .pre .0 .0, s .pre .0 .4, s .good))
     (λ c κs. let k = c .before .before in (many k, seven (S k .args .tag) _ (S k .pre .0 .1), room k, omega (arith, k .before .before .word .ensures .0, S k .pre .0 .2)))
-    (λ c κs. let k = c .before .before in let p = S k .pre .0 in (many k, seven (S k .args .tag) _ (p .1), room k, p .5, p .6, omega (arith, k .before .before .word .ensures .0, p .2, long (c .before))))
-    (λ c. long (c .before .before))
+    (λ c κs. let k = c .before .before .before in let p = S k .pre .0 in (many k, seven (S k .args .tag) _ (p .1), room k, p .5, p .6, omega (arith, k .before .before .word .ensures .0, p .2, long (c .before .before)), table-right _ refl))
+    (λ c. long (c .before .before .before))
     returns)
