@@ -36,6 +36,10 @@ extern "C" {
  * tree with a class (27), and mode 0 lowers it as before. Any other number, all 64 bits of it
  * compared, is refused by 21 before anything else is looked at, whatever the tree and the buffers are. The image does not say its mode.
  *
+ * Marks. A tree whose last field has tag 3E in place of 1E is wide: every mark in it has four bytes, for a line and a column, and its image has
+ * instructions of tag 47, with a mark of four bytes, in place of 43. No mark is 4294967295 there, and 65535 in a narrow tree. Nothing else differs:
+ * number, place, visits and the words of work that are asked for are those of the tree with narrow marks.
+ *
  * Buffers. They may hold anything before the call. Afterwards work is all zero, out is the image and then zeros, or all zero where
  * refused, and tree is as it was. work has YENGRAZUL_WORDS(nodes) words or more (else 6), out has room for the image (else 18).
  * All of work and out is cleared in every call, so larger ones cost time. Nothing is allocated and nothing outlives the call.
@@ -65,9 +69,10 @@ void yengrazul_lower(const uint8_t *tree, size_t tree_len, uint32_t *work, size_
  *              cannot follow, or the number of fields where the end comes too soon, else the lowest instruction for which a fact fails (a
  *              capture's at its Closure); 0 where taken
  *
- * Every image that yengrazul_lower writes is taken, in either mode. Any bytes may be asked about. It reads image[0..image_len), writes the two
- * numbers of answer, which may hold anything before, and touches nothing else; nothing is allocated, the time is linear in the bytes. The caller's
- * part and threads are as above; a call takes less than YENGRAZUL_READ_STACK_BYTES of the calling thread's stack.
+ * Every image that yengrazul_lower writes is taken, in either mode and of either width; one that mixes the tags 43 and 47 is not. Any bytes may be
+ * asked about. It reads image[0..image_len), writes the two numbers of answer, which may hold anything before, and touches nothing else; nothing is
+ * allocated, the time is linear in the bytes. The caller's part and threads are as above; a call takes less than YENGRAZUL_READ_STACK_BYTES of the
+ * calling thread's stack.
  *
  *     uint64_t answer[2];
  *     yengrazul_read(image, image_len, answer);
@@ -117,7 +122,8 @@ enum yengrazul_ending {
 
 /*
  * Mends an image that the Rust left on an old card (docs/FORMATS.md, "Mending an image"): each Jmp that is an unpatched break or continue (2 or 1 in
- * a), or whose target leaves its prototype, becomes Return 0 0 0 with its mark kept; every other byte stays. yengrazul_read takes the result.
+ * a), or whose target leaves its prototype, becomes Return 0 0 0 with its mark kept, of two bytes or four; every other byte stays. yengrazul_read
+ * takes the result.
  *
  *   answer[0]  number: 0 mended, else 19 and 20 as yengrazul_read tells them of the mended image, then 26 where list is too short, then 18 where
  *              out is shorter than the image
@@ -162,8 +168,9 @@ void yengrazul_check(const uint8_t *tree, size_t tree_len, size_t work_len, uint
 /* No accepted tree of so many nodes has more visits: one for each, and one more for each of 1,024 constants. */
 #define YENGRAZUL_VISITS_MOST(nodes) ((uint64_t)1025 * (uint64_t)(nodes))
 
-/* No image is longer: 256 prototypes of 255 captures and 32,767 instructions, 1,024 constants. Most are some 8 bytes for each node. */
-#define YENGRAZUL_IMAGE_MOST ((size_t)256 * (13 + 255 * 5 + 32767 * 9) + (size_t)1024 * 11)
+/* No image is longer: 256 prototypes of 255 captures and 32,767 instructions with wide marks, 1,024 constants. Most are some 8 bytes for each node,
+   wide ones some 10. */
+#define YENGRAZUL_IMAGE_MOST ((size_t)256 * (13 + 255 * 5 + 32767 * 11) + (size_t)1024 * 11)
 
 /* answer[0], and when it is given. Of a tree: 21 comes before all; 1 to 6 are about the whole input, in that order, with 27 between 3 and 4; 7 to 17
    are the first met as the tree is lowered; 18 comes last. Of an image: 19, then 20. Of a walk: those of its image, then 22, 23, 25, 29. Of mending:

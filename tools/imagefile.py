@@ -7,9 +7,11 @@ import os
 import re
 import struct
 
+import marks
 from streams import ROOT, Failure, child
 
 NONE = 65535
+NARROW, WIDE = 0x43, 0x47  # the tags of instructions
 BUILTINS = ["io", "strings", "type", "env", "import", "net", "re", "process", "lists"]
 OPCODES = os.path.join(ROOT, "crates", "meaning", "specs", "Opcode.antt")
 CAUSES = {19: ("Image frame", "a header or a payload runs past the end, or there is no field at all"),
@@ -45,7 +47,7 @@ def fields(data):
 
 
 class Reader:
-    """The fields one after the other, each of the tag and size that is due."""
+    """The fields one after the other, each of the tag and size that is due. The first instruction says whether marks are wide."""
 
     def __init__(self, data):
         self.fields, self.at, self.wrong = [], 0, None
@@ -53,6 +55,7 @@ class Reader:
             self.fields.extend(fields(data))
         except Wrong as problem:
             self.wrong = problem
+        self.wide = next((tag for _, tag, _ in self.fields if tag in (NARROW, WIDE)), NARROW) == WIDE
 
     def end(self, why):
         raise self.wrong or Wrong(why)
@@ -89,7 +92,7 @@ def records(data):
 def prototype(reader, names, index):
     name, parameters, registers, captures, instructions = reader.take(0x41, ">5H")
     yield {"kind": "prototype", "prototype": index, "name": absent(name), "parameters": parameters, "registers": registers, "captures": captures,
-           "instructions": instructions}
+           "instructions": instructions, **({"wide": True} if reader.wide else {})}
     for k in range(captures):
         local, of = reader.take(0x42, ">2B")
         yield {"kind": "capture", "prototype": index, "index": k, "from": "register" if local else "capture", "of": of}
@@ -98,10 +101,12 @@ def prototype(reader, names, index):
 
 
 def instruction(reader, names, index):
-    opcode, a, b, c, mark = reader.take(0x43, ">4BH")
-    name, wide = names.get(opcode, f"opcode {opcode}"), b * 256 + c
-    found = {"opcode": opcode, "name": name, "a": a, "b": b, "c": c, "mark": absent(mark)}
-    step = {"Jmp": wide - 65536 if wide > 32767 else wide, "RegisterTryCatch": wide}.get(name)
+    opcode, a, b, c, mark = reader.take(WIDE, ">4BI") if reader.wide else reader.take(NARROW, ">4BH")
+    name, both = names.get(opcode, f"opcode {opcode}"), b * 256 + c
+    found = {"opcode": opcode, "name": name, "a": a, "b": b, "c": c, "mark": marks.of(mark, reader.wide)}
+    if reader.wide:
+        found["line"], found["column"] = marks.place(found["mark"], True)
+    step = {"Jmp": both - 65536 if both > 32767 else both, "RegisterTryCatch": both}.get(name)
     if step is not None:
         found["to"] = index + step
     if name in RETIRED:
@@ -182,7 +187,8 @@ def rows(found, state_of=lambda record: None):
 
 def prototype_line(record):
     counts = ", ".join(many(record[what + "s"], what) for what in ("parameter", "register", "capture", "instruction"))
-    return f"prototype {record['prototype']}: {'no name' if record['name'] is None else 'name ' + named(record['name'])}, {counts}"
+    wide = ", wide" if "wide" in record else ""
+    return f"prototype {record['prototype']}: {'no name' if record['name'] is None else 'name ' + named(record['name'])}, {counts}{wide}"
 
 
 def capture_line(record):
@@ -216,7 +222,7 @@ LINES = {"prototype": prototype_line, "capture": capture_line, "constant": const
 
 def instruction_line(record):
     """The line, and how far behind its own index the instruction that it leads to stands."""
-    line = f"{record['name']} {record['a']} {record['b']} {record['c']}  {marked(record['mark'])}{'  retired' if 'retired' in record else ''}"
+    line = f"{record['name']} {record['a']} {record['b']} {record['c']}  {marked(record)}{'  retired' if 'retired' in record else ''}"
     return line, record["to"] - record["index"] if "to" in record else None
 
 
@@ -248,8 +254,9 @@ def repeat(code, at):
     return best
 
 
-def marked(mark):
-    return "no mark" if mark is None else f"mark {mark}"
+def marked(record):
+    """The mark of an instruction: of a wide one line and column."""
+    return marks.words(record["mark"], "line" in record)
 
 
 def named(name):

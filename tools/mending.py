@@ -4,9 +4,11 @@ import struct
 import sys
 import tempfile
 
+import marks
+
 CAUSES = {19: "Image frame after {} whole fields: a header or a payload runs past the end, or there is no field at all",
           20: "Image rule at field {}: a field that cannot follow, or an instruction whose fact fails, and no jump that is replaced"}
-NO_MARK = {9: 0xFFFF, 11: 0xFFFFFFFF}
+WIDE = 11  # bytes of an instruction whose mark has four
 
 
 class Failed(Exception):
@@ -43,7 +45,7 @@ def lines(listed, image):
         to = index + (wide - 65536 if wide > 32767 else wide)
         what = {1: ", a stray continue,", 2: ", a stray break,"}.get(a, "")
         where = "" if 0 <= to < count else f", outside its {count} instruction{'s' if count > 1 else ''}"
-        marked = "no mark" if mark == NO_MARK[size] else f"mark {mark}"
+        marked = marks.words(marks.of(mark, size == WIDE), size == WIDE)
         yield f"mended: prototype {prototype}, instruction {index}, {marked}: Jmp {a} {b} {c}{what} led to {to}{where}\n"
 
 

@@ -1,5 +1,6 @@
 """What walks reached of an image: instructions, script lines by their marks, which way the Tests went, and which handlers were entered; in words and
 for JSON."""
+import marks
 from imagefile import many, marked
 from walks import can_reach
 
@@ -69,13 +70,25 @@ class Coverage:
     def state_of(self, record):
         return self.parts[record["prototype"]].state(record["index"])
 
+    def is_wide(self):
+        return "line" in self.parts[0].code[0]
+
     def lines(self):
         """The script's lines by their marks: those that no walk reached, those reached in part, those that none can reach."""
+        return self.marks(lambda record: record.get("line", record["mark"]))
+
+    def places(self):
+        """Of a wide image: the marks that no walk reached, in lines that are reached in part."""
+        half = set(self.lines()[1])
+        return [mark for mark in self.marks(lambda record: record["mark"])[0] if marks.place(mark, True)[0] in half]
+
+    def marks(self, of):
+        """What the instructions have as a mark, sorted: what no walk reached of it, what was reached in part, what none can reach."""
         seen = {}
         for part in self.parts:
             for index, record in enumerate(part.code):
-                if record["mark"] is not None:
-                    seen.setdefault(record["mark"], []).append((part.visited[index], index in part.can))
+                if of(record) is not None:
+                    seen.setdefault(of(record), []).append((part.visited[index], index in part.can))
         never = [mark for mark, all_ in seen.items() if not any(v for v, _ in all_) and any(c for _, c in all_)]
         half = [mark for mark, all_ in seen.items() if any(v for v, _ in all_) and any(c and not v for v, c in all_)]
         dead = [mark for mark, all_ in seen.items() if not any(c for _, c in all_)]
@@ -124,25 +137,39 @@ def total_line(totals):
 def one_way_line(number, part, index):
     times = part.ways[index]
     way = "0, to the next" if times[1] == 0 else "1, skips one"
-    return f"one way: prototype {number}, instruction {index}, {marked(part.code[index]['mark'])}: only ever {way}; {many(sum(times), 'time')}"
+    return f"one way: prototype {number}, instruction {index}, {marked(part.code[index])}: only ever {way}; {many(sum(times), 'time')}"
 
 
 def handler_line(number, part, handler, of, can):
     registered = f"registered at {spans(of)}"
     why = "" if can else "; no walk can enter it"
-    return f"handler never entered: prototype {number}, instruction {handler}, {marked(part.code[handler]['mark'])}, {registered}{why}"
+    return f"handler never entered: prototype {number}, instruction {handler}, {marked(part.code[handler])}, {registered}{why}"
+
+
+def told_lines(coverage):
+    """The script's lines, and of a wide image the places within them, as words."""
+    kinds = ("lines never reached", "lines reached in part", "lines that no walk can reach")
+    told = list(zip(kinds, map(spans, coverage.lines())))
+    if coverage.is_wide():
+        told.insert(2, ("places never reached in these", ", ".join(marks.shown(mark, True) for mark in coverage.places())))
+    return told
 
 
 def summary(coverage):
     """The lines behind the listing."""
     yield from (part_line(number, part) for number, part in enumerate(coverage.parts))
-    for what, marks in zip(("never reached", "reached in part", "that no walk can reach"), coverage.lines()):
-        if marks:
-            yield f"script lines {what}: {spans(marks)}"
+    for what, found in told_lines(coverage):
+        if found:
+            yield f"script {what}: {found}"
     for number, part in enumerate(coverage.parts):
         yield from (one_way_line(number, part, index) for index in part.one_way())
         yield from (handler_line(number, part, handler, of, can) for handler, of, times, can in part.handlers() if not times)
     yield total_line(coverage.totals())
+
+
+def place_of(record):
+    """The mark of an instruction; of a wide one line and column too."""
+    return {key: record[key] for key in ("mark", "line", "column") if key in record}
 
 
 def records(coverage):
@@ -151,11 +178,13 @@ def records(coverage):
         yield {"kind": "prototype", "prototype": number, "walks": part.walks, "instructions": len(part.code), "reached": sum(part.visited),
                "never": ranges(part.never()), "dead": ranges(part.dead())}
     never, half, dead = coverage.lines()
-    yield {"kind": "lines", "never": never, "part": half, "dead": dead}
+    places = {"places": [marks.place(mark, True) for mark in coverage.places()]} if coverage.is_wide() else {}
+    yield {"kind": "lines", "never": never, "part": half, "dead": dead, **places}
     for number, part in enumerate(coverage.parts):
         for index in part.one_way():
-            yield {"kind": "one way", "prototype": number, "index": index, "mark": part.code[index]["mark"], "next": part.ways[index][0], "skip": part.ways[index][1]}
+            yield {"kind": "one way", "prototype": number, "index": index, **place_of(part.code[index]), "next": part.ways[index][0],
+                   "skip": part.ways[index][1]}
         for handler, of, times, can in part.handlers():
-            yield {"kind": "handler", "prototype": number, "index": handler, "mark": part.code[handler]["mark"], "registered": of, "entered": times, "can": can}
+            yield {"kind": "handler", "prototype": number, "index": handler, **place_of(part.code[handler]), "registered": of, "entered": times, "can": can}
     all_, reached, can = coverage.totals()
     yield {"kind": "total", "instructions": all_, "reached": reached, "can": can}

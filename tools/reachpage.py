@@ -2,6 +2,7 @@
 from html import escape
 
 import imagefile
+import marks
 import reach
 import walks
 
@@ -64,16 +65,20 @@ def prototypes(covered):
 
 
 def lines(covered):
-    told = [(what, reach.spans(marks)) for what, marks in zip(("never reached", "reached in part", "that no walk can reach"), covered.lines())]
-    return "<h2>Script lines, by their marks</h2>\n" + table(["lines", "marks"], [[what, marks or "none"] for what, marks in told])
+    told = [(what.removeprefix("lines "), found) for what, found in reach.told_lines(covered)]
+    return "<h2>Script lines, by their marks</h2>\n" + table(["lines", "marks"], [[what, found or "none"] for what, found in told])
+
+
+def mark_of(record):
+    return marks.shown(record["mark"], "line" in record)
 
 
 def tests(covered):
     rows = []
     for number, part in enumerate(covered.parts):
         for index in part.one_way():
-            times, mark = part.ways[index], part.code[index]["mark"]
-            rows.append([number, index, "none" if mark is None else mark, sum(times), "0: to the next" if times[1] == 0 else "1: skips one"])
+            times, mark = part.ways[index], mark_of(part.code[index])
+            rows.append([number, index, mark, sum(times), "0: to the next" if times[1] == 0 else "1: skips one"])
     heading = "<h2>Tests that only ever went one way</h2>\n"
     return heading + (table([" prototype", " instruction", " mark", " times", "only ever"], rows) if rows else "<p>None.</p>\n")
 
@@ -82,10 +87,10 @@ def handlers(covered):
     rows = []
     for number, part in enumerate(covered.parts):
         for handler, of, times, can in part.handlers():
-            mark = part.code[handler]["mark"]
+            mark = mark_of(part.code[handler])
             state = "reached" if times else "never" if can else "dead"
             told = str(times) if times else "never" if can else "no walk can enter it"
-            rows.append([number, handler, "none" if mark is None else mark, reach.spans(of), f'<span class="{state}">{told}</span>'])
+            rows.append([number, handler, mark, reach.spans(of), f'<span class="{state}">{told}</span>'])
     return "<h2>Handlers</h2>\n" + (table([" prototype", " instruction", " mark", "registered at", "entered"], rows) if rows else "<p>None.</p>\n")
 
 

@@ -10,6 +10,7 @@ import os
 import re
 import sys
 
+import marks
 import treefile
 
 LARGEST = 1 << 20
@@ -34,6 +35,8 @@ def explained(data, number, place):
         if told["mark"] is not None:
             told["owner"] = None if node == place else {"node": node, "kind": nodes[node].kind()}
             break
+    if nodes[-1].wide:
+        told["line"], told["column"] = marks.place(told["mark"], True)
     told["fault"] = fault(nodes, number, place, len(owners))
     return told
 
@@ -65,7 +68,7 @@ def words(told):
         kind = told["kind"] + ("" if told["name"] is None else f" of name {name(told['name'])}")
         owner = told["owner"]
         around = f" in the {owner['kind']} at node {owner['node']}" if owner else ""
-        parts.append(f"{kind}{around}, {'no mark' if told['mark'] is None else 'mark ' + str(told['mark'])}")
+        parts.append(f"{kind}{around}, {marks.words(told['mark'], 'line' in told)}")
     if told.get("fault"):
         parts.append(told["fault"])
     return "; ".join(parts)

@@ -5,6 +5,8 @@ exactly the nodes in which the judge does.
 """
 import struct
 
+import marks
+
 NONE = 65535
 NAMES = ["io", "strings", "type", "env", "import", "net", "re", "process", "lists"]
 
@@ -71,8 +73,10 @@ FORMS = {
     0x1C: ("define", NAME + MARK + PARAMETERS + rest("body statement", STATEMENT)),
     0x1D: ("class", NAME + MARK + child("its superclass", SUPERCLASS) + counted("method", METHOD) + rest("static method", METHOD)),
     0x1E: ("program", rest("statement", STATEMENT)),
+    0x3E: ("program", rest("statement", STATEMENT)),
 }
-PROGRAM = 0x1E
+PROGRAMS = {0x1E, 0x3E}
+WIDE = 0x3E  # the tag of a program in whose tree a mark has two words
 
 
 class Fault(Exception):
@@ -80,11 +84,15 @@ class Fault(Exception):
 
 
 class Node:
-    """A field: the byte that it starts at, its tag and its payload."""
+    """A field: the byte that it starts at, its tag and its payload; and whether the last field says that marks are wide."""
 
     def __init__(self, at, tag, payload):
-        self.at, self.tag, self.payload = at, tag, payload
+        self.at, self.tag, self.payload, self.wide = at, tag, payload, False
         self.words = struct.unpack(f">{len(payload) // 2}H", payload[:len(payload) // 2 * 2])
+
+    def size(self, sort):
+        """The words that an item takes."""
+        return 2 if self.wide and sort in ("mark", "any mark") else 1
 
     def kind(self):
         return FORMS[self.tag][0] if self.tag in FORMS else f"node of tag {self.tag:02X}"
@@ -102,11 +110,14 @@ def read(data):
             return nodes, f"byte {at}: a payload of {many(size, 'byte')} is due where the file ends after {left - 3}"
         nodes.append(Node(at, tag, data[at + 3:at + 3 + size]))
         at += 3 + size
+    for node in nodes:
+        node.wide = nodes[-1].tag == WIDE
     return nodes, None if nodes else "there are no bytes"
 
 
 def items(node):
-    """The words of a payload one by one, as (what sort, what it is, its index, its role): as far as the payload fits its tag, then a Fault."""
+    """The items of a payload one by one, as (what sort, what it is, its first word's index, its role): as far as the payload fits its tag, then a
+    Fault."""
     kind, form = FORMS.get(node.tag, (None, None))
     if kind is None:
         raise Fault(f"no node has the tag {node.tag:02X}")
@@ -114,24 +125,26 @@ def items(node):
         raise Fault(f"its payload has {many(len(node.payload), 'byte')}, and is made of words of two")
     at = 0
     for sort, what, role in form:
-        for piece in spread(sort, what, len(node.words) - at, node.words[at] if at < len(node.words) else 0):
-            if at >= len(node.words):
-                raise Fault(f"its payload ends where word {at}, {piece[1]}, is due")
+        for piece in spread(node, sort, what, len(node.words) - at, node.words[at] if at < len(node.words) else 0):
+            size = node.size(piece[0])
+            if at + size > len(node.words):
+                raise Fault(f"its payload ends where {'words' if size > 1 else 'word'} {at}{f' and {at + 1}' if size > 1 else ''}, {piece[1]}, is due")
             yield piece[0], piece[1], at, role
-            at += 1
+            at += size
     if at < len(node.words):
         raise Fault(f"its payload has {many(len(node.words), 'word')}, and is to end after {at}")
 
 
-def spread(sort, what, left, first):
-    """The words that an item stands for, where so many are left, the next of which is `first`."""
+def spread(node, sort, what, left, first):
+    """The items that an item of a form stands for, where so many words are left, the next of which is `first`."""
     if sort in ("rest", "maybe"):
         n = left if sort == "rest" else min(left, 1)
         return [("child", f"{what} {k}" if sort == "rest" else what) for k in range(n)]
     if sort == "counted":
         return counted_words(what, left, first)
     if sort == "pairs":
-        return [pair for k in range(max(1, (left + 1) // 2)) for pair in name_and_mark(f"{what} {k}")]
+        pairs = -(-left // (1 + node.size("mark")))
+        return [pair for k in range(max(1, pairs)) for pair in name_and_mark(f"{what} {k}")]
     return [(sort, what)]
 
 
@@ -161,8 +174,9 @@ def fault(nodes, i):
     """What is wrong with the shape of node i, or None."""
     node = nodes[i]
     try:
-        if (i + 1 == len(nodes)) != (node.tag == PROGRAM):
-            raise Fault("a program stands here, and it must be the last node" if node.tag == PROGRAM else "the last node must be a program")
+        is_program = node.tag in PROGRAMS
+        if (i + 1 == len(nodes)) != is_program:
+            raise Fault("a program stands here, and it must be the last node" if is_program else "the last node must be a program")
         for sort, what, at, role in items(node):
             lawful(nodes, i, sort, role, f"word {at}, {what},", node.words[at])
     except Fault as problem:
@@ -193,7 +207,8 @@ def own(node, sort):
     """The node's own word of this sort, its name or its mark, or None."""
     for found, what, at, _ in own_words(node):
         if found == sort and what.startswith("its "):
-            return None if node.words[at] == NONE else node.words[at]
+            wide = node.size(sort) > 1
+            return marks.of(node.words[at] << 16 | node.words[at + 1] if wide else node.words[at], wide)
     return None
 
 

@@ -1,6 +1,6 @@
 //! The clock: each call by itself, summed over the scripts of a size, in rounds that go over all sizes and all programs.
 use crate::noise::spread;
-use crate::scripts::Script;
+use crate::scripts::{Form, Script};
 use files::tree::first_field;
 use std::hint::black_box;
 use std::time::Instant;
@@ -36,12 +36,17 @@ pub struct Row {
     pub scripts: usize,
     pub whole: Times,
     pub mode_1: Times,
+    /// The whole call on the same scripts with wide marks, in mode 0.
+    pub wide: Times,
     pub check: Times,
+    pub wide_check: Times,
     pub rust: Times,
     /// Fields an image.
     pub fields: usize,
     /// A field of the image, by the reader.
     pub read: Times,
+    /// The same of the wide image.
+    pub wide_read: Times,
     /// A field of the image, by a loop that only frames.
     pub framed: Times,
 }
@@ -75,11 +80,13 @@ pub fn measure(bundles: &[Vec<Script>], rounds: usize) -> Vec<Row> {
     let most = |of: fn(&Script) -> usize| bundles.iter().flatten().map(of).max().expect("a script");
     let mut lent = Lent { work: vec![0; most(words)], out: vec![0; most(room)] };
     bundles.iter().flatten().for_each(|script| same_image(script, &mut lent));
-    let mut times = vec![[const { Vec::new() }; 6]; bundles.len()];
+    let mut times = vec![[const { Vec::new() }; 9]; bundles.len()];
     for round in 0..=rounds {
         for (bundle, times) in bundles.iter().zip(&mut times) {
-            let [zero, one] = [0, 1].map(|mode| whole(bundle, mode, &mut lent));
-            let taken = [rust(bundle), zero, one, check(bundle), read(bundle), framed(bundle)];
+            let [zero, one] = [0, 1].map(|mode| whole(bundle, narrow, mode, &mut lent));
+            let wider = whole(bundle, wide, 0, &mut lent);
+            let [checks, reads] = [check, read].map(|of| [narrow, wide].map(|form| of(bundle, form)));
+            let taken = [rust(bundle), zero, one, wider, checks[0], checks[1], reads[0], reads[1], framed(bundle)];
             if round > 0 {
                 times.iter_mut().zip(taken).for_each(|(times, taken)| times.push(taken));
             }
@@ -88,14 +95,15 @@ pub fn measure(bundles: &[Vec<Script>], rounds: usize) -> Vec<Row> {
     bundles.iter().zip(times).map(|(bundle, times)| row(bundle, times)).collect()
 }
 
-fn row(bundle: &[Script], times: [Vec<f64>; 6]) -> Row {
+fn row(bundle: &[Script], times: [Vec<f64>; 9]) -> Row {
     let all: usize = bundle.iter().map(|script| script.nodes).sum();
     let fields: usize = bundle.iter().map(|script| script.fields).sum();
-    let [rust, whole, mode_1, check, read, framed] = times;
-    let [rust, whole, mode_1, check] = [rust, whole, mode_1, check].map(|times| summary(times, all as f64));
-    let [read, framed] = [read, framed].map(|times| summary(times, fields as f64));
+    let [rust, whole, mode_1, wide, check, wide_check, read, wide_read, framed] = times;
+    let of_nodes = [rust, whole, mode_1, wide, check, wide_check];
+    let [rust, whole, mode_1, wide, check, wide_check] = of_nodes.map(|times| summary(times, all as f64));
+    let [read, wide_read, framed] = [read, wide_read, framed].map(|times| summary(times, fields as f64));
     let (nodes, scripts, fields) = (all / bundle.len(), bundle.len(), fields / bundle.len());
-    Row { nodes, scripts, whole, mode_1, check, rust, fields, read, framed }
+    Row { nodes, scripts, whole, mode_1, wide, check, wide_check, rust, fields, read, wide_read, framed }
 }
 
 pub fn summary(mut times: Vec<f64>, nodes: f64) -> Times {
@@ -108,8 +116,17 @@ fn words(script: &Script) -> usize {
     12_288 + 16 * script.nodes
 }
 
+/// The wide image is the longer one.
 fn room(script: &Script) -> usize {
-    script.image.len() + 64
+    script.wide.image.len() + 64
+}
+
+fn narrow(script: &Script) -> &Form {
+    &script.narrow
+}
+
+fn wide(script: &Script) -> &Form {
+    &script.wide
 }
 
 pub fn nanoseconds(work: impl FnOnce()) -> f64 {
@@ -131,21 +148,21 @@ fn rust(bundle: &[Script]) -> f64 {
 }
 
 /// The whole call in a mode, from bytes: checks, lowering, image, clearing. The image is as long in mode 1 as in mode 0.
-fn whole(bundle: &[Script], mode: u64, lent: &mut Lent) -> f64 {
+fn whole(bundle: &[Script], of: fn(&Script) -> &Form, mode: u64, lent: &mut Lent) -> f64 {
     let mut one = |script: &Script| {
         let mut answer = [9u64; 4];
-        let taken = nanoseconds(|| answer = lower(black_box(script), mode, lent));
-        assert_eq!(answer[..3], [0, 0, script.image.len() as u64], "the script is accepted");
+        let taken = nanoseconds(|| answer = lower(black_box(of(script)), words(script), mode, lent));
+        assert_eq!(answer[..3], [0, 0, of(script).image.len() as u64], "the script is accepted");
         taken
     };
     bundle.iter().map(&mut one).sum()
 }
 
 /// Refusals 1 to 6 alone, in mode 0.
-fn check(bundle: &[Script]) -> f64 {
+fn check(bundle: &[Script], of: fn(&Script) -> &Form) -> f64 {
     let one = |script: &Script| {
         let mut answer = [9u64; 3];
-        let tree = black_box(&script.tree);
+        let tree = black_box(&of(script).tree);
         let call = || unsafe { yengrazul_check(tree.as_ptr(), tree.len(), words(script), 0, answer.as_mut_ptr()) };
         let taken = nanoseconds(call);
         assert_eq!(answer, [0, 0, script.nodes as u64], "the script is accepted");
@@ -155,10 +172,10 @@ fn check(bundle: &[Script]) -> f64 {
 }
 
 /// The image read back.
-fn read(bundle: &[Script]) -> f64 {
+fn read(bundle: &[Script], of: fn(&Script) -> &Form) -> f64 {
     let one = |script: &Script| {
         let mut answer = [9u64; 2];
-        let image = black_box(&script.image);
+        let image = black_box(&of(script).image);
         let taken = nanoseconds(|| unsafe { yengrazul_read(image.as_ptr(), image.len(), answer.as_mut_ptr()) });
         assert_eq!(answer, [0, 0], "the image is taken");
         taken
@@ -169,7 +186,7 @@ fn read(bundle: &[Script]) -> f64 {
 /// A plain loop over the image's fields that looks at nothing but their lengths.
 fn framed(bundle: &[Script]) -> f64 {
     let one = |script: &Script| {
-        let (mut fields, mut rest) = (0, &black_box(&script.image)[..]);
+        let (mut fields, mut rest) = (0, &black_box(&script.narrow.image)[..]);
         let taken = nanoseconds(|| {
             while let Some((field, behind)) = first_field(rest) {
                 black_box(field);
@@ -190,8 +207,8 @@ pub fn lowered(tree: &[u8]) -> (f64, [u64; 4]) {
     (nanoseconds(|| answer = call(black_box(tree), &mut work, &mut out, 0)), answer)
 }
 
-fn lower(script: &Script, mode: u64, lent: &mut Lent) -> [u64; 4] {
-    call(&script.tree, &mut lent.work[..words(script)], &mut lent.out[..room(script)], mode)
+fn lower(form: &Form, words: usize, mode: u64, lent: &mut Lent) -> [u64; 4] {
+    call(&form.tree, &mut lent.work[..words], &mut lent.out[..form.image.len() + 64], mode)
 }
 
 fn call(tree: &[u8], work: &mut [u32], out: &mut [u8], mode: u64) -> [u64; 4] {
@@ -211,9 +228,11 @@ fn call(tree: &[u8], work: &mut [u32], out: &mut [u8], mode: u64) -> [u64; 4] {
     answer
 }
 
-/// Mode 0 gives the Rust's image, or there is nothing to compare.
+/// Mode 0 gives the Rust's image, of either width, or there is nothing to compare.
 fn same_image(script: &Script, lent: &mut Lent) {
-    let length = script.image.len();
-    assert_eq!(lower(script, 0, lent)[..3], [0, 0, length as u64], "number, place and length");
-    assert!(lent.out[..length] == script.image, "the image is the Rust's");
+    for form in [&script.narrow, &script.wide] {
+        let length = form.image.len();
+        assert_eq!(lower(form, words(script), 0, lent)[..3], [0, 0, length as u64], "number, place and length");
+        assert!(lent.out[..length] == form.image, "the image is the Rust's");
+    }
 }

@@ -8,17 +8,19 @@ const BUILTINS: [&str; 9] = ["io", "strings", "type", "env", "import", "net", "r
 /// What stands before the word of an "other literal", which the source carries as a text that no name is.
 const OTHER: &str = "\0other ";
 
-pub fn token(token: Token, mark: u16) -> TokenData {
-    TokenData { token, lexeme: String::new(), literal: None, line: mark.into() }
+/// The source's line has 32 bits and a sign: it holds a mark by its bits, so that every one of 32 bits comes back. Nothing but a message looks at it.
+pub fn token(token: Token, mark: u32) -> TokenData {
+    TokenData { token, lexeme: String::new(), literal: None, line: mark as i32 }
 }
 
-pub fn name_token(name: u16, mark: u16) -> TokenData {
-    TokenData { token: Token::Identifier, lexeme: name_text(name), literal: None, line: mark.into() }
+pub fn name_token(name: u16, mark: u32) -> TokenData {
+    TokenData { token: Token::Identifier, lexeme: name_text(name), literal: None, line: mark as i32 }
 }
 
-/// The mark of an instruction; none is 65,535.
-pub fn mark(token: &Option<TokenData>) -> u16 {
-    token.as_ref().map_or(NONE, |t| t.line.try_into().expect("a mark is a word"))
+/// The mark of an instruction; the one that says that there is none, 65,535 or in a wide tree 4,294,967,295, is none too.
+pub fn mark(token: &Option<TokenData>, wide: bool) -> Option<u32> {
+    let absent = if wide { u32::MAX } else { NONE.into() };
+    token.as_ref().map(|t| t.line as u32).filter(|mark| *mark != absent)
 }
 
 /// Names 0 to 8 are the builtins, 65,535 is the empty text, any other is a text of its own.

@@ -4,7 +4,7 @@ use crate::expr::*;
 use crate::names::{name_token, other_literal, text_literal, token};
 use crate::stmt::*;
 use crate::token::*;
-use files::tree::Field;
+use files::tree::{is_wide, Field};
 use files::NONE;
 
 const UNARY: [Token; 2] = [Token::Not, Token::Minus];
@@ -26,12 +26,15 @@ const BINARY: [Token; 12] = [
 
 /// The statements of the program, which is the last node.
 pub fn program(fields: &[Field]) -> Vec<Stmt> {
-    let tree = Tree(fields);
+    let tree = Tree { fields, wide: is_wide(fields) };
     tree.words(fields.len() - 1).stmts()
 }
 
 #[derive(Clone, Copy)]
-struct Tree<'t>(&'t [Field<'t>]);
+struct Tree<'t> {
+    fields: &'t [Field<'t>],
+    wide: bool,
+}
 
 /// The words of a payload that are still to be read.
 struct Words<'t> {
@@ -44,18 +47,24 @@ impl<'t> Words<'t> {
         self.words.next().expect("a checked payload")
     }
 
+    /// One word, or two in a wide tree.
+    fn mark(&mut self) -> u32 {
+        let high = if self.tree.wide { self.word() } else { 0 };
+        u32::from(high) << 16 | u32::from(self.word())
+    }
+
     fn operator(&mut self, tokens: &[Token]) -> TokenData {
         let op = tokens[usize::from(self.word()) - 1];
-        token(op, self.word())
+        token(op, self.mark())
     }
 
     fn keyword(&mut self, keyword: Token) -> TokenData {
-        token(keyword, self.word())
+        token(keyword, self.mark())
     }
 
     fn name(&mut self) -> TokenData {
         let name = self.word();
-        name_token(name, self.word())
+        name_token(name, self.mark())
     }
 
     fn names(&mut self, n: u16) -> Vec<TokenData> {
@@ -105,14 +114,14 @@ impl<'t> Words<'t> {
 
 impl<'t> Tree<'t> {
     fn words(self, node: usize) -> Words<'t> {
-        Words { tree: self, words: self.0[node].words().into_iter() }
+        Words { tree: self, words: self.fields[node].words().into_iter() }
     }
 
     fn expr(self, node: usize) -> Expr {
         let mut w = self.words(node);
-        match self.0[node].tag {
+        match self.fields[node].tag {
             0x01 => {
-                let bits = u64::from_be_bytes(self.0[node].payload.try_into().unwrap());
+                let bits = u64::from_be_bytes(self.fields[node].payload.try_into().unwrap());
                 Expr::Literal(node!(node, LiteralExpr { value: Literal::Number(f64::from_bits(bits)) }))
             }
             0x02 => Expr::Literal(node!(node, LiteralExpr { value: text_literal(w.word()) })),
@@ -142,7 +151,7 @@ impl<'t> Tree<'t> {
 
     fn stmt(self, node: usize) -> Stmt {
         let mut w = self.words(node);
-        match self.0[node].tag {
+        match self.fields[node].tag {
             0x10 => Stmt::Expr(node!(node, ExprStmt { last: None, expression: w.expr() })),
             0x11 => Stmt::Let(node!(node, LetStmt { name: w.name(), initializer: w.perhaps_expr() })),
             0x12 => Stmt::Block(node!(node, BlockStmt { stmts: w.stmts() })),
@@ -198,7 +207,7 @@ impl<'t> Tree<'t> {
         let keyword = w.keyword(Token::For);
         let collection = w.expr();
         let body = w.boxed_stmt();
-        let pairs = w.words.len() / 2;
+        let pairs = w.words.len() / if self.wide { 3 } else { 2 };
         Stmt::EnhancedFor(node!(
             node,
             EnhancedForStmt { keyword, collection, body, identifiers: w.names(pairs as u16) }

@@ -3,15 +3,16 @@ use crate::compiler::{Compiler, FnPrototype};
 use crate::names::{constant, mark, name_number};
 use files::image::{Capture, Image, Instruction, Prototype};
 
-pub fn image(compiler: &Compiler) -> Image {
+pub fn image(compiler: &Compiler, wide: bool) -> Image {
     Image {
-        prototypes: compiler.prototypes.iter().map(prototype).collect(),
+        wide,
+        prototypes: compiler.prototypes.iter().map(|p| prototype(p, wide)).collect(),
         constants: compiler.constants.iter().map(constant).collect(),
     }
 }
 
-fn prototype(p: &FnPrototype) -> Prototype {
-    let marks = p.instruction_data.iter().map(mark);
+fn prototype(p: &FnPrototype, wide: bool) -> Prototype {
+    let marks = p.instruction_data.iter().map(|token| mark(token, wide));
     Prototype {
         name: name_number(&p.name),
         parameters: p.param_count.try_into().expect("a parameter count is a word"),

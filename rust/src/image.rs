@@ -2,7 +2,9 @@
 mod parts;
 
 use crate::{Cause, Refusal};
-pub use parts::{Capture, Captures, Constant, Constants, Instruction, Instructions, Prototype, Prototypes};
+pub use parts::{
+    line_and_column, Capture, Captures, Constant, Constants, Instruction, Instructions, Prototype, Prototypes,
+};
 
 extern "C" {
     // include/yengrazul.h says what it asks for and what it does.
@@ -72,6 +74,19 @@ impl Image {
         let numbered =
             |(k, p): (usize, Prototype)| p.instructions().enumerate().map(|(at, i)| (k, at, i)).collect::<Vec<_>>();
         self.prototypes().enumerate().flat_map(numbered)
+    }
+
+    /// Whether its marks have four bytes, as those of the tree had: a mark is then more than a line.
+    ///
+    /// ```
+    /// // the empty program, of either width
+    /// assert!(!yengrazul::lower(&[0x1E, 0, 0])?.is_wide());
+    /// let image = yengrazul::lower(&[0x3E, 0, 0])?;
+    /// assert!(image.is_wide() && image.as_bytes().len() == 24);
+    /// # Ok::<(), yengrazul::Refusal>(())
+    /// ```
+    pub fn is_wide(&self) -> bool {
+        parts::is_wide(&self.0)
     }
 
     /// The constants by their index.

@@ -22,6 +22,9 @@
 //!
 //! [`mend`] mends an image that the Rust left on an old card: its stray jumps become returns, and are told. It is proved too.
 //!
+//! A tree whose last field has tag 3E has marks of four bytes, for a line and a column, and so has its image: [`Image::is_wide`] says so, and
+//! [`Instruction::mark`] holds a mark of either width.
+//!
 //! What tree and image files hold: `docs/FORMATS.md` of the project.
 //!
 //! To build it, `rt staticlib yengrazul` must have written `libyengrazul.a` to `target/staticlib` of the project;
@@ -35,7 +38,9 @@ mod mode;
 mod refusal;
 mod walk;
 
-pub use image::{Capture, Captures, Constant, Constants, Image, Instruction, Instructions, Prototype, Prototypes};
+pub use image::{
+    line_and_column, Capture, Captures, Constant, Constants, Image, Instruction, Instructions, Prototype, Prototypes,
+};
 pub use lowerer::{Lowerer, LARGEST_IMAGE, MOST_NODES, STACK_BYTES};
 pub use mending::{mend, Mended, Replaced};
 pub use mode::Mode;

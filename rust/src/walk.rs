@@ -197,7 +197,7 @@ impl<'i> Coverage<'i> {
     }
 
     /// The marks of which no run reached an instruction, in their order.
-    pub fn marks_never(&self) -> Vec<u16> {
+    pub fn marks_never(&self) -> Vec<u32> {
         let mut seen = BTreeMap::new();
         for (prototype, index, instruction) in self.image.instructions() {
             if let Some(mark) = instruction.mark {

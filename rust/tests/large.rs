@@ -78,6 +78,23 @@ fn as_many_instructions_as_a_function_may_have() {
     assert_eq!(lower(&returns(32_767)), Err(Refusal { cause: Cause::Long, node: 32_767 }));
 }
 
+/// So many bare returns with wide marks.
+fn wide_returns(n: u16) -> Vec<u8> {
+    let mut tree = [0x18, 0, 4, 0, 12, 0, 5].repeat(n.into());
+    tree.push(0x3E);
+    tree.extend((2 * n).to_be_bytes());
+    tree.extend((0..n).flat_map(u16::to_be_bytes));
+    tree
+}
+
+#[test]
+fn as_many_of_them_with_wide_marks() {
+    let image = lower(&wide_returns(32_766)).unwrap();
+    assert_eq!(image.as_bytes().len(), 13 + 32_767 * 11);
+    assert!(image.is_wide() && image.instructions().take(32_766).all(|(_, _, i)| i.mark == Some(0x000C_0005)));
+    assert_eq!(lower(&wide_returns(32_767)), Err(Refusal { cause: Cause::Long, node: 32_767 }));
+}
+
 #[test]
 fn more_nodes_than_a_tree_may_have() {
     let many = [0x12, 0, 0].repeat(32_769);

@@ -157,6 +157,33 @@ static void visits(size_t words)
     }
 }
 
+/* Wide marks: a tree whose last field has tag 3E, and files of both widths. */
+static void wide(size_t words)
+{
+    const uint8_t empty[] = {0x3E, 0, 0};
+    const uint8_t empty_image[] = {0x41, 0, 10, 255, 255, 0, 0, 0, 0, 0, 0, 0, 1, 0x47, 0, 8, 20, 0, 0, 0, 255, 255, 255, 255};
+    const uint8_t marked[] = {0x18, 0, 4, 0, 12, 0, 5, 0x18, 0, 4, 0, 0, 255, 255, 0x3E, 0, 4, 0, 0, 0, 1}; /* marks 12:5 and 65535 */
+    const uint8_t marked_image[] = {
+        0x41, 0, 10, 255, 255, 0, 0, 0, 0, 0, 0, 0, 3,
+        0x47, 0, 8, 20, 0, 0, 0, 0, 12, 0, 5,
+        0x47, 0, 8, 20, 0, 0, 0, 0, 0, 255, 255,
+        0x47, 0, 8, 20, 0, 0, 0, 255, 255, 255, 255,
+    };
+    const uint8_t narrow_payload[] = {0x18, 0, 4, 0, 1, 0, 5, 0x16, 0, 2, 0, 5, 0x3E, 0, 4, 0, 0, 0, 1};
+    const uint8_t wide_payload[] = {0x18, 0, 2, 0, 5, 0x16, 0, 4, 0, 1, 0, 5, 0x1E, 0, 4, 0, 0, 0, 1};
+    const uint8_t both[] = {0x12, 0, 0, 0x3E, 0, 0, 0x1E, 0, 2, 0, 0};
+    for (uint64_t mode = 0; mode < 2; mode++) {
+        call_in(mode, "the empty program, wide", empty, sizeof empty, words, sizeof out, YENGRAZUL_ACCEPTED, 0, empty_image, sizeof empty_image);
+        call_in(mode, "wide marks", marked, sizeof marked, words, sizeof marked_image, YENGRAZUL_ACCEPTED, 0, marked_image, sizeof marked_image);
+    }
+    call("the empty program, wide, in just its words", empty, sizeof empty, YENGRAZUL_WORDS(1), sizeof out, YENGRAZUL_ACCEPTED, 0, empty_image,
+         sizeof empty_image);
+    call("wide marks in a byte less", marked, sizeof marked, words, sizeof marked_image - 1, YENGRAZUL_ROOM, 2, NULL, 0);
+    call("a narrow payload in a wide tree", narrow_payload, sizeof narrow_payload, words, sizeof out, YENGRAZUL_SHAPE, 1, NULL, 0);
+    call("a wide payload in a narrow tree", wide_payload, sizeof wide_payload, words, sizeof out, YENGRAZUL_SHAPE, 1, NULL, 0);
+    call("3E that is not last", both, sizeof both, words, sizeof out, YENGRAZUL_SHAPE, 1, NULL, 0);
+}
+
 /* The check alone, on a file and in a mode. */
 static void check(const char *program, const uint8_t *tree, size_t tree_len, size_t words, uint64_t mode, uint64_t number, uint64_t place, uint64_t nodes)
 {
@@ -182,7 +209,7 @@ int main(void)
     expect(yengrazul_nodes(minus_x, sizeof minus_x) == 5, "nodes", "program 9 has five");
     expect(yengrazul_nodes(minus_x, sizeof minus_x - 1) == 4, "nodes", "a field that is cut is none");
     expect(yengrazul_nodes(minus_x, 0) == 0, "nodes", "no bytes have none");
-    expect(YENGRAZUL_IMAGE_MOST == 75836160, "sizes", "the longest image");
+    expect(YENGRAZUL_IMAGE_MOST == 92612864, "sizes", "the longest image");
     for (uint64_t number = 0; number < 100; number++) { /* some numbers between those of the documents are given by no call yet */
         int none = strcmp(yengrazul_name(number), "Unknown") == 0;
         expect(none == (strcmp(yengrazul_cause(number), yengrazul_cause(99)) == 0) && (none || number < 31), "names", "a number has both or neither");
@@ -204,6 +231,7 @@ int main(void)
     call("no bytes, no buffers", minus_x, 0, 0, 0, YENGRAZUL_FRAME, 0, NULL, 0);
     modes(words);
     visits(words);
+    wide(words);
     checks(words);
     call("program 9 again", minus_x, sizeof minus_x, words, sizeof out, YENGRAZUL_ACCEPTED, 0, minus_x_image, length);
     printf("%d failures\n", failures);

@@ -55,6 +55,16 @@ int main(void)
     changed("a register too many", 26, 2, YENGRAZUL_IMAGE_RULE, 2);
     changed("a Closure of itself", 67, 1, YENGRAZUL_IMAGE_RULE, 6);
     changed("a mark is free", 69, 12, YENGRAZUL_ACCEPTED, 0);
-    if (!wrong) puts("read: 9 images, 0 differences");
+    /* two instructions of either width */
+    const uint8_t wide[] = {0x41, 0, 10, 255, 255, 0, 0, 0, 0, 0, 0, 0, 2, 0x47, 0, 8, 20, 0, 0, 0, 0, 1, 0, 2, 0x47, 0, 8, 20, 0, 0, 0, 255, 255, 255, 255};
+    const uint8_t narrow[] = {0x43, 0, 6, 20, 0, 0, 0, 0, 1};
+    memcpy(lent + 1, wide, sizeof wide);
+    reads("wide marks", sizeof wide, YENGRAZUL_ACCEPTED, 0);
+    reads("wide marks, the end too soon", sizeof wide - 11, YENGRAZUL_IMAGE_RULE, 2);
+    memcpy(lent + 1 + 24, narrow, sizeof narrow);
+    reads("43 behind 47", 24 + sizeof narrow, YENGRAZUL_IMAGE_RULE, 2);
+    memcpy(lent + 1 + 13, narrow, sizeof narrow), memcpy(lent + 1 + 22, wide + 24, 11);
+    reads("47 behind 43", 33, YENGRAZUL_IMAGE_RULE, 2);
+    if (!wrong) puts("read: 13 images, 0 differences");
     return wrong;
 }

@@ -1,5 +1,5 @@
 -- A function's code becomes a prototype: its bytes follow those of the earlier ones, where they fit, and are counted always. Assumes nothing.
-use mathlib.Core.Path.{_≡_, refl, sym, ap, _∙_}
+use mathlib.Core.Path.{_≡_, refl, sym, ap, _∙_, subst}
 use mathlib.Core.List.{List, [], _∷_, _++_}
 use Prim.Native.Nat.{ℕ, _+_, _*_, _-_, _≤_, _<_}
 use native.Mathlib.Omega.{arith}
@@ -9,12 +9,13 @@ use Rattle.store.specs.declared.Step.{Step}
 use Rattle.store.specs.declared.Scope.{Scope}
 use Rattle.store.specs.Table.{tab}
 use Rattle.store.specs.Layout.{inst-at}
-use Rattle.store.specs.Store.{open-at, state-of, config-of, run, refused-step, Written, image-by, written-by, Image, Fine}
+use Rattle.store.specs.Store.{open-at, state-of, config-of, run, refused-step, code-tag, Written, image-by, written-by, Image, Fine}
 use Rattle.store.specs.Promise.{nothing}
 use Rattle.store.proofs.Tables.{tab-length, tab-take, tab-drop}
 use Rattle.store.proofs.Regions.{below-256}
 use Rattle.store.proofs.Runs.{goes, none-due, run-stopped, stays, image-none}
 use Rattle.store.proofs.Steps.{refused-outcome, refused-moves, refused-small, stopped-small, shallow}
+use Rattle.meaning.specs.Images.{inst-size}
 use Rattle.meaning.specs.Image.{proto-bytes}
 use Rattle.meaning.specs.State.{State, Proto, refuse, if-then, add-prototype}
 use Rattle.meaning.specs.declared.Cause.{Cause}
@@ -26,7 +27,7 @@ use Rattle.forward.specs.Forward.{Config, config, Run, stopped, bind, on, fwd-b
 use Rattle.image.specs.Output.{Placed, proto-of}
 use Rattle.code.specs.Cuts.{adding, Adds}
 use Rattle.writers.proofs.Bytes.{protos-append}
-use Rattle.image.proofs.Bytes.{proto-size}
+use Rattle.image.proofs.Bytes.{short-inst, few-bytes, proto-size}
 use Rattle.writers.proofs.Splicing.{spliced-take}
 
 -- ---- what the definition does with the code from `first` on, of which there are k instructions
@@ -47,10 +48,10 @@ module _ (f : ℕ → Instruction) (first k node params r : ℕ) (t : State) whe
   too-many h e = rw (size, le-ltb 32767 (k + 1) (omega arith), eq-eqb (length (t .prototypes)) 256 e)
 
 -- what is written while nothing is refused
-pub was-written : {x : ℕ} (o : List ℕ) (s : Step) (ps : List Proto) → s .outcome ≡ Accepted x → Image o s ps → Written o x (s .functions) ps
-was-written {x} o s ps e i = by (s .outcome) e i
+pub was-written : {x : ℕ} (p : Scope) (o : List ℕ) (s : Step) (ps : List Proto) → s .outcome ≡ Accepted x → Image p o s ps → Written (code-tag p) o x (s .functions) ps
+was-written {x} p o s ps e i = by (s .outcome) e i
   where
-    by : (y : Outcome) → y ≡ Accepted x → image-by y o (s .functions) ps → Written o x (s .functions) ps
+    by : (y : Outcome) → y ≡ Accepted x → image-by (code-tag p) y o (s .functions) ps → Written (code-tag p) o x (s .functions) ps
     by y k h = rw k at h
 
 -- ---- the step, where a prototype is added
@@ -97,20 +98,20 @@ module _ {w : List ℕ} {p : Scope} {s : Step} {x : ℕ} (first node params : �
       sym (opened ps (adding first node params) ∙ rw (dropped-code, taken-code, n, le-ltb 32767 (s .code - first + 1) (omega arith), ne-eqb (length ps) 256 (rw e at ne), sym e))
 
   abbrev bytes : List ℕ
-  bytes = proto-bytes 0x43 (proto-of w (p .nodes) (p .depth) first (s .code - first) params ∷ [])
+  bytes = proto-bytes (code-tag p) (proto-of w (p .nodes) (p .depth) first (s .code - first) params ∷ [])
 
   -- written where it fits
-  pub added-image : {o o' : List ℕ} {end : ℕ} → Placed o x bytes o' end → (ps : List Proto) → Image o s ps → Image o' (added-step s first end) (ps ++ proto-of w (p .nodes) (p .depth) first (s .code - first) params ∷ [])
-  added-image {o} {o'} {end} placed ps i = by-written (was-written o s ps on i)
+  pub added-image : {o o' : List ℕ} {end : ℕ} → Placed o x bytes o' end → (ps : List Proto) → Image p o s ps → Image p o' (added-step s first end) (ps ++ proto-of w (p .nodes) (p .depth) first (s .code - first) params ∷ [])
+  added-image {o} {o'} {end} placed ps i = by-written (was-written p o s ps on i)
     where
-      all : proto-bytes 0x43 (ps ++ proto-of w (p .nodes) (p .depth) first (s .code - first) params ∷ []) ≡ proto-bytes 0x43 ps ++ bytes
-      all = protos-append 0x43 ps (proto-of w (p .nodes) (p .depth) first (s .code - first) params ∷ [])
+      all : proto-bytes (code-tag p) (ps ++ proto-of w (p .nodes) (p .depth) first (s .code - first) params ∷ []) ≡ proto-bytes (code-tag p) ps ++ bytes
+      all = protos-append (code-tag p) ps (proto-of w (p .nodes) (p .depth) first (s .code - first) params ∷ [])
 
-      by-written : Written o x (s .functions) ps → Written o' end (s .functions + 1) (ps ++ proto-of w (p .nodes) (p .depth) first (s .code - first) params ∷ [])
+      by-written : Written (code-tag p) o x (s .functions) ps → Written (code-tag p) o' end (s .functions + 1) (ps ++ proto-of w (p .nodes) (p .depth) first (s .code - first) params ∷ [])
       by-written h =
           record {
             counted = omega (arith, h .counted, length-append ps (proto-of w (p .nodes) (p .depth) first (s .code - first) params ∷ []));
-            sized = omega (arith, placed .ends, h .sized, length-append (proto-bytes 0x43 ps) bytes) ∙ sym (ap length all);
+            sized = omega (arith, placed .ends, h .sized, length-append (proto-bytes (code-tag p) ps) bytes) ∙ sym (ap length all);
             bytes = λ fits.
                 let z = placed .fits (omega (arith, placed .same)) in
                 ap (λ k. take k o') (placed .ends) ∙ spliced-take z ∙ ap (λ l. l ++ bytes) (h .bytes (omega (arith, z .fits))) ∙ sym all;
@@ -118,8 +119,9 @@ module _ {w : List ℕ} {p : Scope} {s : Step} {x : ℕ} (first node params : �
 
   pub added-fine : {o o' : List ℕ} {end : ℕ} → Placed o x bytes o' end → s .code - first ≤ 32766 → ¬ (s .functions ≡ 256) → Fine w p (added-step s first end)
   added-fine placed h ne =
-      let wr : x ≤ 300000 * s .functions = rw on at (fine .written) in
-      let n = proto-size w (p .nodes) (p .depth) first (s .code - first) params in
+      let wr : x ≤ 370000 * s .functions = rw on at (fine .written) in
+      let n = proto-size (code-tag p) w (p .nodes) (p .depth) first (s .code - first) params in
+      let few = few-bytes (s .code - first + 1) (3 + inst-size (code-tag p)) (omega arith) (short-inst (code-tag p)) in
       let small = below-256 (getD w (3074 + 8 * p .depth) 0) in
       record {
         sound = fine .sound;
@@ -128,14 +130,14 @@ module _ {w : List ℕ} {p : Scope} {s : Step} {x : ℕ} (first node params : �
         constants = fine .constants;
         globals = fine .globals;
         functions = omega (arith, fine .functions);
-        written = omega (arith, wr, n, small, placed .ends);
+        written = omega (arith, wr, n, few, small, placed .ends);
         result = omega (arith, fine .functions);
       }
 
-pub written-few : {w : List ℕ} {p : Scope} (s : Step) {x : ℕ} → Fine w p s → s .outcome ≡ Accepted x → x ≤ 300000 * s .functions
+pub written-few : {w : List ℕ} {p : Scope} (s : Step) {x : ℕ} → Fine w p s → s .outcome ≡ Accepted x → x ≤ 370000 * s .functions
 written-few s {x} fine e = by (s .outcome) e (fine .written)
   where
-    by : (y : Outcome) → y ≡ Accepted x → written-by y ≤ 300000 * s .functions → x ≤ 300000 * s .functions
+    by : (y : Outcome) → y ≡ Accepted x → written-by y ≤ 370000 * s .functions → x ≤ 370000 * s .functions
     by y k h = rw k at h
 
 -- ---- the promise, in each case
@@ -155,7 +157,7 @@ adds-absorbed {w} {o} {p} {s} {cause} {place} first node params fine off =
     }
 
 module _ {w o : List ℕ} {p : Scope} {s : Step} {x : ℕ} (first node params : ℕ) (fine : Fine w p s) (on : s .outcome ≡ Accepted x) (le : first ≤ s .code) where
-  adds-refused : (cause : Cause) → ((ps : List Proto) → Image o s ps → run w p (refused-step s cause node) ps ≡ bind (run w p s ps) (adding first node params)) → Adds first w o p s o (refused-step s cause node) node params
+  adds-refused : (cause : Cause) → ((ps : List Proto) → Image p o s ps → run w p (refused-step s cause node) ps ≡ bind (run w p s ps) (adding first node params)) → Adds first w o p s o (refused-step s cause node) node params
   adds-refused cause runs =
       let m = refused-moves {w = w} {p = p} s cause node nothing fine on in
       let off = refused-outcome s cause node on in
@@ -168,18 +170,19 @@ module _ {w o : List ℕ} {p : Scope} {s : Step} {x : ℕ} (first node params : 
         constants = refl;
         globals = refl;
         index = omega (arith, refused-small s cause node fine);
-        does = λ ps i. record { protos = ps; image = image-none s (refused-step s cause node) off o ps i; runs = runs ps i };
+        does = λ ps i. record { protos = ps; image = image-none p s (refused-step s cause node) off o ps i; runs = runs ps i };
       }
 
   pub adds-long : 32766 < s .code - first → Adds first w o p s o (refused-step s Long node) node params
   adds-long h = adds-refused Long (λ ps i. long-runs first node params fine on le h ps)
 
   pub adds-many : s .code - first ≤ 32766 → s .functions ≡ 256 → Adds first w o p s o (refused-step s Prototypes node) node params
-  adds-many h e = adds-refused Prototypes (λ ps i. many-runs first node params fine on le h ps (sym (was-written o s ps on i .counted) ∙ e))
+  adds-many h e = adds-refused Prototypes (λ ps i. many-runs first node params fine on le h ps (sym (was-written p o s ps on i .counted) ∙ e))
 
-  pub adds-done : {o' : List ℕ} {end : ℕ} → s .code - first ≤ 32766 → ¬ (s .functions ≡ 256) → Placed o x (proto-bytes 0x43 (proto-of w (p .nodes) (p .depth) first (s .code - first) params ∷ [])) o' end
-      → Adds first w o p s o' (added-step s first end) node params
-  adds-done {o'} {end} h ne placed =
+  pub adds-done : {o' : List ℕ} {end tag : ℕ} → s .code - first ≤ 32766 → ¬ (s .functions ≡ 256) → tag ≡ code-tag p
+      → Placed o x (proto-bytes tag (proto-of w (p .nodes) (p .depth) first (s .code - first) params ∷ [])) o' end → Adds first w o p s o' (added-step s first end) node params
+  adds-done {o'} {end} h ne e placed-so =
+      let placed = subst (λ t. Placed o x (proto-bytes t (proto-of w (p .nodes) (p .depth) first (s .code - first) params ∷ [])) o' end) e placed-so in
       record {
         fine = added-fine first node params fine on le placed h ne;
         same = placed .same;
@@ -193,6 +196,6 @@ module _ {w o : List ℕ} {p : Scope} {s : Step} {x : ℕ} (first node params : 
             record {
               protos = ps ++ proto-of w (p .nodes) (p .depth) first (s .code - first) params ∷ [];
               image = added-image first node params fine on le placed ps i;
-              runs = added-runs first node params fine on le end h ne ps (was-written o s ps on i .counted);
+              runs = added-runs first node params fine on le end h ne ps (was-written p o s ps on i .counted);
             };
       }

@@ -60,9 +60,9 @@ module _ (s : Step) (first : ℕ) where
   pools-by (Accepted x) = (refl, refl)
   pools-by (Refused k n) = (refl, refl)
 
-  image-by-case : (x : Outcome) (o : List ℕ) (ps : List Proto) → Image o (stepped x) ps → Image o (rolled-by x (stepped x) first) ps
-  image-by-case (Accepted x) o ps i = i
-  image-by-case (Refused k n) o ps i = i
+  image-by-case : (x : Outcome) (p : Scope) (o : List ℕ) (ps : List Proto) → Image p o (stepped x) ps → Image p o (rolled-by x (stepped x) first) ps
+  image-by-case (Accepted x) p o ps i = i
+  image-by-case (Refused k n) p o ps i = i
 
   -- no word changes, so that this holds of any
   pub rolled-runs : (w : List ℕ) (p : Scope) (ps : List Proto) → first ≤ s .code → run w p (rolled-step s first) ps ≡ bind (run w p s ps) (sure (roll-back first))
@@ -71,7 +71,7 @@ module _ (s : Step) (first : ℕ) where
   pub rolled-fine : (w : List ℕ) (p : Scope) → first ≤ s .code → Fine w p s → Fine w p (rolled-step s first)
   rolled-fine = fine-by (s .outcome)
 
-  pub rolled-image : (o : List ℕ) (ps : List Proto) → Image o s ps → Image o (rolled-step s first) ps
+  pub rolled-image : (p : Scope) (o : List ℕ) (ps : List Proto) → Image p o s ps → Image p o (rolled-step s first) ps
   rolled-image = image-by-case (s .outcome)
 
   pub rolled-outcome : rolled-step s first .outcome ≡ s .outcome

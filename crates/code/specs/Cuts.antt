@@ -40,7 +40,7 @@ pub record Adds (first : ℕ) (w o : List ℕ) (p : Scope) (s : Step) (o' : List
   pub constants : r .constants ≡ s .constants
   pub globals : r .globals ≡ s .globals
   pub index : r .result < 256
-  pub does : (ps : List Proto) → Image o s ps → After w o' p r (bind (run w p s ps) (adding first node params))
+  pub does : (ps : List Proto) → Image p o s ps → After w o' p r (bind (run w p s ps) (adding first node params))
 
 -- ---- the end of a function: the step before is in the function inside p, the step after in p, and the function's words are given back
 
@@ -57,10 +57,10 @@ pub record Leaves (first : ℕ) (w : List ℕ) (p : Scope) (s : Step) (w' : List
 pub record Ends (first : ℕ) (w o : List ℕ) (p : Scope) (s : Step) (w' o' : List ℕ) (r : Step) (u : Cost) (op : Config → Run) : Type 0 where
   pub leaves : Leaves first w p s w' r u
   pub same : length o' ≡ length o
-  pub does : (ps : List Proto) → Image o s ps → After w' o' p r (bind (run w (inner p) s ps) op)
+  pub does : (ps : List Proto) → Image p o s ps → After w' o' p r (bind (run w (inner p) s ps) op)
 
 -- the end of everything that is lowered
 pub record EndsProgram (w o : List ℕ) (p : Scope) (s : Step) (o' : List ℕ) (r : Step) (node : ℕ) : Type 0 where
   pub fine : Fine w p r
   pub same : length o' ≡ length o
-  pub does : (ps : List Proto) → Image o s ps → After w o' p r (bind (run w p s ps) (end-program node))
+  pub does : (ps : List Proto) → Image p o s ps → After w o' p r (bind (run w p s ps) (end-program node))

@@ -1,7 +1,8 @@
 // Finished prototypes in the output.
 ghost use Prim.Native.Nat.{_<_, _≤_};
+ghost use mathlib.Core.Path.{_≡_};
 ghost use Rattle.forward.specs.Forward.{leave-function};
-ghost use Rattle.store.specs.Store.{inner, Fine, while-going};
+ghost use Rattle.store.specs.Store.{inner, code-tag, Fine, while-going};
 ghost use Rattle.store.specs.Promise.{nothing};
 ghost use Rattle.store.specs.Opening.{Leavable};
 ghost use Rattle.code.specs.Cuts.{Adds, Ends, EndsProgram};
@@ -9,6 +10,13 @@ use meaning::Cause;
 use meaning::Outcome;
 use store::Scope;
 use store::Step;
+
+// The tag of the image's instructions, by the width of the marks.
+fn code_tag(scope: Scope) -> u8
+    ensures { λ r. ⌜ r ≡ code-tag scope ⌝ }
+{
+    if scope.wide == 0 { 0x43 } else { 0x47 }
+}
 
 // The prototype of the current function: 17 Long, then 15 Prototypes at the 257th. It is written where it fits, and counted always.
 fn add_prototype(
@@ -39,6 +47,7 @@ fn add_prototype(
         work,
         out,
         written,
+        code_tag(scope),
         scope.nodes,
         scope.depth,
         first,
@@ -74,6 +83,7 @@ pub fn leave_function(
         block: scope.block + 1,
         loops: 0,
         mode: scope.mode,
+        wide: scope.wide,
     };
     let next = add_prototype(work, out, step, inside, first, node, params);
     store::leave_block(work, scope);

@@ -5,12 +5,12 @@ use mathlib.Core.List.{List}
 use native.Mathlib.Omega.{arith}
 use lib.ListN.{length, getD, take, drop, length-take}
 use Rattle.meaning.specs.Fields.{Field, fields, word-at}
-use Rattle.meaning.specs.At.{count-of}
+use Rattle.meaning.specs.At.{file-words}
 use Rattle.nodes.specs.Offsets.{header}
 use Rattle.nodes.proofs.Headers.{stands, size-drop}
 use Rattle.nodes.proofs.Words.{words-count}
 
-pub few-words : (tree : List ℕ) (i : ℕ) → ((j : ℕ) → getD tree j 0 < 256) → i < length (fields tree) → count-of (fields tree) i < 65536
+pub few-words : (tree : List ℕ) (i : ℕ) → ((j : ℕ) → getD tree j 0 < 256) → i < length (fields tree) → length (file-words (fields tree) i) < 65536
 few-words tree i bytes h =
     let s = drop (header tree i) tree in
     let e = ap (λ (f : Field). length (f .payload)) (stands tree i h .same) in

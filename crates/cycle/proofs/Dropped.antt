@@ -18,7 +18,7 @@ use Rattle.cycle.proofs.Way.{Way}
 -- what roll_back leaves, as a step that follows others
 pub record Rolls (s : Step) (first : ℕ) (r : Step) : Type 0 where
   pub runs : (w : List ℕ) (p : Scope) (ps : List Proto) → run w p r ps ≡ bind (run w p s ps) (sure (roll-back first))
-  pub image : (o : List ℕ) (ps : List Proto) → Image o s ps → Image o r ps
+  pub image : (p : Scope) (o : List ℕ) (ps : List Proto) → Image p o s ps → Image p o r ps
   pub fine : (w : List ℕ) (p : Scope) → Fine w p s → Fine w p r
   pub outcome : r .outcome ≡ s .outcome
   pub code : while-going (s .outcome) (r .code ≡ first)
@@ -66,8 +66,8 @@ rolled-moves {w} {w2} {p} {s} {s2} {r} {u} x z n m =
 
 -- where a member stands after it
 pub rolled : {t w w2 : List ℕ} {p : Scope} {s s2 r : Step} {k a b : ℕ} {u : Cost} → Rolls s2 (s .code) r → u .locals ≡ 0 → u .names ≤ u .names-back → Way t w p s k a b w2 p s2 u → Way t w p s k a b w2 p r (takes 0 0 (u .visits))
-rolled x z n y = record { ready = y .ready; moves = rolled-moves x z n (y .moves); nodes = y .nodes; depth = y .depth; block = y .block }
+rolled x z n y = record { ready = y .ready; moves = rolled-moves x z n (y .moves); nodes = y .nodes; wide = y .wide; depth = y .depth; block = y .block }
 
 -- what it does
 pub next-rolled : {w o : List ℕ} {p : Scope} {s r : Step} {first : ℕ} {y : Run} → Rolls s first r → (a : After w o p s y) → After w o p r (bind (run w p s (a .protos)) (sure (roll-back first)))
-next-rolled {w} {o} {p} x a = record { protos = a .protos; image = x .image o (a .protos) (a .image); runs = x .runs w p (a .protos) }
+next-rolled {w} {o} {p} x a = record { protos = a .protos; image = x .image p o (a .protos) (a .image); runs = x .runs w p (a .protos) }

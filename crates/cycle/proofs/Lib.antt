@@ -1,5 +1,6 @@
 -- The laws of the lowering.
 pub mod Way
+mod Due
 pub mod Sizes
 pub mod Visited
 pub mod Nodes

@@ -1,11 +1,15 @@
 -- What stands at a node of each tag, for a member that is given the node.
-use Prim.Native.Nat.{ℕ, _+_, _<_, _≤_}
-use mathlib.Core.Path.{_≡_}
+use Prim.Native.Nat.{ℕ, _+_, _-_, _*_, _/_, _<_, _≤_}
+use mathlib.Core.Path.{_≡_, refl, ap}
+use mathlib.Core.Bool.{true, cond}
 use mathlib.Core.Logic.{⊎-elim}
 use mathlib.Core.List.{List}
 use native.Mathlib.Omega.{arith}
-use Rattle.meaning.specs.Fields.{fields}
-use Rattle.meaning.specs.At.{tag-of, word-of}
+use lib.ListN.{length}
+use Rattle.meaning.specs.Read.{at}
+use Rattle.meaning.specs.Fields.{Field, fields}
+use Rattle.meaning.specs.Grammar.{grammar, items-of, wide-marks, shape-at}
+use Rattle.meaning.specs.At.{tag-of, word-of, count-of, file-words, tokens-at, extra, pairs-in, Behind, Heads}
 use Rattle.meaning.proofs.Reading.{Number, number-node, Text, text-node, Other, other-node, Variable, variable-node, Unary, unary-node, Binary, binary-node, Logical, logical-node, Call, call-node, Function, function-node, Expression, expression-node, Let, let-node, Block, block-node, While, while-node, For, for-node, ForIn, for-in-node, Break, break-node, Continue, continue-node, Return, return-node, Elif, elif-node, Try, try-node, Define, define-node, Class, class-node, If, if-node}
 use Rattle.leaves.specs.Node.{Lawful}
 use Rattle.meaning.specs.Weight.{size-expr, size-stmt}
@@ -14,6 +18,10 @@ use Rattle.meaning.proofs.Lists.{lt-or-le}
 use Rattle.cycle.proofs.Sizes.{number-size, text-size, other-size, break-size, continue-size}
 use Rattle.cycle.proofs.Visited.{number-visits, text-visits, other-visits, break-visits, continue-visits}
 use Rattle.meaning.specs.Visits.{under-expr, under-stmt}
+use Rattle.meaning.proofs.Places.{none-of, unmarked, heads-none, heads-0, heads-1, heads-2, function-places, define-places, for-in-places}
+use Rattle.store.specs.declared.Scope.{Scope}
+use Rattle.store.specs.declared.Step.{Step}
+use Rattle.cycle.specs.Cycle.{Ready}
 use Rattle.cycle.proofs.Way.{inside}
 
 module _ {t w : List ℕ} {n i : ℕ} (h : Lawful t w n) (l : i < n) where
@@ -105,3 +113,98 @@ module _ {t w : List ℕ} {n i : ℕ} (h : Lawful t w n) (l : i < n) where
 
   pub no-jump-visits : 0x16 ≤ tag-of (fields t) i → tag-of (fields t) i ≤ 0x17 → under-stmt (stmt-at (fields t) i) ≡ 0
   no-jump-visits a b = ⊎-elim (λ c. break-visits (a-break (omega arith))) (λ c. continue-visits (a-continue (omega arith))) (lt-or-le (tag-of (fields t) i) 0x17)
+
+  -- ---- where the words stand in the file
+
+  shape : shape-at (fields t) i ≡ true
+  shape = h .shapes i (inside h l)
+
+  -- one mark, which is the first word, the second, or none
+  abbrev First : ℕ → Type 0
+  First tag = tag-of (fields t) i ≡ tag → Heads (fields t) i 0 × Behind (fields t) i 1 (extra (wide-marks (fields t)))
+
+  abbrev Second : ℕ → Type 0
+  Second tag = tag-of (fields t) i ≡ tag → Heads (fields t) i 1 × Behind (fields t) i 2 (extra (wide-marks (fields t)))
+
+  abbrev Plain : ℕ → Type 0
+  Plain tag = tag-of (fields t) i ≡ tag → Heads (fields t) i 4 × Behind (fields t) i 0 0
+
+  pub unary-stands : Second 0x05
+  unfolding items-of grammar unmarked none-of
+  unary-stands e = heads-1 (fields t) i shape _ _ (ap items-of e) refl refl
+
+  pub binary-stands : Second 0x06
+  unfolding items-of grammar unmarked none-of
+  binary-stands e = heads-1 (fields t) i shape _ _ (ap items-of e) refl refl
+
+  pub logical-stands : Second 0x07
+  unfolding items-of grammar unmarked none-of
+  logical-stands e = heads-1 (fields t) i shape _ _ (ap items-of e) refl refl
+
+  pub call-stands : Second 0x08
+  unfolding items-of grammar unmarked none-of
+  call-stands e = heads-1 (fields t) i shape _ _ (ap items-of e) refl refl
+
+  pub expression-stands : Plain 0x10
+  unfolding items-of grammar unmarked none-of
+  expression-stands e = heads-none (fields t) i shape _ (ap items-of e) refl
+
+  pub let-stands : Second 0x11
+  unfolding items-of grammar unmarked none-of
+  let-stands e = heads-1 (fields t) i shape _ _ (ap items-of e) refl refl
+
+  pub block-stands : Plain 0x12
+  unfolding items-of grammar unmarked none-of
+  block-stands e = heads-none (fields t) i shape _ (ap items-of e) refl
+
+  pub while-stands : First 0x13
+  unfolding items-of grammar unmarked none-of
+  while-stands e = heads-0 (fields t) i shape _ (ap items-of e) refl
+
+  pub for-stands : First 0x14
+  unfolding items-of grammar unmarked none-of
+  for-stands e = heads-0 (fields t) i shape _ (ap items-of e) refl
+
+  pub return-stands : First 0x18
+  unfolding items-of grammar unmarked none-of
+  return-stands e = heads-0 (fields t) i shape _ (ap items-of e) refl
+
+  pub if-stands : First 0x19
+  unfolding items-of grammar unmarked none-of
+  if-stands e = heads-0 (fields t) i shape _ (ap items-of e) refl
+
+  pub elif-stands : Plain 0x1A
+  unfolding items-of grammar unmarked none-of
+  elif-stands e = heads-none (fields t) i shape _ (ap items-of e) refl
+
+  pub try-stands : tag-of (fields t) i ≡ 0x1B → Heads (fields t) i 2
+  unfolding items-of grammar
+  try-stands e = heads-2 (fields t) i shape _ _ _ (ap items-of e) refl refl refl
+
+  pub class-stands : Second 0x1D
+  unfolding items-of grammar unmarked none-of
+  class-stands e = heads-1 (fields t) i shape _ _ (ap items-of e) refl refl
+
+  -- pairs of names and marks: parameters, the names of a for-in
+  pub function-stands : tag-of (fields t) i ≡ 0x09
+      → (word-of (fields t) i 0 ≡ at (file-words (fields t) i) 0) × (tokens-at (fields t) i 1 (1 + 2 * word-of (fields t) i 0) ≡ pairs-in (wide-marks (fields t)) (file-words (fields t) i) 1 (word-of (fields t) i 0))
+      × Behind (fields t) i (1 + 2 * word-of (fields t) i 0) (cond (wide-marks (fields t)) (word-of (fields t) i 0) 0)
+  function-stands e = function-places (fields t) i shape (ap items-of e) (a-function e .size)
+
+  pub define-stands : tag-of (fields t) i ≡ 0x1C
+      → Heads (fields t) i 1 × (tokens-at (fields t) i 3 (3 + 2 * word-of (fields t) i 2) ≡ pairs-in (wide-marks (fields t)) (file-words (fields t) i) (3 + extra (wide-marks (fields t))) (word-of (fields t) i 2))
+      × Behind (fields t) i (3 + 2 * word-of (fields t) i 2) (extra (wide-marks (fields t)) + cond (wide-marks (fields t)) (word-of (fields t) i 2) 0)
+  define-stands e = define-places (fields t) i shape (ap items-of e) (a-define e .size)
+
+  pub for-in-stands : tag-of (fields t) i ≡ 0x15
+      → Heads (fields t) i 0 × (tokens-at (fields t) i 3 (count-of (fields t) i) ≡ pairs-in (wide-marks (fields t)) (file-words (fields t) i) (3 + extra (wide-marks (fields t))) ((count-of (fields t) i - 3) / 2))
+      × (length (file-words (fields t) i) ≡ 3 + extra (wide-marks (fields t)) + (2 * ((count-of (fields t) i - 3) / 2) + cond (wide-marks (fields t)) ((count-of (fields t) i - 3) / 2) 0))
+  for-in-stands e = let x = a-for-in e in for-in-places (fields t) i shape (ap items-of e) ((count-of (fields t) i - 3) / 2) (omega (arith, x .size, x .odd)) (omega (arith, x .size))
+
+-- from a later word on
+pub behind-later : {fs : List Field} {i k d : ℕ} (j : ℕ) → k ≤ j → Behind fs i k d → Behind fs i j d
+behind-later j l b = record { same = λ m z. b .same m (omega arith); size = b .size }
+
+-- as the scope has the width
+pub behind-here : {t w : List ℕ} {p : Scope} {s : Step} {j a b i k : ℕ} → Ready t w p s j a b → Behind (fields t) i k (extra (wide-marks (fields t))) → Behind (fields t) i k (p .wide)
+behind-here r h = rw (r .width) h

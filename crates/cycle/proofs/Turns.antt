@@ -17,14 +17,14 @@ use Rattle.store.specs.Promise.{Cost, nothing, Moves, After}
 -- the rest is to follow, and then y is reached
 pub record Pending (w o : List ℕ) (p : Scope) (s : Step) (y : Run) (rest : Config → Run) : Type 0 where
   pub protos : List Proto
-  pub image : Image o s protos
+  pub image : Image p o s protos
   pub then : (r : Run) → r ≡ bind (run w p s protos) rest → r ≡ y
 
 -- at the head of a loop that began at w0, o0, s0
 pub record Turning (w0 o0 : List ℕ) (p : Scope) (s0 : Step) (w o : List ℕ) (s : Step) (u : Cost) (all rest : Config → Run) : Type 0 where
   pub moves : Moves w0 p s0 w p s u
   pub same : length o ≡ length o0
-  pub does : (ps : List Proto) → Image o0 s0 ps → Pending w o p s (bind (run w0 p s0 ps) all) rest
+  pub does : (ps : List Proto) → Image p o0 s0 ps → Pending w o p s (bind (run w0 p s0 ps) all) rest
 
 -- after a turn: the chain of the turn says how the rest before it is the turn and the rest after it
 pub turned : {w o w1 o1 : List ℕ} {p : Scope} {s s1 : Step} {y x : Run} {rest rest' : Config → Run} (a : Pending w o p s y rest) (b : After w1 o1 p s1 x)
@@ -36,7 +36,7 @@ pub none-turned : {w o : List ℕ} {p : Scope} {s : Step} {all : Config → Run}
 none-turned h = record { moves = none-moved h; same = refl; does = λ ps i. record { protos = ps; image = i; then = λ r e. e } }
 
 -- the end of a loop over code: the result is 0
-pub closed : {w0 o0 w o : List ℕ} {p : Scope} {s0 s : Step} {u : Cost} {all : Config → Run} → Turning w0 o0 p s0 w o s u all (fwd-code (pure [])) → (ps : List Proto) → Image o0 s0 ps → After w o p (with-result s 0) (bind (run w0 p s0 ps) all)
+pub closed : {w0 o0 w o : List ℕ} {p : Scope} {s0 s : Step} {u : Cost} {all : Config → Run} → Turning w0 o0 p s0 w o s u all (fwd-code (pure [])) → (ps : List Proto) → Image p o0 s0 ps → After w o p (with-result s 0) (bind (run w0 p s0 ps) all)
 closed {o = o} {s = s} v ps i =
     let a = v .does ps i in
     let b = leaf-after (settled s 0 (lit< tt) (v .moves .fine)) o (a .protos) (a .image) in

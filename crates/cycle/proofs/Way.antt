@@ -1,12 +1,16 @@
 -- The way of a member: from where it was called to where its calls have brought it. At every call it stands somewhere on its way, and what the call asks
 -- follows from what the member was given and what was used since: that is one law, `stand`. At the end stands what it promises: `arrive`.
-use Prim.Native.Nat.{ℕ, _+_, _*_, _≤_, _<_, min}
+use Prim.Native.Nat.{ℕ, zero, suc, _+_, _*_, _≤_, _<_, min}
 use mathlib.Core.Path.{_≡_, refl, sym, ap, _∙_}
+use mathlib.Core.Bool.{Bool, true, false, not}
 use mathlib.Core.List.{List, [], _∷_, _++_}
 use native.Mathlib.Omega.{arith}
 use lib.ListN.{length, length-append}
+use lib.Dec.{eqb}
 use Rattle.meaning.specs.Fields.{fields}
-use Rattle.meaning.specs.At.{word-of, count-of, expr-at, stmt-at, stmts-at, ExprBelow, StmtBelow}
+use Rattle.meaning.specs.Grammar.{wide-marks}
+use Rattle.meaning.specs.Read.{at}
+use Rattle.meaning.specs.At.{extra, Behind, Heads, file-words, word-of, count-of, expr-at, stmt-at, stmts-at, ExprBelow, StmtBelow}
 use Rattle.meaning.specs.Weight.{size-expr, size-stmt, size-stmts}
 use Rattle.meaning.specs.State.{Proto, Chunk, M, leave-block}
 use Rattle.meaning.specs.declared.Cause.{Cause}
@@ -17,7 +21,7 @@ use Rattle.nodes.specs.Offsets.{Readable}
 use Rattle.forward.specs.Forward.{Config, Run, going, bind, sure, fwd, fwd-unit}
 use Rattle.store.specs.declared.Step.{Step}
 use Rattle.store.specs.declared.Scope.{Scope}
-use Rattle.store.specs.Store.{run, config-of, goes-on, result-limit, while-going, deeper, looped, Image, Fine, Kept}
+use Rattle.store.specs.Store.{is-wide, run, config-of, goes-on, result-limit, while-going, deeper, looped, Image, Fine, Kept}
 use Rattle.store.specs.Promise.{Cost, uses, takes, nothing, a-visit, both, Used, Roomy, Room, Moves, Leaf, After, Does, Ticked}
 use Rattle.store.proofs.Runs.{due, promised, going-is, none-due, run-going, leaf-absorbed}
 use Rattle.store.proofs.Compose.{none-moved, moves-then, moves-by, leaf-after, leaf-does, known}
@@ -27,7 +31,7 @@ use Rattle.code.specs.Words.{Bytes}
 use Rattle.parts.specs.Parts.{Small}
 use Rattle.leaves.specs.Node.{Lawful, OnNode, Gives}
 use Rattle.leaves.proofs.Held.{lawful-kept}
-use Rattle.cycle.specs.Cycle.{Ready, Given, AskExpr, AskStmt, AskRow, Lowers}
+use Rattle.cycle.specs.Cycle.{Ready, Given, AskExpr, AskStmt, Headed, Children, AskRow, Lowers}
 
 -- ---- the way
 
@@ -35,20 +39,21 @@ pub record Way (t w : List ℕ) (p : Scope) (s : Step) (k a b : ℕ) (w' : List 
   pub ready : Ready t w p s k a b
   pub moves : Moves w p s w' q r u
   pub nodes : p .nodes ≡ q .nodes
+  pub wide : p .wide ≡ q .wide
   pub depth : p .depth ≤ q .depth
   pub block : p .block ≤ q .block
 
 pub from : {t w : List ℕ} {p : Scope} {s : Step} {k a b : ℕ} → Ready t w p s k a b → Way t w p s k a b w p s nothing
-from h = record { ready = h; moves = none-moved (h .fine); nodes = refl; depth = omega arith; block = omega arith }
+from h = record { ready = h; moves = none-moved (h .fine); nodes = refl; wide = refl; depth = omega arith; block = omega arith }
 
 -- a call in the same scope; one after which the scope is another
 infixl 5 _▹_
 pub _▹_ : {t w w1 w2 : List ℕ} {p q : Scope} {s s1 s2 : Step} {k a b : ℕ} {u v : Cost} → Way t w p s k a b w1 q s1 u → Moves w1 q s1 w2 q s2 v → Way t w p s k a b w2 q s2 (both u v)
-_▹_ x m = record { ready = x .ready; moves = moves-then (x .nodes) (x .depth) (x .block) (x .moves) m; nodes = x .nodes; depth = x .depth; block = x .block }
+_▹_ x m = record { ready = x .ready; moves = moves-then (x .nodes) (x .depth) (x .block) (x .moves) m; nodes = x .nodes; wide = x .wide; depth = x .depth; block = x .block }
 
-pub to : {t w w1 w2 : List ℕ} {p q : Scope} {s s1 s2 : Step} {k a b : ℕ} {u v : Cost} (q' : Scope) → p .nodes ≡ q' .nodes → p .depth ≤ q' .depth → p .block ≤ q' .block
+pub to : {t w w1 w2 : List ℕ} {p q : Scope} {s s1 s2 : Step} {k a b : ℕ} {u v : Cost} (q' : Scope) → p .nodes ≡ q' .nodes → p .wide ≡ q' .wide → p .depth ≤ q' .depth → p .block ≤ q' .block
     → Way t w p s k a b w1 q s1 u → Moves w1 q s1 w2 q' s2 v → Way t w p s k a b w2 q' s2 (both u v)
-to q' n d e x m = record { ready = x .ready; moves = moves-then (x .nodes) (x .depth) (x .block) (x .moves) m; nodes = n; depth = d; block = e }
+to q' n v d e x m = record { ready = x .ready; moves = moves-then (x .nodes) (x .depth) (x .block) (x .moves) m; nodes = n; wide = v; depth = d; block = e }
 
 -- ---- where it stands
 
@@ -57,7 +62,7 @@ pub stand-at : {t w w' : List ℕ} {p q : Scope} {s r : Step} {k a b : ℕ} {u :
     → 8 * k' + a' + u .words ≤ 8 * k + a + u .words-back → k' + b' + u .locals ≤ k + b + u .locals-back → u .names + min 2 (p .block) ≤ u .names-back + min 2 (q .block)
     → q .block + k' ≤ q .nodes + 1 + q .depth → q .loops + k' ≤ q .nodes + 1 → Ready t w' q r k' a' b'
 stand-at {t} {w} {w'} {p} {q} {s} {r} {k} {a} {b} {u} k' a' b' x l l' m c d =
-    record { lawful = rw (sym (x .nodes)) (lawful-kept (x .ready .lawful) (x .moves .kept)); fine = x .moves .fine; room = room; blocks = c; loops = d }
+    record { lawful = rw (sym (x .nodes)) (lawful-kept (x .ready .lawful) (x .moves .kept)); width = sym (x .wide) ∙ x .ready .width; fine = x .moves .fine; room = room; blocks = c; loops = d }
   where
     after : Used w p s w' q r u → Roomy w p s k a b → Roomy w' q r k' a' b'
     after i j =
@@ -79,7 +84,7 @@ stand k' a' b' x l l' m e = stand-at k' a' b' x l l' (omega (arith, m)) (omega (
 pub in-block : {t w w1 w2 : List ℕ} {p : Scope} {s r : Step} {k a b k' : ℕ} {u : Cost} → Way t w p s k a b w1 p r u → Moves w1 p r w2 (deeper p) r nothing
     → 8 * k' + u .words ≤ 8 * k + a + u .words-back → k' + u .locals ≤ k + b + u .locals-back → u .names ≤ u .names-back → k' < k → Ready t w2 (deeper p) r k' 0 0
 in-block {p = p} {k' = k'} x m l l' n z =
-    stand-at k' 0 0 (to (deeper p) refl (omega arith) (omega arith) x m) (omega (arith, l)) (omega (arith, l')) (omega (arith, n)) (omega (arith, x .ready .blocks)) (omega (arith, x .ready .loops))
+    stand-at k' 0 0 (to (deeper p) refl refl (omega arith) (omega arith) x m) (omega (arith, l)) (omega (arith, l')) (omega (arith, n)) (omega (arith, x .ready .blocks)) (omega (arith, x .ready .loops))
 
 -- ---- what a step does, after what another did
 
@@ -168,9 +173,41 @@ inside h l = omega (arith, l, h .nodes)
 pub readable : {t w : List ℕ} {p : Scope} {s : Step} {k a b i : ℕ} → Ready t w p s k a b → i < p .nodes → Readable t w (12288 + 15 * p .nodes) i × (p .nodes ≤ 32768)
 readable r l = (record { offsets = r .lawful .offsets; known = inside (r .lawful) l }, r .fine .sound .few)
 
+-- with what is asked of a count, and of the first words
+pub counted : {t w : List ℕ} {n i k d : ℕ} → Readable t w (12288 + 15 * n) i × (n ≤ 32768) → Behind (fields t) i k d
+    → Readable t w (12288 + 15 * n) i × (n ≤ 32768) × (length (file-words (fields t) i) ≡ count-of (fields t) i + d)
+counted r b = (r .0, r .1, b .size)
+
+pub headed : {t w : List ℕ} {p : Scope} {s : Step} {k a b i m : ℕ} → Ready t w p s k a b → i < p .nodes → Heads (fields t) i m
+    → Readable t w (12288 + 15 * p .nodes) i × (p .nodes ≤ 32768) × Headed t p i m
+headed r l h = (readable r l .0, readable r l .1, (h, r .width))
+
+-- a child of a row, by the word of the file
+pub placed : {t w : List ℕ} {p : Scope} {s : Step} {i f g d k a j x : ℕ} {B : ℕ → Type 0} → Children t w p s i f g d k a B → f ≤ j → x ≡ at (file-words (fields t) i) (j + d) → x ≡ word-of (fields t) i j
+placed r l e = e ∙ sym (r .behind .same _ l)
+
+-- the width by the scope's number
+pub wide-is : (p : Scope) (b : Bool) → p .wide ≡ extra b → is-wide p ≡ b
+wide-is p true e = ap not (ap (λ (n : ℕ). eqb n 0) e)
+wide-is p false e = ap not (ap (λ (n : ℕ). eqb n 0) e)
+
+-- that is 0 or 1
+pub few-wide : (p : Scope) (b : Bool) → p .wide ≡ extra b → p .wide ≤ 1
+few-wide p true e = omega arith
+few-wide p false e = omega arith
+
+pub narrow-or-wide : {t w : List ℕ} {p : Scope} {s : Step} {k a b : ℕ} → Ready t w p s k a b → p .wide ≤ 1
+narrow-or-wide {t = t} {p = p} r = few-wide p (wide-marks (fields t)) (r .width)
+
+-- so many marks take no more places than there are
+pub few-more : (n w : ℕ) → n < 65536 → w ≤ 1 → n * w < 65536
+few-more n zero h l = omega arith
+few-more n (suc zero) h l = omega arith
+few-more n (suc (suc w)) h l = absurd (omega arith)
+
 -- a node without children, where it stands
 pub on-node : {t w : List ℕ} {p : Scope} {s : Step} {k i : ℕ} → Ready t w p s k 0 0 → i < p .nodes → OnNode t w p s k i
-on-node r l = record { lawful = r .lawful; fine = r .fine; room = r .room; known = l }
+on-node {t = t} {p = p} r l = record { lawful = r .lawful; width = wide-is p (wide-marks (fields t)) (r .width); fine = r .fine; room = r .room; known = l }
 
 -- a child that is an expression, a statement
 pub ask-expr : {t w : List ℕ} {p : Scope} {s : Step} {i c : ℕ} → Ready t w p s (size-expr (expr-at (fields t) c)) 0 0 → i < p .nodes → ExprBelow (fields t) i c → AskExpr t w p s c
@@ -193,14 +230,14 @@ module _ {t w w' : List ℕ} {p : Scope} {s r : Step} {k a b i : ℕ} {u : Cost}
       → AskStmt t w' (looped p) r c
   give-looped e l l' m z =
       let f = x .ready .loops in
-      let y = to (looped p) refl (omega arith) (omega arith) x (loop-entered (x .moves .fine) (omega arith) .moves) in
+      let y = to (looped p) refl refl (omega arith) (omega arith) x (loop-entered (x .moves .fine) (omega arith) .moves) in
       ask-stmt (stand-at _ 0 0 y (omega (arith, l)) (omega (arith, l')) (omega (arith, m)) (omega (arith, x .ready .blocks)) (omega arith)) h e
 
   -- statements one after the other
   pub give-row : (f g : ℕ) → g ≤ count-of (fields t) i → ((j : ℕ) → f ≤ j → j < g → StmtBelow (fields t) i (word-of (fields t) i j))
       → 8 * size-stmts (stmts-at (fields t) i f g) + u .words ≤ 8 * k + a + u .words-back → size-stmts (stmts-at (fields t) i f g) + u .locals ≤ k + b + u .locals-back → u .names ≤ u .names-back → size-stmts (stmts-at (fields t) i f g) ≤ k
-      → AskRow t w' p r i f g
-  give-row f g d e l l' m z = record { ready = stand _ 0 0 x (omega (arith, l)) (omega (arith, l')) m z; known = h; ends = d; each = e }
+      → {d : ℕ} → Behind (fields t) i f d → AskRow t w' p r i f g d
+  give-row f g d e l l' m z b = record { ready = stand _ 0 0 x (omega (arith, l)) (omega (arith, l')) m z; known = h; ends = d; each = e; behind = b }
 
 -- ---- the end of the way
 
@@ -212,7 +249,7 @@ spends x y v d e f z n h = moves-by (takes x y v) (omega (arith, d)) (omega (ari
 -- what a member promises: it used x words and y locals at most on v visits, gives a register and does `op`
 pub arrive : {t w o w' o' : List ℕ} {p : Scope} {s r : Step} {k a b : ℕ} {u : Cost} {op : Config → Run} (x y v : ℕ) → Way t w p s k a b w' p r u
     → u .words ≤ x + u .words-back → u .locals ≤ y + u .locals-back → u .names ≤ u .names-back → (y ≡ 0 → u .locals ≡ 0) → u .visits ≡ v
-    → length o' ≡ length o → Small r → ((ps : List Proto) → Image o s ps → After w' o' p r (bind (run w p s ps) op)) → Lowers w o p s w' o' r (takes x y v) op
+    → length o' ≡ length o → Small r → ((ps : List Proto) → Image p o s ps → After w' o' p r (bind (run w p s ps) op)) → Lowers w o p s w' o' r (takes x y v) op
 arrive x y v h d e f z n l m g = record { does = record { moves = spends x y v d e f z n h; same = l; does = g }; small = m }
 
 -- the same step under another name

@@ -2,10 +2,14 @@
 -- definition's own step, with what it uses: eight words and a local for each node of the syntax tree that is lowered, and the visits as document 02 counts them.
 use Prim.Native.Nat.{ℕ, _+_, _-_, _*_, _<_, _≤_}
 use mathlib.Core.Path.{_≡_}
+use mathlib.Core.Bool.{cond}
 use mathlib.Core.List.{List}
 use mathlib.Core.Option.{none, some}
+use lib.Dec.{eqb, ltb}
 use Rattle.meaning.specs.Fields.{Field, fields}
-use Rattle.meaning.specs.At.{tag-of, word-of, count-of, expr-at, stmt-at, fun-at, exprs-at, stmts-at, funs-at, elifs-at, ExprBelow, StmtBelow, TagBelow}
+use Rattle.meaning.specs.Grammar.{wide-marks}
+use Rattle.meaning.specs.Read.{at}
+use Rattle.meaning.specs.At.{extra, mark-at, Behind, Heads, file-words, tag-of, word-of, count-of, expr-at, stmt-at, fun-at, exprs-at, stmts-at, funs-at, elifs-at, ExprBelow, StmtBelow, TagBelow}
 use Rattle.meaning.specs.Weight.{size-expr, size-exprs, size-stmt, size-stmts, size-elifs, size-fun, size-funs}
 use Rattle.meaning.specs.Visits.{under-expr, under-stmt, under-fun, visits-expr, visits-exprs, visits-stmt, visits-stmts, visits-elifs, visits-funs}
 use Rattle.meaning.specs.State.{M, Chunk}
@@ -15,18 +19,24 @@ use Rattle.meaning.specs.Lower.{lower-expr, lower-arguments, lower-stmt, lower-
 use Rattle.forward.specs.Forward.{Config, Run, fwd, fwd-code, fwd-row}
 use Rattle.store.specs.declared.Step.{Step}
 use Rattle.store.specs.declared.Scope.{Scope}
-use Rattle.store.specs.Store.{while-going, Fine}
+use Rattle.store.specs.Store.{is-wide, while-going, Fine}
 use Rattle.store.specs.Promise.{Cost, takes, Room, Does}
 use Rattle.parts.specs.Parts.{Small}
 use Rattle.leaves.specs.Node.{Lawful}
+use Rattle.cycle.specs.declared.Three.{Three}
 use Rattle.cycle.specs.declared.Words.{Words}
 use Rattle.cycle.specs.declared.Branches.{Branches}
 
 -- ---- what is given
 
+-- the scope has the width of the tree's marks, as the places that one takes more than two bytes do
+abbrev pub Width : (t : List ℕ) → Scope → Type 0
+Width t p = p .wide ≡ extra (wide-marks (fields t))
+
 -- a lawful tree, and room for k nodes that are still to be lowered, and for a words and b locals beside; a node opens a block and a loop at most
 pub record Ready (t w : List ℕ) (p : Scope) (s : Step) (k a b : ℕ) : Type 0 where
   pub lawful : Lawful t w (p .nodes)
+  pub width : Width t p
   pub fine : Fine w p s
   pub room : Room w p s k a b
   pub blocks : p .block + k ≤ p .nodes + 1 + p .depth
@@ -57,36 +67,37 @@ AskStmt t w p s i = GivenStmt t w p s i × (0x10 ≤ tag-of (fields t) i) × (ta
 abbrev pub AskFun : (t w : List ℕ) → Scope → Step → (i : ℕ) → Type 0
 AskFun t w p s i = Given t w p s i (size-fun (fun-at (fields t) i)) × (tag-of (fields t) i ≡ 0x1C) × (p .depth ≤ 7)
 
--- the children in the words `from` up to `to` of node i, under which k nodes stand
-pub record Children (t w : List ℕ) (p : Scope) (s : Step) (i from to k a : ℕ) (Below : ℕ → Type 0) : Type 0 where
+-- the children in the words `from` up to `to` of node i, which stand `skew` places further in the file, and under which k nodes stand
+pub record Children (t w : List ℕ) (p : Scope) (s : Step) (i from to skew k a : ℕ) (Below : ℕ → Type 0) : Type 0 where
   pub ready : Ready t w p s k a 0
   pub known : i < p .nodes
   pub ends : to ≤ count-of (fields t) i
   pub each : (j : ℕ) → from ≤ j → j < to → Below (word-of (fields t) i j)
+  pub behind : Behind (fields t) i from skew
 
 -- children that are statements
-abbrev pub AskRow : (t w : List ℕ) → Scope → Step → (i from to : ℕ) → Type 0
-AskRow t w p s i from to = Children t w p s i from to (size-stmts (stmts-at (fields t) i from to)) 0 (StmtBelow (fields t) i)
+abbrev pub AskRow : (t w : List ℕ) → Scope → Step → (i from to skew : ℕ) → Type 0
+AskRow t w p s i from to skew = Children t w p s i from to skew (size-stmts (stmts-at (fields t) i from to)) 0 (StmtBelow (fields t) i)
 
 -- the elifs of an if
-abbrev pub AskElifs : (t w : List ℕ) → Scope → Step → (i from to : ℕ) → Type 0
-AskElifs t w p s i from to = Children t w p s i from to (size-elifs (elifs-at (fields t) i from to)) 0 (TagBelow (fields t) 0x1A i)
+abbrev pub AskElifs : (t w : List ℕ) → Scope → Step → (i from to skew : ℕ) → Type 0
+AskElifs t w p s i from to skew = Children t w p s i from to skew (size-elifs (elifs-at (fields t) i from to)) 0 (TagBelow (fields t) 0x1A i)
 
 -- the methods of a class in register `class`
-abbrev pub AskMethods : (t w : List ℕ) → Scope → Step → (i from to op class : ℕ) → Type 0
-AskMethods t w p s i from to op class =
-    Children t w p s i from to (size-funs (funs-at (fields t) i from to)) 0 (TagBelow (fields t) 0x1C i) × (p .depth ≤ 7) × (op < 256) × (class < 1024) × while-going (s .outcome) (class + 1 < 255)
+abbrev pub AskMethods : (t w : List ℕ) → Scope → Step → (i from to skew op class : ℕ) → Type 0
+AskMethods t w p s i from to skew op class =
+    Children t w p s i from to skew (size-funs (funs-at (fields t) i from to)) 0 (TagBelow (fields t) 0x1C i) × (p .depth ≤ 7) × (op < 256) × (class < 1024) × while-going (s .outcome) (class + 1 < 255)
 
 -- the arguments of a call, for which registers from `register` on are taken: each is moved to its own, which takes two words
 abbrev pub AskArguments : (t w : List ℕ) → Scope → Step → (i register : ℕ) → Type 0
 AskArguments t w p s i register =
-    Children t w p s i 2 (count-of (fields t) i) (size-exprs (exprs-at (fields t) i 2 (count-of (fields t) i))) (2 * (count-of (fields t) i - 2)) (ExprBelow (fields t) i)
+    Children t w p s i 2 (count-of (fields t) i) (p .wide) (size-exprs (exprs-at (fields t) i 2 (count-of (fields t) i))) (2 * (count-of (fields t) i - 2)) (ExprBelow (fields t) i)
     × (register ≤ 1024) × while-going (s .outcome) (register + (count-of (fields t) i - 2) ≤ 255)
 
 -- the body of a function, from word `from` on; it opens a block, and its Return takes two words
-abbrev pub AskBody : (t w : List ℕ) → Scope → Step → (i from : ℕ) → Type 0
-AskBody t w p s i from =
-    Children t w p s i from (count-of (fields t) i) (size-stmts (stmts-at (fields t) i from (count-of (fields t) i))) 2 (StmtBelow (fields t) i)
+abbrev pub AskBody : (t w : List ℕ) → Scope → Step → (i from skew : ℕ) → Type 0
+AskBody t w p s i from skew =
+    Children t w p s i from (count-of (fields t) i) skew (size-stmts (stmts-at (fields t) i from (count-of (fields t) i))) 2 (StmtBelow (fields t) i)
     × (p .block + 1 + size-stmts (stmts-at (fields t) i from (count-of (fields t) i)) ≤ p .nodes + 1 + p .depth) × (from ≤ count-of (fields t) i) × Small s
 
 -- ---- what is promised
@@ -170,9 +181,21 @@ LowersBoth t i w o p s w' o' r = LowersBinary t i (seen t i 2 + seen t i 3) w o 
 
 -- ---- the words of a node
 
--- the first words of node i, and the same as children
-abbrev pub first-words : List Field → ℕ → Words
-first-words fs i =
+-- word k of the file's words vs, where word m is the mark
+abbrev pub head-word : Scope → (vs : List ℕ) (m k : ℕ) → ℕ
+head-word p vs m k = cond (ltb k m) (at vs k) (cond (eqb k m) (mark-at (is-wide p) vs k) (at vs (k + p .wide)))
+
+-- node i of a tree, whose word m is its mark, and the scope
+abbrev pub Headed : (t : List ℕ) → Scope → (i m : ℕ) → Type 0
+Headed t p i m = Heads (fields t) i m × Width t p
+
+-- the words but the mark are words of two bytes
+abbrev pub Below : (m : ℕ) → Words → Type 0
+Below m x = ((m ≡ 0 → ⊥) → x .child0 < 65536) × ((m ≡ 1 → ⊥) → x .child1 < 65536) × ((m ≡ 2 → ⊥) → x .child2 < 65536) × ((m ≡ 3 → ⊥) → x .child3 < 65536)
+
+-- the first words of node i, and the same as children; the fifth behind a mark
+abbrev pub first-words : Scope → List Field → ℕ → Words
+first-words p fs i =
     record {
       a = word-of fs i 0;
       b = word-of fs i 1;
@@ -181,8 +204,15 @@ first-words fs i =
       child1 = word-of fs i 1;
       child2 = word-of fs i 2;
       child3 = word-of fs i 3;
-      child4 = word-of fs i 4;
+      child4 = at (file-words fs i) (4 + p .wide);
     }
+
+-- the first three of them
+abbrev pub BelowThree : (m : ℕ) → Three → Type 0
+BelowThree m x = ((m ≡ 0 → ⊥) → x .child0 < 65536) × ((m ≡ 1 → ⊥) → x .child1 < 65536) × ((m ≡ 2 → ⊥) → x .child2 < 65536)
+
+abbrev pub first-three : List Field → ℕ → Three
+first-three fs i = record { a = word-of fs i 0; b = word-of fs i 1; child0 = word-of fs i 0; child1 = word-of fs i 1; child2 = word-of fs i 2 }
 
 -- where the parts of an if end: its statements, its elifs, its else
 abbrev pub branches-of : List Field → ℕ → Branches

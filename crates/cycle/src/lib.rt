@@ -20,8 +20,10 @@ use crate::reading::count_of;
 use crate::reading::first_mark;
 use crate::reading::initializer_end;
 use crate::reading::names_in;
+use crate::reading::params_of;
 use crate::reading::payload_of;
 use crate::reading::tag_of;
+use crate::reading::three_of;
 use crate::reading::words_of;
 use crate::scopes::in_loop;
 use instruction::OpCode;
@@ -40,6 +42,15 @@ pub struct Words {
     pub child2: usize,
     pub child3: usize,
     pub child4: usize,
+}
+
+// The first three of them, for the nodes of which no more is read.
+pub struct Three {
+    pub a: u32,
+    pub b: u32,
+    pub child0: usize,
+    pub child1: usize,
+    pub child2: usize,
 }
 
 // Where the parts of an if end: its statements, its elifs, its else.
@@ -68,7 +79,7 @@ const NO_NAME: usize = 65535;
 
 // ---- rows of children
 
-// self.compile, and the bodies of blocks, functions and branches: the statements in the words `from` up to `to`.
+// self.compile, and the bodies of blocks, functions and branches: the statements in the words `from` up to `to`, which stand `skew` places further in the file.
 pub fn row(
     tree: &[u8],
     work: &mut [u32],
@@ -78,15 +89,16 @@ pub fn row(
     node: usize,
     from: usize,
     to: usize,
+    skew: usize,
 ) -> Step
-    requires { ⌜ AskRow (now tree) (now work) scope step node from to ⌝ }
+    requires { ⌜ AskRow (now tree) (now work) scope step node from to skew ⌝ }
     ensures { λ r. ⌜ LowersRow (now (tree .entry)) node from to (now (work .entry)) (now (out .entry)) scope step (now (work .exit)) (now (out .exit)) r ⌝ }
 {
     let payload = payload_of(tree, work, scope, node);
     let mut last = step;
     let mut k = from;
     while k < to {
-        let child = nodes::child(payload, k);
+        let child = nodes::child(payload, k + skew);
         last = statement(tree, work, out, last, scope, child);
         k += 1;
     }
@@ -107,7 +119,7 @@ fn expr_stmt(
     requires { ⌜ GivenStmt (now tree) (now work) scope step node × (tag-of (fields (now tree)) node ≡ 16) ⌝ }
     ensures { λ r. ⌜ UnderStmt (now (tree .entry)) node (now (work .entry)) (now (out .entry)) scope step (now (work .exit)) (now (out .exit)) r ⌝ }
 {
-    let x = words_of(tree, work, scope, node);
+    let x = three_of(tree, work, scope, node, 4);
     expression(tree, work, out, step, scope, x.child0)
 }
 
@@ -123,7 +135,7 @@ fn try_catch(
     requires { ⌜ GivenStmt (now tree) (now work) scope step node × (tag-of (fields (now tree)) node ≡ 27) ⌝ }
     ensures { λ r. ⌜ UnderStmt (now (tree .entry)) node (now (work .entry)) (now (out .entry)) scope step (now (work .exit)) (now (out .exit)) r ⌝ }
 {
-    let x = words_of(tree, work, scope, node);
+    let x = words_of(tree, work, scope, node, 2);
     let opened = code::open_try_body(work, step, scope);
     let body = statement(tree, work, out, opened, scope, x.child0);
     let ended = code::end_try_body(work, body, scope);
@@ -146,7 +158,8 @@ fn for_loop(
     requires { ⌜ GivenStmt (now tree) (now work) scope step node × (tag-of (fields (now tree)) node ≡ 20) ⌝ }
     ensures { λ r. ⌜ UnderStmt (now (tree .entry)) node (now (work .entry)) (now (out .entry)) scope step (now (work .exit)) (now (out .exit)) r ⌝ }
 {
-    let x = words_of(tree, work, scope, node);
+    let wide = scope.wide;
+    let x = words_of(tree, work, scope, node, 0);
     let first = row(
         tree,
         work,
@@ -156,6 +169,7 @@ fn for_loop(
         node,
         1,
         initializer_end(x.child1),
+        wide,
     );
     let condition = expression(tree, work, out, first, scope, x.child2);
     let tested = code::test_and_jump(work, condition, scope, 0, x.a);
@@ -186,18 +200,19 @@ fn for_in(
     requires { ⌜ GivenStmt (now tree) (now work) scope step node × (tag-of (fields (now tree)) node ≡ 21) ⌝ }
     ensures { λ r. ⌜ UnderStmt (now (tree .entry)) node (now (work .entry)) (now (out .entry)) scope step (now (work .exit)) (now (out .exit)) r ⌝ }
 {
-    let x = words_of(tree, work, scope, node);
+    let wide = scope.wide;
+    let x = three_of(tree, work, scope, node, 0);
     let payload = payload_of(tree, work, scope, node);
     let counter = parts::open_for_in(work, step, scope, node, x.a);
     let collection = expression(tree, work, out, counter, scope, x.child1);
-    let names = names_in(payload);
+    let names = names_in(payload, scope);
     let head = parts::head_for_in(
         payload,
         work,
         collection,
         scope,
         node,
-        3,
+        3 + wide,
         names,
         counter.result,
         x.a,
@@ -226,11 +241,12 @@ fn let_stmt(
     requires { ⌜ GivenStmt (now tree) (now work) scope step node × (tag-of (fields (now tree)) node ≡ 17) ⌝ }
     ensures { λ r. ⌜ UnderStmt (now (tree .entry)) node (now (work .entry)) (now (out .entry)) scope step (now (work .exit)) (now (out .exit)) r ⌝ }
 {
-    let n = count_of(tree, work, scope, node);
+    let wide = scope.wide;
+    let n = count_of(tree, work, scope, node, wide);
     if n == 2 {
         return leaves::let_only(tree, work, step, scope, node);
     }
-    let x = words_of(tree, work, scope, node);
+    let x = three_of(tree, work, scope, node, 1);
     if store::is_global_context(scope) {
         let name = parts::new_global(work, step, scope, node, x.child0);
         let value = expression(tree, work, out, name, scope, x.child2);
@@ -261,9 +277,9 @@ fn block(
     requires { ⌜ GivenStmt (now tree) (now work) scope step node × (tag-of (fields (now tree)) node ≡ 18) ⌝ }
     ensures { λ r. ⌜ UnderStmt (now (tree .entry)) node (now (work .entry)) (now (out .entry)) scope step (now (work .exit)) (now (out .exit)) r ⌝ }
 {
-    let n = count_of(tree, work, scope, node);
+    let n = count_of(tree, work, scope, node, 0);
     let inside = store::enter_block(work, scope);
-    let last = row(tree, work, out, step, inside, node, 0, n);
+    let last = row(tree, work, out, step, inside, node, 0, n, 0);
     store::leave_block(work, scope);
     store::settle(last, 0)
 }
@@ -280,7 +296,7 @@ fn while_loop(
     requires { ⌜ GivenStmt (now tree) (now work) scope step node × (tag-of (fields (now tree)) node ≡ 19) ⌝ }
     ensures { λ r. ⌜ UnderStmt (now (tree .entry)) node (now (work .entry)) (now (out .entry)) scope step (now (work .exit)) (now (out .exit)) r ⌝ }
 {
-    let x = words_of(tree, work, scope, node);
+    let x = three_of(tree, work, scope, node, 0);
     let condition = expression(tree, work, out, step, scope, x.child1);
     let tested = code::test_and_jump(work, condition, scope, 0, x.a);
     let body = statement(tree, work, out, tested, in_loop(scope), x.child2);
@@ -309,11 +325,12 @@ fn return_stmt(
     requires { ⌜ GivenStmt (now tree) (now work) scope step node × (tag-of (fields (now tree)) node ≡ 24) ⌝ }
     ensures { λ r. ⌜ UnderStmt (now (tree .entry)) node (now (work .entry)) (now (out .entry)) scope step (now (work .exit)) (now (out .exit)) r ⌝ }
 {
-    let n = count_of(tree, work, scope, node);
+    let wide = scope.wide;
+    let n = count_of(tree, work, scope, node, wide);
     if n == 1 {
         return leaves::return_none(tree, work, step, scope, node);
     }
-    let x = words_of(tree, work, scope, node);
+    let x = three_of(tree, work, scope, node, 0);
     let value = expression(tree, work, out, step, scope, x.child1);
     code::end_return(work, value, scope, node, x.a)
 }
@@ -330,11 +347,12 @@ fn if_stmt(
     requires { ⌜ GivenStmt (now tree) (now work) scope step node × (tag-of (fields (now tree)) node ≡ 25) ⌝ }
     ensures { λ r. ⌜ UnderStmt (now (tree .entry)) node (now (work .entry)) (now (out .entry)) scope step (now (work .exit)) (now (out .exit)) r ⌝ }
 {
-    let x = words_of(tree, work, scope, node);
-    let ends = branches_of(tree, work, scope, node);
+    let wide = scope.wide;
+    let x = three_of(tree, work, scope, node, 0);
+    let ends = branches_of(tree, work, scope, node, wide);
     let condition = expression(tree, work, out, step, scope, x.child1);
     let tested = code::test_and_jump(work, condition, scope, 0, x.a);
-    let then = row(tree, work, out, tested, scope, node, 3, ends.thens);
+    let then = row(tree, work, out, tested, scope, node, 3, ends.thens, wide);
     let branch = code::end_branch(work, then, scope, condition.code, x.a);
     let others = elifs(
         tree,
@@ -345,8 +363,19 @@ fn if_stmt(
         node,
         ends.thens + 1,
         ends.elifs,
+        wide,
     );
-    let last = row(tree, work, out, others, scope, node, ends.elifs, ends.all);
+    let last = row(
+        tree,
+        work,
+        out,
+        others,
+        scope,
+        node,
+        ends.elifs,
+        ends.all,
+        wide,
+    );
     code::end_if(work, last, scope, step.code)
 }
 
@@ -360,20 +389,21 @@ fn elifs(
     node: usize,
     from: usize,
     to: usize,
+    skew: usize,
 ) -> Step
-    requires { ⌜ AskElifs (now tree) (now work) scope step node from to ⌝ }
+    requires { ⌜ AskElifs (now tree) (now work) scope step node from to skew ⌝ }
     ensures { λ r. ⌜ LowersElifs (now (tree .entry)) node from to (now (work .entry)) (now (out .entry)) scope step (now (work .exit)) (now (out .exit)) r ⌝ }
 {
     let payload = payload_of(tree, work, scope, node);
     let mut last = step;
     let mut k = from;
     while k < to {
-        let child = nodes::child(payload, k);
-        let x = words_of(tree, work, scope, child);
-        let n = count_of(tree, work, scope, child);
+        let child = nodes::child(payload, k + skew);
+        let x = three_of(tree, work, scope, child, 4);
+        let n = count_of(tree, work, scope, child, 0);
         let condition = expression(tree, work, out, last, scope, x.child0);
         let tested = code::test_and_jump(work, condition, scope, 0, NO_MARK);
-        let then = row(tree, work, out, tested, scope, child, 1, n);
+        let then = row(tree, work, out, tested, scope, child, 1, n, 0);
         last = code::end_branch(work, then, scope, condition.code, NO_MARK);
         store::visit(work);
         k += 1;
@@ -393,7 +423,8 @@ fn fn_stmt(
     requires { ⌜ AskFun (now tree) (now work) scope step node ⌝ }
     ensures { λ r. ⌜ LowersFun (now (tree .entry)) node (now (work .entry)) (now (out .entry)) scope step (now (work .exit)) (now (out .exit)) r ⌝ }
 {
-    let x = words_of(tree, work, scope, node);
+    let wide = scope.wide;
+    let x = three_of(tree, work, scope, node, 1);
     let payload = payload_of(tree, work, scope, node);
     let own = parts::declare(work, step, scope, node, x.child0);
     let entered = store::enter_function(work, own, scope, node, x.child0);
@@ -405,7 +436,7 @@ fn fn_stmt(
         node,
         x.child0,
         x.b,
-        3,
+        3 + wide,
         x.child2,
     );
     let last = body(
@@ -416,6 +447,7 @@ fn fn_stmt(
         entered.scope,
         node,
         3 + 2 * x.child2,
+        wide + x.child2 * wide,
     );
     parts::end_fun(
         work,
@@ -443,8 +475,9 @@ fn class(
     requires { ⌜ GivenStmt (now tree) (now work) scope step node × (tag-of (fields (now tree)) node ≡ 29) × (scope .depth ≤ 7) ⌝ }
     ensures { λ r. ⌜ UnderStmt (now (tree .entry)) node (now (work .entry)) (now (out .entry)) scope step (now (work .exit)) (now (out .exit)) r ⌝ }
 {
-    let x = words_of(tree, work, scope, node);
-    let n = count_of(tree, work, scope, node);
+    let wide = scope.wide;
+    let x = words_of(tree, work, scope, node, 1);
+    let n = count_of(tree, work, scope, node, wide);
     let own = parts::open_class(work, step, scope, node, x.child0, x.b);
     let above = leaves::superclass(tree, work, own, scope, node);
     let made = code::make_class(work, above, scope, own.result, x.b);
@@ -459,6 +492,7 @@ fn class(
         node,
         4,
         statics,
+        wide,
         x.b,
         CLASS_METH,
         own.result,
@@ -472,6 +506,7 @@ fn class(
         node,
         statics,
         n,
+        wide,
         x.b,
         CLASS_ST_METH,
         own.result,
@@ -490,19 +525,20 @@ fn methods(
     node: usize,
     from: usize,
     to: usize,
+    skew: usize,
     mark: u32,
     op: u32,
     class: u32,
 ) -> Step
-    requires { ⌜ AskMethods (now tree) (now work) scope step node from to op class ⌝ }
+    requires { ⌜ AskMethods (now tree) (now work) scope step node from to skew op class ⌝ }
     ensures { λ r. ⌜ LowersMethods (now (tree .entry)) node from to mark op class (now (work .entry)) (now (out .entry)) scope step (now (work .exit)) (now (out .exit)) r ⌝ }
 {
     let payload = payload_of(tree, work, scope, node);
     let mut last = step;
     let mut k = from;
     while k < to {
-        let child = nodes::child(payload, k);
-        let x = words_of(tree, work, scope, child);
+        let child = nodes::child(payload, k + skew);
+        let x = words_of(tree, work, scope, child, 1);
         let method = fn_stmt(tree, work, out, last, scope, child);
         last = parts::add_method(
             work,
@@ -535,19 +571,12 @@ fn function(
     requires { ⌜ GivenExpr (now tree) (now work) scope step node × (tag-of (fields (now tree)) node ≡ 9) × (scope .depth ≤ 7) ⌝ }
     ensures { λ r. ⌜ UnderExpr (now (tree .entry)) node (now (work .entry)) (now (out .entry)) scope step (now (work .exit)) (now (out .exit)) r ⌝ }
 {
-    let x = words_of(tree, work, scope, node);
+    let wide = scope.wide;
+    let n = params_of(tree, work, scope, node);
     let payload = payload_of(tree, work, scope, node);
     let own = store::next_register(work, step, scope, node);
     let entered = store::enter_function(work, own, scope, node, NO_NAME);
-    let opened = parts::open_function(
-        payload,
-        work,
-        entered.step,
-        entered.scope,
-        node,
-        1,
-        x.child0,
-    );
+    let opened = parts::open_function(payload, work, entered.step, entered.scope, node, 1, n);
     let last = body(
         tree,
         work,
@@ -555,7 +584,8 @@ fn function(
         opened,
         entered.scope,
         node,
-        1 + 2 * x.child0,
+        1 + 2 * n,
+        n * wide,
     );
     parts::end_function(
         work,
@@ -564,9 +594,9 @@ fn function(
         scope,
         own.code,
         node,
-        x.child0,
+        n,
         own.result,
-        first_mark(payload, x.child0),
+        first_mark(payload, scope, n),
     )
 }
 
@@ -579,13 +609,14 @@ fn body(
     scope: Scope,
     node: usize,
     from: usize,
+    skew: usize,
 ) -> Step
-    requires { ⌜ AskBody (now tree) (now work) scope step node from ⌝ }
+    requires { ⌜ AskBody (now tree) (now work) scope step node from skew ⌝ }
     ensures { λ r. ⌜ LowersBody (now (tree .entry)) node from (now (work .entry)) (now (out .entry)) scope step (now (work .exit)) (now (out .exit)) r ⌝ }
 {
-    let n = count_of(tree, work, scope, node);
+    let n = count_of(tree, work, scope, node, skew);
     let inside = store::enter_block(work, scope);
-    let last = row(tree, work, out, step, inside, node, from, n);
+    let last = row(tree, work, out, step, inside, node, from, n, skew);
     let ended = code::end_body(work, last, inside, n - from, step.code, node);
     store::leave_block(work, scope);
     ended
@@ -603,7 +634,7 @@ fn binary(
     requires { ⌜ GivenExpr (now tree) (now work) scope step node × (tag-of (fields (now tree)) node ≡ 6) ⌝ }
     ensures { λ r. ⌜ UnderExpr (now (tree .entry)) node (now (work .entry)) (now (out .entry)) scope step (now (work .exit)) (now (out .exit)) r ⌝ }
 {
-    let x = words_of(tree, work, scope, node);
+    let x = words_of(tree, work, scope, node, 1);
     let k = immediate(tree, work, scope, x.a, PLUS, x.child3);
     if k < 256 {
         return addi(tree, work, out, step, scope, node, k);
@@ -628,7 +659,7 @@ fn addi(
     requires { ⌜ GivenExpr (now tree) (now work) scope step node × (tag-of (fields (now tree)) node ≡ 6) × (k < 256) ⌝ }
     ensures { λ r. ⌜ LowersAddi (now (tree .entry)) node k (now (work .entry)) (now (out .entry)) scope step (now (work .exit)) (now (out .exit)) r ⌝ }
 {
-    let x = words_of(tree, work, scope, node);
+    let x = words_of(tree, work, scope, node, 1);
     let left = expression(tree, work, out, step, scope, x.child2);
     let last = store::next_register(work, left, scope, node);
     code::emit(work, last, scope, ADDI, last.result, left.result, k, x.b)
@@ -646,7 +677,7 @@ fn minus(
     requires { ⌜ GivenExpr (now tree) (now work) scope step node × (tag-of (fields (now tree)) node ≡ 6) ⌝ }
     ensures { λ r. ⌜ LowersMinus (now (tree .entry)) node (now (work .entry)) (now (out .entry)) scope step (now (work .exit)) (now (out .exit)) r ⌝ }
 {
-    let x = words_of(tree, work, scope, node);
+    let x = words_of(tree, work, scope, node, 1);
     let right = expression(tree, work, out, step, scope, x.child3);
     let last = store::next_register(work, right, scope, node);
     let again = code::roll_back(last, step.code);
@@ -665,7 +696,7 @@ fn both(
     requires { ⌜ GivenExpr (now tree) (now work) scope step node × (tag-of (fields (now tree)) node ≡ 6) ⌝ }
     ensures { λ r. ⌜ LowersBoth (now (tree .entry)) node (now (work .entry)) (now (out .entry)) scope step (now (work .exit)) (now (out .exit)) r ⌝ }
 {
-    let x = words_of(tree, work, scope, node);
+    let x = words_of(tree, work, scope, node, 1);
     let left = expression(tree, work, out, step, scope, x.child2);
     let right = expression(tree, work, out, left, scope, x.child3);
     let last = store::next_register(work, right, scope, node);
@@ -693,7 +724,7 @@ fn call(
     requires { ⌜ GivenExpr (now tree) (now work) scope step node × (tag-of (fields (now tree)) node ≡ 8) ⌝ }
     ensures { λ r. ⌜ UnderExpr (now (tree .entry)) node (now (work .entry)) (now (out .entry)) scope step (now (work .exit)) (now (out .exit)) r ⌝ }
 {
-    let x = words_of(tree, work, scope, node);
+    let x = three_of(tree, work, scope, node, 1);
     let n = arguments_in(tree, work, scope, node);
     let callee = expression(tree, work, out, step, scope, x.child0);
     let opened = parts::open_call(work, callee, scope, node, n, x.b);
@@ -714,13 +745,14 @@ fn arguments(
     requires { ⌜ AskArguments (now tree) (now work) scope step node register ⌝ }
     ensures { λ r. ⌜ LowersArguments (now (tree .entry)) node register (now (work .entry)) (now (out .entry)) scope step (now (work .exit)) (now (out .exit)) r ⌝ }
 {
+    let wide = scope.wide;
     let payload = payload_of(tree, work, scope, node);
-    let n = count_of(tree, work, scope, node);
+    let n = count_of(tree, work, scope, node, wide);
     let mut last = step;
     let mut to = register;
     let mut k: usize = 2;
     while k < n {
-        let child = nodes::child(payload, k);
+        let child = nodes::child(payload, k + wide);
         let argument = expression(tree, work, out, last, scope, child);
         last = code::emit(work, argument, scope, MOVE, to, argument.result, 0, NO_MARK);
         to += 1;
@@ -741,7 +773,7 @@ fn logical(
     requires { ⌜ GivenExpr (now tree) (now work) scope step node × (tag-of (fields (now tree)) node ≡ 7) ⌝ }
     ensures { λ r. ⌜ UnderExpr (now (tree .entry)) node (now (work .entry)) (now (out .entry)) scope step (now (work .exit)) (now (out .exit)) r ⌝ }
 {
-    let x = words_of(tree, work, scope, node);
+    let x = words_of(tree, work, scope, node, 1);
     let left = expression(tree, work, out, step, scope, x.child2);
     let tested = code::test_and_jump(work, left, scope, or_flag(x.a), x.b);
     let right = expression(tree, work, out, tested, scope, x.child3);
@@ -760,7 +792,7 @@ fn unary(
     requires { ⌜ GivenExpr (now tree) (now work) scope step node × (tag-of (fields (now tree)) node ≡ 5) ⌝ }
     ensures { λ r. ⌜ UnderExpr (now (tree .entry)) node (now (work .entry)) (now (out .entry)) scope step (now (work .exit)) (now (out .exit)) r ⌝ }
 {
-    let x = words_of(tree, work, scope, node);
+    let x = three_of(tree, work, scope, node, 1);
     let operand = expression(tree, work, out, step, scope, x.child2);
     code::emit(
         work,

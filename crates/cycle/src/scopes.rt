@@ -14,5 +14,6 @@ pub(crate) fn in_loop(scope: Scope) -> Scope
         block: scope.block,
         loops: scope.loops + 1,
         mode: scope.mode,
+        wide: scope.wide,
     }
 }

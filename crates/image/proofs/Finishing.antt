@@ -15,7 +15,7 @@ use Rattle.store.specs.declared.Step.{Step}
 use Rattle.store.specs.declared.Scope.{Scope}
 use Rattle.store.specs.Table.{tab}
 use Rattle.store.specs.Layout.{constant-at}
-use Rattle.store.specs.Store.{state-of, config-of, run, written-by, Written, Image, Fine}
+use Rattle.store.specs.Store.{state-of, config-of, run, is-wide, code-tag, written-by, Written, Image, Fine}
 use Rattle.store.proofs.Runs.{run-going, run-stopped}
 use Rattle.writers.specs.Spliced.{Spliced}
 use Rattle.image.specs.Finish.{ended, Ending, Finishable, Finishes}
@@ -41,22 +41,25 @@ with-room room o last end bytes r e h f = rw (le-ltb room (length bytes) (omega 
 
 module _ (w o : List ℕ) (s : Step) (last : ℕ) {written : ℕ} (e : s .outcome ≡ Accepted written) where
   -- the image: the prototypes, then the constants
-  image-is : (p : Scope) (ps : List Proto) → image (state-of w p s ps) ≡ proto-bytes 0x43 ps ++ pool w s
+  abbrev bytes : Scope → List Proto → List ℕ
+  bytes p ps = proto-bytes (code-tag p) ps ++ pool w s
+
+  image-is : (p : Scope) (ps : List Proto) → image (is-wide p) (state-of w p s ps) ≡ bytes p ps
   unfolding image state-of
   image-is p ps = refl
 
-  ended-is : (p : Scope) (ps : List Proto) → ended (length o) last (run w p s ps) ≡ fitted (length o) last (proto-bytes 0x43 ps ++ pool w s)
+  ended-is : (p : Scope) (ps : List Proto) → ended (is-wide p) (length o) last (run w p s ps) ≡ fitted (length o) last (bytes p ps)
   unfolding config-of
-  ended-is p ps = ap (ended (length o) last) (run-going w p s ps written e) ∙ ap (fitted (length o) last) (image-is p ps)
+  ended-is p ps = ap (ended (is-wide p) (length o) last) (run-going w p s ps written e) ∙ ap (fitted (length o) last) (image-is p ps)
 
-  held : (ps : List Proto) → Image o s ps → Written o written (s .functions) ps
-  held ps i = rw e at i
+  held : (p : Scope) (ps : List Proto) → Image p o s ps → Written (code-tag p) o written (s .functions) ps
+  held p ps i = rw e at i
 
-  size : (ps : List Proto) → Image o s ps → length (proto-bytes 0x43 ps ++ pool w s) ≡ written + length (pool w s)
-  size ps i = omega (arith, length-append (proto-bytes 0x43 ps) (pool w s), held ps i .sized)
+  size : (p : Scope) (ps : List Proto) → Image p o s ps → length (bytes p ps) ≡ written + length (pool w s)
+  size p ps i = omega (arith, length-append (proto-bytes (code-tag p) ps) (pool w s), held p ps i .sized)
 
   pub ends-full : length o < written + length (pool w s) → Finishes w o s last o (Refused Room last)
-  ends-full h = record { same = refl; ends = λ p ps i. rw (ended-is p ps) (no-room o last (proto-bytes 0x43 ps ++ pool w s) (omega (arith, size ps i))) }
+  ends-full h = record { same = refl; ends = λ p ps i. rw (ended-is p ps) (no-room o last (bytes p ps) (omega (arith, size p ps i))) }
 
   pub ends-whole : {o' : List ℕ} {end : ℕ} → end ≡ written + length (pool w s) → Spliced o written (pool w s) o' → Finishes w o s last o' (Accepted end)
   ends-whole {o'} {end} n x =
@@ -64,8 +67,8 @@ module _ (w o : List ℕ) (s : Step) (last : ℕ) {written : ℕ} (e : s .outcom
       record {
         same = l;
         ends = λ p ps i. rw (ended-is p ps)
-            (with-room (length o) o' last end (proto-bytes 0x43 ps ++ pool w s) (sym l) (n ∙ sym (size ps i)) (omega (arith, x .fits))
-            (ap (λ k. take k o') n ∙ spliced-take x ∙ ap (λ b. b ++ pool w s) (held ps i .bytes (omega (arith, x .fits)))));
+            (with-room (length o) o' last end (bytes p ps) (sym l) (n ∙ sym (size p ps i)) (omega (arith, x .fits))
+            (ap (λ k. take k o') n ∙ spliced-take x ∙ ap (λ b. b ++ pool w s) (held p ps i .bytes (omega (arith, x .fits)))));
       }
 
 pub written-is : (s : Step) {written : ℕ} → s .outcome ≡ Accepted written → written-by (s .outcome) < 4294967296 → written < 4294967296

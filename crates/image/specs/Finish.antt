@@ -1,6 +1,7 @@
 -- The end of a call, once the main function is left: refused, or the image of the state, for which there is room or not.
 use Prim.Native.Nat.{ℕ, _<_, _≤_}
 use mathlib.Core.Path.{_≡_}
+use mathlib.Core.Bool.{Bool}
 use mathlib.Core.List.{List, []}
 use lib.ListN.{length, take}
 use Rattle.meaning.specs.State.{Proto}
@@ -10,13 +11,13 @@ use Rattle.meaning.specs.declared.Outcome.{Outcome}
 use Rattle.meaning.specs.declared.Outcome.the-variants.{Accepted, Refused}
 use Rattle.store.specs.declared.Step.{Step}
 use Rattle.store.specs.declared.Scope.{Scope}
-use Rattle.store.specs.Store.{run, written-by, Image}
+use Rattle.store.specs.Store.{run, is-wide, written-by, Image}
 use Rattle.forward.specs.Forward as forward
 
--- what a run ends with
-abbrev pub ended : (room last : ℕ) → forward.Run → Finished
-ended room last (forward.stopped cause node) = stopped cause node
-ended room last (forward.going c) = fitted room last (image (c .state))
+-- what a run ends with, by the width of the marks
+abbrev pub ended : (wide : Bool) (room last : ℕ) → forward.Run → Finished
+ended wide room last (forward.stopped cause node) = stopped cause node
+ended wide room last (forward.going c) = fitted room last (image wide (c .state))
 
 -- the image, none where it is refused
 abbrev pub image-of : Finished → List ℕ
@@ -43,4 +44,4 @@ pub record Finishable (w : List ℕ) (s : Step) : Type 0 where
 -- whatever prototypes the output holds, and in every scope
 pub record Finishes (w o : List ℕ) (s : Step) (last : ℕ) (o' : List ℕ) (r : Outcome) : Type 0 where
   pub same : length o' ≡ length o
-  pub ends : (p : Scope) (ps : List Proto) → Image o s ps → Ending (ended (length o) last (run w p s ps)) o' r
+  pub ends : (p : Scope) (ps : List Proto) → Image p o s ps → Ending (ended (is-wide p) (length o) last (run w p s ps)) o' r

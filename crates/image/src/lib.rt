@@ -6,6 +6,7 @@ ghost use Prim.Native.Nat.{_+_, _*_, _%_, _<_, _≤_};
 ghost use mathlib.Core.Path.{_≡_};
 ghost use mathlib.Core.List.{[], _∷_};
 ghost use lib.ListN.{length};
+ghost use Rattle.meaning.specs.Images.{inst-size};
 ghost use Rattle.meaning.specs.Image.{capture-bytes, inst-bytes, proto-bytes};
 ghost use Rattle.store.specs.Half.{half};
 ghost use Rattle.store.specs.Table.{tab};
@@ -23,9 +24,6 @@ use store::REGISTERS;
 use store::TOP;
 use writers::Capture;
 use writers::Header;
-
-// The tag of instructions.
-const NARROW: u8 = 0x43;
 
 const RETURN: u32 = OpCode::Return as u32;
 
@@ -80,17 +78,35 @@ fn unpacked(x: u32, mark: u32) -> Instruction
     }
 }
 
+// The bytes of an instruction, by its tag: a mark has two or four.
+fn span(tag: u8) -> usize
+    ensures { λ r. ⌜ (r ≡ 3 + inst-size tag) × (r ≤ 11) ⌝ }
+{
+    if tag == 0x47 { 11 } else { 9 }
+}
+
 // The pending code from `first` on.
-fn put_code(work: &[u32], out: &mut [u8], at: usize, nodes: usize, first: usize, count: usize)
-    requires { ⌜ (top nodes ≤ length (now work)) × (2 * (first + count) ≤ top nodes) × (nodes ≤ 32768) × (at + 9 * count ≤ length (now out)) ⌝ }
-    ensures { λ _. ⌜ Spliced (now (out .entry)) at (inst-bytes 0x43 (tab (λ i. inst-at (now (work .entry)) nodes (first + i)) count)) (now (out .exit)) ⌝ }
+fn put_code(
+    work: &[u32],
+    out: &mut [u8],
+    from: usize,
+    tag: u8,
+    nodes: usize,
+    first: usize,
+    count: usize,
+)
+    requires { ⌜ (top nodes ≤ length (now work)) × (2 * (first + count) ≤ top nodes) × (nodes ≤ 32768) × (from + count * (3 + inst-size tag) ≤ length (now out)) ⌝ }
+    ensures { λ _. ⌜ Spliced (now (out .entry)) from (inst-bytes tag (tab (λ i. inst-at (now (work .entry)) nodes (first + i)) count)) (now (out .exit)) ⌝ }
 {
     let top = TOP + 10 * nodes;
+    let size = span(tag);
+    let mut at = from;
     let mut i: usize = 0;
     while i < count {
         let k = 2 * (first + i);
         let x = unpacked(work[top - (k + 2)], work[top - (k + 1)]);
-        writers::put_inst(out, at + 9 * i, NARROW, x);
+        writers::put_inst(out, at, tag, x);
+        at += size;
         i += 1;
     }
 }
@@ -100,14 +116,15 @@ fn put_prototype(
     work: &[u32],
     out: &mut [u8],
     at: usize,
+    tag: u8,
     nodes: usize,
     j: usize,
     first: usize,
     count: usize,
     params: u32,
 )
-    requires { ⌜ (top nodes ≤ length (now work)) × (2 * (first + count) ≤ top nodes) × (nodes ≤ 32768) × (j ≤ 7) × (count < 32767) × (at + (22 + 5 * held (now work) j + 9 * count) ≤ length (now out)) ⌝ }
-    ensures { λ _. ⌜ Spliced (now (out .entry)) at (proto-bytes 0x43 (proto-of (now (work .entry)) nodes j first count params ∷ [])) (now (out .exit)) ⌝ }
+    requires { ⌜ (top nodes ≤ length (now work)) × (2 * (first + count) ≤ top nodes) × (nodes ≤ 32768) × (j ≤ 7) × (count < 32767) × (at + (13 + 5 * held (now work) j + (count + 1) * (3 + inst-size tag)) ≤ length (now out)) ⌝ }
+    ensures { λ _. ⌜ Spliced (now (out .entry)) at (proto-bytes tag (proto-of (now (work .entry)) nodes j first count params ∷ [])) (now (out .exit)) ⌝ }
 {
     let name = work[NAMES + 8 * j];
     let registers = work[REGISTERS + 8 * j] % 256;
@@ -123,8 +140,9 @@ fn put_prototype(
     let captures = held as usize;
     put_captures(work, out, at + 13, j, captures);
     let code = at + 13 + 5 * captures;
-    put_code(work, out, code, nodes, first, count);
-    writers::put_inst(out, code + 9 * count, NARROW, unpacked(RETURN, NO_MARK));
+    put_code(work, out, code, tag, nodes, first, count);
+    let size = span(tag);
+    writers::put_inst(out, code + count * size, tag, unpacked(RETURN, NO_MARK));
 }
 
 // The same where it fits; in any case where it ends.
@@ -132,6 +150,7 @@ pub fn place_prototype(
     work: &[u32],
     out: &mut [u8],
     at: usize,
+    tag: u8,
     nodes: usize,
     j: usize,
     first: usize,
@@ -139,12 +158,13 @@ pub fn place_prototype(
     params: u32,
 ) -> usize
     requires { ⌜ (top nodes ≤ length (now work)) × (2 * (first + count) ≤ top nodes) × (nodes ≤ 32768) × (j ≤ 7) × (count < 32767) × (at < 4294967296) ⌝ }
-    ensures { λ r. ⌜ Placed (now (out .entry)) at (proto-bytes 0x43 (proto-of (now (work .entry)) nodes j first count params ∷ [])) (now (out .exit)) r ⌝ }
+    ensures { λ r. ⌜ Placed (now (out .entry)) at (proto-bytes tag (proto-of (now (work .entry)) nodes j first count params ∷ [])) (now (out .exit)) r ⌝ }
 {
     let held = (work[HELD + 8 * j] % 256) as usize;
-    let end = at + (22 + 5 * held + 9 * count);
+    let size = span(tag);
+    let end = at + (13 + 5 * held + (count + 1) * size);
     if end <= out.len() {
-        put_prototype(work, out, at, nodes, j, first, count, params);
+        put_prototype(work, out, at, tag, nodes, j, first, count, params);
     }
     end
 }

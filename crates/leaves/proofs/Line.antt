@@ -24,7 +24,7 @@ use Rattle.leaves.specs.Node.{Gives}
 -- the calls so far
 pub record Line (w : List ℕ) (p : Scope) (s : Step) (w' : List ℕ) (r : Step) (u : Cost) : Type 0 where
   pub moves : Moves w p s w' p r u
-  pub image : (o : List ℕ) (ps : List Proto) → Image o s ps → Image o r ps
+  pub image : (o : List ℕ) (ps : List Proto) → Image p o s ps → Image p o r ps
 
 pub one : {w w' : List ℕ} {p : Scope} {s r : Step} {u : Cost} {op : Config → Run} → Leaf w p s w' p r u op → Line w p s w' r u
 one l = record { moves = l .moves; image = l .image }

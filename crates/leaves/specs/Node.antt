@@ -7,7 +7,7 @@ use mathlib.Core.Option.{Option, none, some}
 use lib.ListN.{length}
 use lib.Dec.{ltb}
 use Rattle.meaning.specs.Fields.{fields}
-use Rattle.meaning.specs.Grammar.{shape-at}
+use Rattle.meaning.specs.Grammar.{shape-at, wide-marks}
 use Rattle.meaning.specs.Syntax.{Super}
 use Rattle.meaning.specs.Read.{token}
 use Rattle.meaning.specs.At.{word-of, expr-at, stmt-at, super-at}
@@ -19,7 +19,7 @@ use Rattle.nodes.specs.Offsets.{Offsets}
 use Rattle.forward.specs.Forward.{Config, Run, fwd}
 use Rattle.store.specs.declared.Step.{Step}
 use Rattle.store.specs.declared.Scope.{Scope}
-use Rattle.store.specs.Store.{Fine}
+use Rattle.store.specs.Store.{is-wide, Fine}
 use Rattle.store.specs.Promise.{Cost, uses, takes, Room, Leaf}
 use Rattle.parts.specs.Parts.{Small}
 
@@ -31,12 +31,13 @@ pub record Lawful (t w : List ℕ) (n : ℕ) : Type 0 where
   pub shapes : (j : ℕ) → j < length (fields t) → shape-at (fields t) j ≡ true
   pub offsets : Offsets t w (12288 + 15 * n)
 
--- a node of it, and room for k nodes
+-- a node of it, room for k nodes, and the width of its marks in the scope
 pub record OnNode (t w : List ℕ) (p : Scope) (s : Step) (k node : ℕ) : Type 0 where
   pub lawful : Lawful t w (p .nodes)
   pub fine : Fine w p s
   pub room : Room w p s k 0 0
   pub known : node < p .nodes
+  pub width : is-wide p ≡ wide-marks (fields t)
 
 -- ---- what is promised
 

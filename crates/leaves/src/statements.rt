@@ -33,7 +33,7 @@ pub fn let_only(tree: &[u8], work: &mut [u32], step: Step, scope: Scope, node: u
 {
     let payload = nodes::payload_of(tree, work, OFFSETS + 15 * scope.nodes, node);
     let name = nodes::child(payload, 0);
-    let mark = nodes::word(payload, 1);
+    let mark = nodes::mark_there(payload, 1, scope.wide);
     if store::is_global_context(scope) {
         let constant = parts::new_global(work, step, scope, node, name);
         let register = store::next_register(work, constant, scope, node);
@@ -71,7 +71,7 @@ pub fn jump(tree: &[u8], work: &mut [u32], step: Step, scope: Scope, node: usize
     ensures { λ r. ⌜ GivesStmt (now (tree .entry)) (now (work .entry)) scope step (now (work .exit)) r node ⌝ }
 {
     let base = OFFSETS + 15 * scope.nodes;
-    let mark = nodes::word_of(tree, work, base, node, 0);
+    let mark = nodes::mark_of(tree, work, base, node, scope.wide);
     if nodes::tag_of(tree, work, base, node) == 0x16 {
         return visit_jump(work, step, scope, node, JMP_BREAK, mark);
     }
@@ -83,6 +83,6 @@ pub fn return_none(tree: &[u8], work: &mut [u32], step: Step, scope: Scope, node
     requires { ⌜ OnNode (now tree) (now work) scope step 1 node × (tag-of (fields (now tree)) node ≡ 0x18) × (count-of (fields (now tree)) node ≡ 1) ⌝ }
     ensures { λ r. ⌜ GivesStmt (now (tree .entry)) (now (work .entry)) scope step (now (work .exit)) r node ⌝ }
 {
-    let mark = nodes::word_of(tree, work, OFFSETS + 15 * scope.nodes, node, 0);
+    let mark = nodes::mark_of(tree, work, OFFSETS + 15 * scope.nodes, node, scope.wide);
     code::put(work, step, scope, RETURN, 0, 0, 0, mark, 0)
 }

@@ -1,13 +1,13 @@
 // Variables: visit_variable_expr, and the superclass of a class.
 ghost use mathlib.Core.Path.{_≡_};
-ghost use Prim.Native.Nat.{_<_};
+ghost use Prim.Native.Nat.{_+_, _<_};
 ghost use Rattle.meaning.specs.Fields.{fields};
 ghost use Rattle.meaning.specs.Read.{token};
-ghost use Rattle.meaning.specs.At.{tag-of};
+ghost use Rattle.meaning.specs.At.{tag-of, extra};
 ghost use Rattle.meaning.specs.Expressions.{named, visit-outside, visit-variable};
 ghost use Rattle.meaning.specs.Weight.{size-super};
 ghost use Rattle.forward.specs.Forward.{fwd};
-ghost use Rattle.store.specs.Store.{Fine};
+ghost use Rattle.store.specs.Store.{is-wide, Fine};
 ghost use Rattle.store.specs.Promise.{nothing, Room};
 ghost use Rattle.leaves.specs.Node.{OnNode, Gives, GivesExpr, super-of, GivesSuper};
 use crate::LOAD_NIL;
@@ -114,8 +114,15 @@ pub fn variable(tree: &[u8], work: &mut [u32], step: Step, scope: Scope, node: u
 {
     let payload = nodes::payload_of(tree, work, OFFSETS + 15 * scope.nodes, node);
     let name = nodes::child(payload, 0);
-    let mark = nodes::word(payload, 1);
+    let mark = nodes::mark_there(payload, 1, scope.wide);
     visit_variable_expr(work, step, scope, node, name, mark)
+}
+
+// Where the word behind a name and its mark stands in the file.
+fn third_place(scope: Scope) -> usize
+    ensures { λ r. ⌜ r ≡ 2 + extra (is-wide scope) ⌝ }
+{
+    if scope.wide == 0 { 2 } else { 3 }
 }
 
 // The superclass of a class: a variable, which is visited here, or nil.
@@ -124,8 +131,8 @@ pub fn superclass(tree: &[u8], work: &mut [u32], step: Step, scope: Scope, node:
     ensures { λ r. ⌜ GivesSuper (now (tree .entry)) (now (work .entry)) scope step (now (work .exit)) r node ⌝ }
 {
     let payload = nodes::payload_of(tree, work, OFFSETS + 15 * scope.nodes, node);
-    let mark = nodes::word(payload, 1);
-    let parent = nodes::child(payload, 2);
+    let mark = nodes::mark(payload, 1, scope.wide);
+    let parent = nodes::word(payload, third_place(scope));
     if parent != 65535 {
         store::visit(work);
         return variable(tree, work, step, scope, parent);

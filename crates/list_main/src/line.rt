@@ -2,7 +2,9 @@
 use crate::names;
 use meaning::Instruction;
 ghost use mathlib.Core.Path.{_≡_};
-ghost use Prim.Native.Nat.{_+_, _<_, _≤_};
+ghost use mathlib.Core.Bool.{cond};
+ghost use Prim.Native.Nat.{_+_, _%_, _<_, _≤_};
+ghost use lib.Dec.{eqb};
 ghost use lib.ListN.{length};
 
 // Puts a word at a place, and a byte behind it; answers the place behind both.
@@ -29,29 +31,45 @@ pub(crate) fn number(text: &mut [u8], at: usize, n: u64, after: u8) -> usize
     word(text, at, &digits[..k], after)
 }
 
+// The number of a mark, as the image has it: two bytes with 43, so that none is 65,535, and four with 47 (document 02, E5).
+fn mark_number(mark: u32, tag: u8) -> u64
+    ensures { λ r. ⌜ r ≡ cond (eqb tag 0x47) mark (mark % 65536) ⌝ }
+{
+    if tag == 0x47 {
+        return mark as u64;
+    }
+    (mark % 65536) as u64
+}
+
 // Prototype, index, name, a, b, c, mark, and what is retired; false where the line could not be written.
-pub(crate) fn instruction(text: &mut [u8], prototype: u64, index: u64, inst: Instruction) -> bool
+pub(crate) fn instruction(
+    text: &mut [u8],
+    prototype: u64,
+    index: u64,
+    inst: Instruction,
+    tag: u8,
+) -> bool
     requires { ⌜ 160 ≤ length (now text) ⌝ }
 {
     let mut at = number(text, 0, prototype, b' ');
     at = number(text, at, index, b' ');
     at = names::name(text, at, inst.opcode);
-    at = operands(text, at, inst);
+    at = operands(text, at, inst, mark_number(inst.mark, tag));
     written(text, at)
 }
 
-fn operands(text: &mut [u8], at: usize, inst: Instruction) -> usize
+fn operands(text: &mut [u8], at: usize, inst: Instruction, mark: u64) -> usize
     requires { ⌜ at + 92 ≤ length (now text) ⌝ }
     ensures { λ r. ⌜ r ≤ at + 92 ⌝ }
 {
     let b = number(text, at, inst.a as u64, b' ');
     let c = number(text, b, inst.b as u64, b' ');
-    let mark = number(text, c, inst.c as u64, b' ');
+    let m = number(text, c, inst.c as u64, b' ');
     if names::is_retired(inst.opcode) {
-        let end = number(text, mark, inst.mark as u64, b' ');
+        let end = number(text, m, mark, b' ');
         return word(text, end, b"retired", b'\n');
     }
-    number(text, mark, inst.mark as u64, b'\n')
+    number(text, m, mark, b'\n')
 }
 
 // Writes what stands before a place.

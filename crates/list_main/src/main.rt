@@ -36,12 +36,12 @@ fn never() -> bool {
     libc::getpid() == 0
 }
 
-// One byte more than 256 prototypes of 13 bytes, each with 65,535 captures of 5 and as many instructions of 9, and 1,024 constants of 11.
+// One byte more than 256 prototypes of 13 bytes, each with 65,535 captures of 5 and as many instructions of 11, and 1,024 constants of 11.
 fn large(read: &[u8], turns: usize) {
     if never() && 0 < turns {
         large(read, turns - 1);
     }
-    let mut room = [0u8; 234892033];
+    let mut room = [0u8; 268445953];
     more(read, &mut room);
 }
 
@@ -87,7 +87,7 @@ fn answered(image: &[u8], alone: bool, text: &mut [u8])
         return;
     }
     match outcome {
-        Outcome::Accepted(_) => listed(image, text),
+        Outcome::Accepted(_) => listed(image, reader::image_tag(image), text),
         Outcome::Refused(_, _) => verdict(outcome, text),
     }
 }
@@ -102,16 +102,16 @@ fn verdict(outcome: Outcome, text: &mut [u8])
 }
 
 // Each prototype is found once; an image has 256 of them at most.
-fn listed(image: &[u8], text: &mut [u8])
-    requires { ⌜ Ordered (now image) 0x43 × (160 ≤ length (now text)) ⌝ }
+fn listed(image: &[u8], tag: u8, text: &mut [u8])
+    requires { ⌜ Ordered (now image) tag × (160 ≤ length (now text)) ⌝ }
 {
     let mut q: usize = 0;
     while q < 256 {
-        let part = reader::prototype(image, 0x43, q);
+        let part = reader::prototype(image, tag, q);
         if !begins(part) {
             return;
         }
-        if !lines(part, q, text) {
+        if !lines(part, tag, q, text) {
             return;
         }
         q += 1;
@@ -129,14 +129,14 @@ fn begins(part: &[u8]) -> bool
 }
 
 // A line for each instruction of the prototype at the front, which has number q; false where one could not be written.
-fn lines(part: &[u8], q: usize, text: &mut [u8]) -> bool
-    requires { ⌜ (proto-span (now part) 0x43 ≤ length (now part)) × (160 ≤ length (now text)) ⌝ }
+fn lines(part: &[u8], tag: u8, q: usize, text: &mut [u8]) -> bool
+    requires { ⌜ (proto-span (now part) tag ≤ length (now part)) × (160 ≤ length (now text)) ⌝ }
 {
     let count = fields::word(part, 11);
     let mut i: usize = 0;
     while i < count {
-        let inst = reader::instruction(part, 0x43, i);
-        if !line::instruction(text, q as u64, i as u64, inst) {
+        let inst = reader::instruction(part, tag, i);
+        if !line::instruction(text, q as u64, i as u64, inst, tag) {
             return false;
         }
         i += 1;

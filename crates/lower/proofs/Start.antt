@@ -1,16 +1,20 @@
 -- From the check to the first statement: an accepted tree has what the lowering asks for.
-use mathlib.Core.Path.{_≡_, sym, subst}
+use mathlib.Core.Path.{_≡_, refl, sym, subst}
 use mathlib.Core.List.{List}
 use Prim.Native.Nat.{ℕ, _+_, _-_, _*_, _≤_}
 use native.Mathlib.Omega.{arith}
+use lib.ListN.{length}
+use Rattle.meaning.specs.Grammar.{grammar, items-of, wide-marks}
 use Rattle.meaning.specs.Fields.{fields}
 use Rattle.meaning.specs.Check.{checked}
-use Rattle.meaning.specs.At.{count-of, stmts-at}
+use Rattle.meaning.specs.At.{extra, file-words, Behind, count-of, stmts-at}
 use Rattle.meaning.specs.Weight.{size-stmts}
 use Rattle.meaning.specs.Read.{read-program}
 use Rattle.meaning.specs.declared.Outcome.the-variants.{Accepted}
 use Rattle.meaning.proofs.Accepted.{accepted}
 use Rattle.meaning.proofs.Weights.{accepted-size}
+use Rattle.meaning.proofs.Unfold.{last-items}
+use Rattle.meaning.proofs.Places.{none-of, unmarked, heads-none}
 use Rattle.meaning.proofs.Reading.{Program, program-node}
 use Rattle.nodes.specs.Offsets.{Readable, Filled}
 use Rattle.nodes.proofs.Headers.{offsets-kept}
@@ -44,18 +48,31 @@ module _ (mode : ℕ) (t : List ℕ) (work n : ℕ) (e : checked mode t work ≡
     pub last-readable : Readable t w (12288 + 15 * n) (n - 1)
     last-readable = let a = accepted mode t work n e in record { offsets = o .offsets; known = omega (arith, a .nodes, a .some) }
 
-    pub row-asked : AskRow t w (main-scope mode n) first-step (n - 1) 0 (count-of (fields t) (n - 1))
-    row-asked =
+    -- the program has no mark, so its words are those of the file
+    program-stands : Behind (fields t) (n - 1) 0 0
+    unfolding items-of grammar unmarked none-of
+    program-stands =
+        let a = accepted mode t work n e in
+        let k : n - 1 ≡ length (fields t) - 1 = omega (arith, a .nodes) in
+        rw k (heads-none (fields t) (length (fields t) - 1) (a .shapes (length (fields t) - 1) (omega (arith, a .some))) _ (last-items (fields t) (a .shapes) (a .some)) refl .1)
+
+    pub program-size : length (file-words (fields t) (n - 1)) ≡ count-of (fields t) (n - 1)
+    program-size = let b = program-stands .size in omega (arith, b)
+
+    pub row-asked : {v : ℕ} → v ≡ extra (wide-marks (fields t)) → AskRow t w (main-scope mode v n) first-step (n - 1) 0 (count-of (fields t) (n - 1)) 0
+    row-asked {v} width =
         let a = accepted mode t work n e in
         record {
           ready = record {
             lawful = record { nodes = a .nodes; shapes = a .shapes; offsets = o .offsets };
-            fine = o .fine mode;
-            room = room-by (size-stmts (stmts-at (fields t) (n - 1) 0 (count-of (fields t) (n - 1)))) 0 0 (omega (arith, row-size)) (omega (arith, row-size)) (o .room mode);
+            width = width;
+            fine = o .fine mode v;
+            room = room-by (size-stmts (stmts-at (fields t) (n - 1) 0 (count-of (fields t) (n - 1)))) 0 0 (omega (arith, row-size)) (omega (arith, row-size)) (o .room mode v);
             blocks = omega (arith, row-size);
             loops = omega (arith, row-size);
           };
           known = omega (arith, some-nodes);
           ends = omega arith;
           each = λ k f l. program .each k l;
+          behind = program-stands;
         }

@@ -1,12 +1,14 @@
 -- A whole program: its statements, the prototype of main, the constants. The run that the words stand for at the end is the definition's `lower-program`.
 use mathlib.Core.Path.{_≡_, refl, sym, ap, subst, _∙_}
+use mathlib.Core.Bool.{Bool}
 use mathlib.Core.List.{List, [], _++_}
 use Prim.Native.Nat.{ℕ, _+_, _-_, _<_, _≤_}
 use native.Mathlib.Omega.{arith}
 use lib.ListN.{length, take, replicate}
 use Rattle.meaning.specs.Fields.{fields}
+use Rattle.meaning.specs.Grammar.{wide-marks}
 use Rattle.meaning.specs.Check.{checked}
-use Rattle.meaning.specs.At.{count-of, stmts-at}
+use Rattle.meaning.specs.At.{extra, count-of, stmts-at}
 use Rattle.meaning.specs.Read.{read-program}
 use Rattle.meaning.specs.State.{Res, refused, done}
 use Rattle.meaning.specs.Lower.{lower-stmts, lower-program}
@@ -23,7 +25,7 @@ use Rattle.forward.specs.Forward.{config, going, bind, on, fwd-row, end-program
 use Rattle.forward.proofs.Chains.{program-chain}
 use Rattle.store.specs.declared.Step.{Step}
 use Rattle.store.specs.Layout.{visited}
-use Rattle.store.specs.Store.{run, main-scope, first-step, goes-on}
+use Rattle.store.specs.Store.{is-wide, run, main-scope, first-step, goes-on}
 use Rattle.store.specs.Promise.{After}
 use Rattle.store.proofs.Runs.{due, run-stopped}
 use Rattle.code.specs.Cuts.{EndsProgram}
@@ -31,6 +33,7 @@ use Rattle.image.specs.Finish.{ended, length-of, Ending, Finishes}
 use Rattle.lower.specs.Open.{Opened}
 use Rattle.lower.specs.Told.{counted, Counted, Countable}
 use Rattle.cycle.specs.Cycle.{LowersRow}
+use Rattle.cycle.proofs.Way.{wide-is}
 use Rattle.lower.proofs.Start.{program-is}
 
 -- a refusal is no image
@@ -42,35 +45,43 @@ no-image : {c : Cause} {place : ℕ} {bytes : List ℕ} → stopped c place ≡ 
 no-image e = subst IsImaged (sym e) tt
 
 -- what a run ends with is what the definition's lowering ends with
-ended-on : (room last : ℕ) (x : Res ℕ) → ended room last (on x (λ i t. going (config [] i t))) ≡ lowered room last x
+ended-on : (wide : Bool) (room last : ℕ) (x : Res ℕ) → ended wide room last (on x (λ i t. going (config [] i t))) ≡ lowered wide room last x
 unfolding on
-ended-on room last (refused c k) = refl
-ended-on room last (done i t) = refl
+ended-on wide room last (refused c k) = refl
+ended-on wide room last (done i t) = refl
 
 module _ (mode : ℕ) (t : List ℕ) (work n : ℕ) (e : checked mode t work ≡ Accepted n) where
-  finished-is : (room : ℕ) → finished mode t work room ≡ lowered room (n - 1) (lower-program mode (n - 1) (read-program (fields t)))
+  finished-is : (room : ℕ) → finished mode t work room ≡ lowered (wide-marks (fields t)) room (n - 1) (lower-program mode (n - 1) (read-program (fields t)))
   unfolding finished
   finished-is room = ap (λ x. finished-after mode x t room) e
 
   -- the lowering, step by step, from the words that it starts from
-  module _ {w w' o o1 o2 : List ℕ} {s1 s2 : Step} (begun : Opened t n w) (rows : LowersRow t (n - 1) 0 (count-of (fields t) (n - 1)) w o (main-scope mode n) first-step w' o1 s1)
-      (ends : EndsProgram w' o1 (main-scope mode n) s1 o2 s2 (n - 1)) where
+  module _ {v : ℕ} (width : v ≡ extra (wide-marks (fields t))) {w w' o o1 o2 : List ℕ} {s1 s2 : Step} (begun : Opened t n w) (rows : LowersRow t (n - 1) 0 (count-of (fields t) (n - 1)) w o (main-scope mode v n) first-step w' o1 s1)
+      (ends : EndsProgram w' o1 (main-scope mode v n) s1 o2 s2 (n - 1)) where
     -- after the statements, and after main's prototype
-    a1 : After w' o1 (main-scope mode n) s1 (bind (run w (main-scope mode n) first-step []) (fwd-row (lower-stmts mode (stmts-at (fields t) (n - 1) 0 (count-of (fields t) (n - 1))))))
-    a1 = rows .does .does [] (begun .image o)
+    a1 : After w' o1 (main-scope mode v n) s1 (bind (run w (main-scope mode v n) first-step []) (fwd-row (lower-stmts mode (stmts-at (fields t) (n - 1) 0 (count-of (fields t) (n - 1))))))
+    a1 = rows .does .does [] (begun .image mode v o)
 
-    a2 : After w' o2 (main-scope mode n) s2 (bind (run w' (main-scope mode n) s1 (a1 .protos)) (end-program (n - 1)))
+    a2 : After w' o2 (main-scope mode v n) s2 (bind (run w' (main-scope mode v n) s1 (a1 .protos)) (end-program (n - 1)))
     a2 = ends .does (a1 .protos) (a1 .image)
 
-    reached : ended (length o2) (n - 1) (run w' (main-scope mode n) s2 (a2 .protos)) ≡ finished mode t work (length o)
+    -- the scope's width is the tree's
+    abbrev wide : Bool
+    wide = is-wide (main-scope mode v n)
+
+    same-width : wide ≡ wide-marks (fields t)
+    same-width = wide-is (main-scope mode v n) (wide-marks (fields t)) width
+
+    reached : ended wide (length o2) (n - 1) (run w' (main-scope mode v n) s2 (a2 .protos)) ≡ finished mode t work (length o)
     reached =
         let ss = stmts-at (fields t) (n - 1) 0 (count-of (fields t) (n - 1)) in
-        let e1 = a1 .runs ∙ ap (λ x. bind x (fwd-row (lower-stmts mode ss))) (begun .runs mode) in
+        let e1 = a1 .runs ∙ ap (λ x. bind x (fwd-row (lower-stmts mode ss))) (begun .runs mode v) in
         let same : length o2 ≡ length o = ends .same ∙ rows .does .same in
-        ap (ended (length o2) (n - 1)) (program-chain mode (n - 1) ss (run w' (main-scope mode n) s1 (a1 .protos)) (run w' (main-scope mode n) s2 (a2 .protos)) e1 (a2 .runs))
-        ∙ ended-on (length o2) (n - 1) (lower-program mode (n - 1) ss)
-        ∙ ap (λ k. lowered k (n - 1) (lower-program mode (n - 1) ss)) same
-        ∙ ap (λ x. lowered (length o) (n - 1) (lower-program mode (n - 1) x)) (sym (program-is mode t work n e))
+        ap (ended wide (length o2) (n - 1)) (program-chain mode (n - 1) ss (run w' (main-scope mode v n) s1 (a1 .protos)) (run w' (main-scope mode v n) s2 (a2 .protos)) e1 (a2 .runs))
+        ∙ ended-on wide (length o2) (n - 1) (lower-program mode (n - 1) ss)
+        ∙ ap (λ k. lowered wide k (n - 1) (lower-program mode (n - 1) ss)) same
+        ∙ ap (λ x. lowered wide (length o) (n - 1) (lower-program mode (n - 1) x)) (sym (program-is mode t work n e))
+        ∙ ap (λ b. lowered b (length o) (n - 1) (lower-program mode (n - 1) (read-program (fields t)))) same-width
         ∙ sym (finished-is (length o))
 
     -- a refused row ends in a refusal
@@ -78,7 +89,7 @@ module _ (mode : ℕ) (t : List ℕ) (work n : ℕ) (e : checked mode t work ≡
     unfolding bind
     row-going f (Accepted k) q = tt
     row-going f (Refused c k) q =
-        absurd (no-image (sym (ap (ended (length o2) (n - 1)) (a2 .runs ∙ ap (λ r. bind r (end-program (n - 1))) (run-stopped w' (main-scope mode n) s1 (a1 .protos) c k q))) ∙ reached ∙ f))
+        absurd (no-image (sym (ap (ended wide (length o2) (n - 1)) (a2 .runs ∙ ap (λ r. bind r (end-program (n - 1))) (run-stopped w' (main-scope mode v n) s1 (a1 .protos) c k q))) ∙ reached ∙ f))
 
     -- THE COUNT: what the words hold is the definition's, and does not wrap
     exact : {bytes : List ℕ} → finished mode t work (length o) ≡ imaged bytes → visited w' ≡ visits-program (read-program (fields t))
@@ -98,7 +109,7 @@ module _ (mode : ℕ) (t : List ℕ) (work n : ℕ) (e : checked mode t work ≡
 
     pub whole : {o3 : List ℕ} {r : Outcome} → Finishes w' o2 s2 (n - 1) o3 r → Ending (finished mode t work (length o)) o3 r × Counted t w' r
     whole {o3} {r} fin =
-        let z : Ending (finished mode t work (length o)) o3 r = subst (λ x. Ending x o3 r) reached (fin .ends (main-scope mode n) (a2 .protos) (a2 .image)) in
+        let z : Ending (finished mode t work (length o)) o3 r = subst (λ x. Ending x o3 r) reached (fin .ends (main-scope mode v n) (a2 .protos) (a2 .image)) in
         (z, counted-by (finished mode t work (length o)) r refl (z .told))
 
 -- a refusal of the check

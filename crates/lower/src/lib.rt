@@ -6,11 +6,15 @@ use store::Scope;
 use store::Step;
 ghost use mathlib.Core.Path.{_≡_};
 ghost use mathlib.Core.List.{_++_};
-ghost use Prim.Native.Nat.{ℕ, _-_, _≤_};
+ghost use Prim.Native.Nat.{ℕ, _+_, _-_, _*_, _≤_};
 ghost use lib.ListN.{length, take, replicate};
+ghost use Rattle.meaning.specs.Fields.{fields};
+ghost use Rattle.meaning.specs.Grammar.{wide-marks};
+ghost use Rattle.meaning.specs.At.{extra};
 ghost use Rattle.meaning.specs.Check.{checked};
 ghost use Rattle.meaning.specs.declared.Outcome.the-variants.{Accepted};
 ghost use Rattle.meaning.specs.Answer.{finished, reply, output, work-area};
+ghost use Rattle.nodes.specs.Offsets.{Readable};
 ghost use Rattle.store.specs.Store.{first-step};
 ghost use Rattle.image.specs.Finish.{Ending};
 ghost use Rattle.lower.specs.Open.{Opened};
@@ -48,6 +52,17 @@ fn set_up(tree: &[u8], work: &mut [u32], n: usize) -> Step
     store::begin(work, n)
 }
 
+// 1 where the last node says that marks have four bytes, else 0.
+fn width_of(tree: &[u8], work: &[u32], n: usize) -> usize
+    requires { ⌜ Readable (now tree) (now work) (12288 + 15 * n) (n - 1) × (n ≡ length (fields (now tree))) × (1 ≤ n) × (n ≤ 32768) ⌝ }
+    ensures { λ r. ⌜ r ≡ extra (wide-marks (fields (now (tree .entry)))) ⌝ }
+{
+    if nodes::tag_of(tree, work, OFFSETS + 15 * n, n - 1) == 0x3E {
+        return 1;
+    }
+    0
+}
+
 // The main function's statements, its prototype, the constants.
 fn lower_checked(tree: &[u8], work: &mut [u32], out: &mut [u8], n: usize, mode: u64) -> Outcome
     requires { ⌜ checked mode (now tree) (length (now work)) ≡ Accepted n ⌝ }
@@ -60,10 +75,11 @@ fn lower_checked(tree: &[u8], work: &mut [u32], out: &mut [u8], n: usize, mode: 
         block: 1,
         loops: 0,
         mode: mode as usize,
+        wide: width_of(tree, work, n),
     };
     let last = n - 1;
     let count = nodes::count_of(tree, work, OFFSETS + 15 * n, last);
-    let rowed = cycle::row(tree, work, out, first, main, last, 0, count);
+    let rowed = cycle::row(tree, work, out, first, main, last, 0, count, 0);
     let ended = code::end_program(work, out, rowed, main, last);
     image::finish(work, out, ended, last)
 }

@@ -30,7 +30,7 @@ fn of_nothing(mode: u64) -> Reply {
     lower::lower(b"", &mut work, &mut out, mode)
 }
 
-// Every tree that is accepted fits: 32,768 nodes of at most 11 bytes and a child's word, and 255 names in each of 256 functions.
+// Every tree that is accepted fits: 32,768 nodes of at most 13 bytes and a child's word, and 255 names in each of 256 functions.
 fn started(mode: u64) {
     let mut room = [0u8; 1048576];
     small(&mut room, mode);
@@ -126,7 +126,7 @@ fn full(tree: &[u8], turns: usize, mode: u64) {
     if never() && 0 < turns {
         full(tree, turns - 1, mode);
     }
-    let mut out = [0u8; 75836160];
+    let mut out = [0u8; 92612864];
     second(tree, &mut out, mode);
 }
 

@@ -88,7 +88,7 @@ pub(crate) fn refused(a: Reply) {
         18 => at_node(
             a,
             b"Room",
-            b"the image must fit into the output, here 75,836,160 bytes",
+            b"the image must fit into the output, here 92,612,864 bytes",
         ),
         27 => at_node(
             a,

@@ -10,7 +10,7 @@ use lib.Dec.{leb, ltb, eqb}
 use borrow.Author.Tests.{ltb-true, ltb-false, leb-true, eqb-true}
 use Rattle.meaning.specs.Base.{count, lowest}
 use Rattle.meaning.specs.Fields.{fields, left}
-use Rattle.meaning.specs.Grammar.{shape-at}
+use Rattle.meaning.specs.Grammar.{wide-marks, shape-at}
 use Rattle.meaning.specs.Tree.{all-kids, tree-at, depth-of, depth-at}
 use Rattle.meaning.specs.Check.{framed, unless, work-for, checked-work, checked-fields, checked-tree, checked}
 use Rattle.meaning.specs.declared.Cause.{Cause}
@@ -27,7 +27,7 @@ pub record Sound (s : List ℕ) (work n : ℕ) : Type 0 where
   pub few : length (fields s) ≤ 32768
   pub ended : length (left s) ≡ 0
   pub shapes : (j : ℕ) → j < length (fields s) → shape-at (fields s) j ≡ true
-  pub once : (c : ℕ) → c < length (fields s) - 1 → count c (all-kids (fields s)) ≡ 1
+  pub once : (c : ℕ) → c < length (fields s) - 1 → count c (all-kids (wide-marks (fields s)) (fields s)) ≡ 1
   pub depths : (c : ℕ) → c < length (fields s) → depth-of (fields s) c ≤ 128
   pub room : 12288 + 16 * length (fields s) ≤ work
   pub size : size-by (fields s) (length (fields s)) (length (fields s) - 1) ≡ length (fields s)
@@ -66,7 +66,7 @@ accepted mode s work n e =
     let g = none-fails _ (depth-at (fields s)) (length (fields s)) n _ (f .1) in
     let h = unless-so (ltb work (12288 + 16 * length (fields s))) Work 0 n (Accepted (length (fields s))) (g .1) in
     let p : 1 ≤ length (fields s) = ltb-true 0 (length (fields s)) (and-left (ltb 0 (length (fields s))) (eqb (length (left s)) 0) (a .0)) in
-    let o : (c : ℕ) → c < length (fields s) - 1 → count c (all-kids (fields s)) ≡ 1 = λ c l. eqb-true _ 1 (f .0 c l) in
+    let o : (c : ℕ) → c < length (fields s) - 1 → count c (all-kids (wide-marks (fields s)) (fields s)) ≡ 1 = λ c l. eqb-true _ 1 (f .0 c l) in
     record {
       nodes = sym (number-is (h .1));
       some = p;

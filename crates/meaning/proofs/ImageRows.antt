@@ -11,7 +11,7 @@ use Rattle.meaning.specs.Answer.{cause-number}
 use Rattle.meaning.specs.Follow.{is-capture, is-inst, is-header, is-constant, follows-whole, follows, due-after, may-end, stray}
 use Rattle.meaning.specs.Rules.{all, some-of, passes-at, leads, entered-from, let-pass, lawful, code-tests, proto-tests, first-false}
 use Rattle.meaning.specs.declared.Due.{Due}
-use Rattle.meaning.specs.Reader.{Read, refused, taken, read-as}
+use Rattle.meaning.specs.Reader.{Read, refused, taken, read-as, tag-in, image-tag, read-image}
 
 -- what has to unfold for an answer to be computed
 unfoldable pub reading : Unit {0}
@@ -358,6 +358,30 @@ wide =
 pub wide-rows : map (given 0x47) wide ≡ map due wide
 unfolding reading
 wide-rows = refl
+
+-- ---- the first instruction's tag decides
+
+abbrev either : List Case
+either =
+    -- 47 behind 43
+    case (
+    (0x41 ∷ 0x00 ∷ 0x0A ∷ 0xFF ∷ 0xFF ∷ 0x00 ∷ 0x00 ∷ 0x00 ∷ 0x01 ∷ 0x00 ∷ 0x00 ∷ 0x00 ∷ 0x02 ∷ []) ∷
+    (0x43 ∷ 0x00 ∷ 0x06 ∷ 0x02 ∷ 0x00 ∷ 0x00 ∷ 0x00 ∷ 0x11 ∷ 0x70 ∷ []) ∷
+    (0x47 ∷ 0x00 ∷ 0x08 ∷ 0x14 ∷ 0x00 ∷ 0x00 ∷ 0x00 ∷ 0xFF ∷ 0xFF ∷ 0xFF ∷ 0xFF ∷ []) ∷
+    []) 20 2 ∷
+    -- 47 where a capture is due
+    case (
+    (0x41 ∷ 0x00 ∷ 0x0A ∷ 0xFF ∷ 0xFF ∷ 0x00 ∷ 0x00 ∷ 0x00 ∷ 0x01 ∷ 0x00 ∷ 0x01 ∷ 0x00 ∷ 0x01 ∷ []) ∷
+    (0x47 ∷ 0x00 ∷ 0x08 ∷ 0x14 ∷ 0x00 ∷ 0x00 ∷ 0x00 ∷ 0xFF ∷ 0xFF ∷ 0xFF ∷ 0xFF ∷ []) ∷
+    []) 20 1 ∷
+    wide
+
+abbrev given-either : Case → Told
+given-either c = told (image-tag (bytes (c .image))) (read-image (bytes (c .image))) (bytes (c .image))
+
+pub either-rows : map given-either either ≡ map due either
+unfolding reading tag-in
+either-rows = refl
 
 -- ---- the limits: a header or a constant behind so many prototypes and constants
 

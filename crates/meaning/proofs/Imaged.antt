@@ -8,6 +8,7 @@ use native.Mathlib.Omega.{arith}
 use lib.ListN.{length}
 use lib.Dec.{ltb}
 use Rattle.meaning.specs.Fields.{fields}
+use Rattle.meaning.specs.Grammar.{wide-marks}
 use Rattle.meaning.specs.Check.{checked}
 use Rattle.meaning.specs.Read.{read-program}
 use Rattle.meaning.specs.State.{Res, refused, done}
@@ -75,10 +76,10 @@ fitted-bytes false last xs bytes e = sym (ap bytes-of e)
 
 -- for each way in which the checks and then the lowering may end
 module _ (mode : ℕ) (tree : List ℕ) (work room : ℕ) (bytes : List ℕ) where
-  after-lowering : (n : ℕ) → checked mode tree work ≡ Accepted n → (r : Res ℕ) → lower-program mode (n - 1) (read-program (fields tree)) ≡ r → lowered room (n - 1) r ≡ imaged bytes → Lowered mode tree work bytes
+  after-lowering : (n : ℕ) → checked mode tree work ≡ Accepted n → (r : Res ℕ) → lower-program mode (n - 1) (read-program (fields tree)) ≡ r → lowered (wide-marks (fields tree)) room (n - 1) r ≡ imaged bytes → Lowered mode tree work bytes
   after-lowering n a (refused c place) l e = absurd (stopped-not e)
   after-lowering n a (done i t) l e =
-      record { nodes = n; accepted = a; main = i; state = t; lowering = l; image-of = fitted-bytes (ltb room (length (image t))) (n - 1) (image t) bytes e }
+      record { nodes = n; accepted = a; main = i; state = t; lowering = l; image-of = fitted-bytes (ltb room (length (image (wide-marks (fields tree)) t))) (n - 1) (image (wide-marks (fields tree)) t) bytes e }
 
   after-checks : (o : Outcome) → checked mode tree work ≡ o → finished-after mode o tree room ≡ imaged bytes → Lowered mode tree work bytes
   after-checks (Refused c place) a e = absurd (stopped-not e)

@@ -12,7 +12,7 @@ use lib.Dec.{eqb, leb, ltb}
 use borrow.Author.Tests.{ltb-true, leb-true, eqb-false, eq-eqb, ne-eqb}
 use Rattle.meaning.specs.Base.{count}
 use Rattle.meaning.specs.Fields.{Field, field-at}
-use Rattle.meaning.specs.Grammar.{Item, never, bounds, bound, inside, names, lawful, grammar, items-of, items-for, kind-of, ends, fits, kids, tags-of, shape-at}
+use Rattle.meaning.specs.Grammar.{Item, never, bounds, bound, inside, names, lawful, grammar, items-of, is-program, spread-kinds, spread, items-in, items-for, wide-marks, kind-of, ends, fits, kids, tags-of, shape-at}
 use Rattle.meaning.specs.Tree.{kids-of, all-kids, parent-by, parent-of, depth-by}
 use Rattle.meaning.proofs.Lists.{lt-or-le, and-left, and-right, false-true, zeros, count-append}
 
@@ -51,70 +51,70 @@ none-fits ts i (a ∷ []) e = false-true e
 none-fits ts i (a ∷ b ∷ p) e = inside-none (a * 256 + b) (and-left _ _ e)
 
 -- a payload that fits where the last node must be a program fits its tag
-pub fits-tag : (ts : List ℕ) (i tag : ℕ) (last : Bool) (p : List ℕ) → fits (lawful ts i) (items-for tag last) p ≡ true → fits (lawful ts i) (items-of tag) p ≡ true
+pub fits-tag : (wide : Bool) (ts : List ℕ) (i tag : ℕ) (last : Bool) (p : List ℕ) → fits (lawful ts i) (items-for wide tag last) p ≡ true → fits (lawful ts i) (items-in wide tag) p ≡ true
 unfolding items-for
-fits-tag ts i tag true p e = go (eqb tag 0x1E) e
+fits-tag wide ts i tag true p e = go (is-program tag) e
   where
-    go : (b : Bool) → fits (lawful ts i) (cond b (items-of tag) never) p ≡ true → fits (lawful ts i) (items-of tag) p ≡ true
+    go : (b : Bool) → fits (lawful ts i) (cond b (items-in wide tag) never) p ≡ true → fits (lawful ts i) (items-in wide tag) p ≡ true
     go true q = q
     go false q = absurd (none-fits ts i p q)
-fits-tag ts i tag false p e = go (eqb tag 0x1E) e
+fits-tag wide ts i tag false p e = go (is-program tag) e
   where
-    go : (b : Bool) → fits (lawful ts i) (cond b never (items-of tag)) p ≡ true → fits (lawful ts i) (items-of tag) p ≡ true
+    go : (b : Bool) → fits (lawful ts i) (cond b never (items-in wide tag)) p ≡ true → fits (lawful ts i) (items-in wide tag) p ≡ true
     go true q = absurd (none-fits ts i p q)
     go false q = q
 
-pub shape-fits : (fs : List Field) (j : ℕ) → shape-at fs j ≡ true → fits (lawful (tags-of fs) j) (items-of (field-at fs j .tag)) (field-at fs j .payload) ≡ true
+pub shape-fits : (fs : List Field) (j : ℕ) → shape-at fs j ≡ true → fits (lawful (tags-of fs) j) (items-in (wide-marks fs) (field-at fs j .tag)) (field-at fs j .payload) ≡ true
 unfolding shape-at
-shape-fits fs j e = fits-tag (tags-of fs) j (field-at fs j .tag) (eqb (j + 1) (length fs)) (field-at fs j .payload) e
+shape-fits fs j e = fits-tag (wide-marks fs) (tags-of fs) j (field-at fs j .tag) (eqb (j + 1) (length fs)) (field-at fs j .payload) e
 
 -- its tag is one of the table's
-pub shape-tag : (fs : List Field) (j : ℕ) → shape-at fs j ≡ true → field-at fs j .tag < 31
-unfolding items-of grammar
+pub shape-tag : (fs : List Field) (j : ℕ) → shape-at fs j ≡ true → field-at fs j .tag < 63
+unfolding items-in items-of grammar spread spread-kinds
 shape-tag fs j e =
-    ⊎-elim (λ (q : field-at fs j .tag < 31). q)
-    (λ (q : 31 ≤ field-at fs j .tag). absurd (none-fits (tags-of fs) j (field-at fs j .payload)
-    (ap (λ (is : List Item). fits (lawful (tags-of fs) j) is (field-at fs j .payload)) (sym (List·getD-eq-default grammar never q)) ∙ shape-fits fs j e)))
-    (lt-or-le (field-at fs j .tag) 31)
+    ⊎-elim (λ (q : field-at fs j .tag < 63). q)
+    (λ (q : 63 ≤ field-at fs j .tag). absurd (none-fits (tags-of fs) j (field-at fs j .payload)
+    (ap (λ (is : List Item). fits (lawful (tags-of fs) j) (spread (wide-marks fs) is) (field-at fs j .payload)) (sym (List·getD-eq-default grammar never q)) ∙ shape-fits fs j e)))
+    (lt-or-le (field-at fs j .tag) 63)
 
 -- a node of the right shape has no child at or above it
-pub shape-kids : (fs : List Field) (j c : ℕ) → shape-at fs j ≡ true → j ≤ c → count c (kids-of (field-at fs j)) ≡ 0
+pub shape-kids : (fs : List Field) (j c : ℕ) → shape-at fs j ≡ true → j ≤ c → count c (kids-of (wide-marks fs) (field-at fs j)) ≡ 0
 unfolding kids-of
-shape-kids fs j c e h = kids-below (tags-of fs) j c h (items-of (field-at fs j .tag)) (field-at fs j .payload) (shape-fits fs j e)
+shape-kids fs j c e h = kids-below (tags-of fs) j c h (items-in (wide-marks fs) (field-at fs j .tag)) (field-at fs j .payload) (shape-fits fs j e)
 
-pub child-below : (fs : List Field) (j c : ℕ) → shape-at fs j ≡ true → 1 ≤ count c (kids-of (field-at fs j)) → c < j
+pub child-below : (fs : List Field) (j c : ℕ) → shape-at fs j ≡ true → 1 ≤ count c (kids-of (wide-marks fs) (field-at fs j)) → c < j
 child-below fs j c e h = ⊎-elim (λ (q : c < j). q) (λ (q : j ≤ c). absurd (omega (arith, shape-kids fs j c e q))) (lt-or-le c j)
 
 -- ---- the parent: one of the nodes, and c is a child of it
 
-module _ (c : ℕ) where
+module _ (wide : Bool) (c : ℕ) where
   -- a field's own count, and that of those after it
-  pub count-kids : (f : Field) (fs : List Field) → count c (all-kids (f ∷ fs)) ≡ count c (kids-of f) + count c (all-kids fs)
+  pub count-kids : (f : Field) (fs : List Field) → count c (all-kids wide (f ∷ fs)) ≡ count c (kids-of wide f) + count c (all-kids wide fs)
   unfolding all-kids
-  count-kids f fs = count-append c (kids-of f) (all-kids fs)
+  count-kids f fs = count-append c (kids-of wide f) (all-kids wide fs)
 
-  pub count-none : count c (all-kids []) ≡ 0
+  pub count-none : count c (all-kids wide []) ≡ 0
   unfolding count all-kids
   count-none = refl
 
-  pub parent-is : (i : ℕ) (fs : List Field) → 1 ≤ count c (all-kids fs)
-      → (j : ℕ) × (parent-by c i fs ≡ i + j) × (j < length fs) × (1 ≤ count c (kids-of (field-at fs j)))
+  pub parent-is : (i : ℕ) (fs : List Field) → 1 ≤ count c (all-kids wide fs)
+      → (j : ℕ) × (parent-by wide c i fs ≡ i + j) × (j < length fs) × (1 ≤ count c (kids-of wide (field-at fs j)))
   unfolding parent-by
   parent-is i [] p = absurd (omega (arith, count-none))
-  parent-is i (f ∷ fs) p = go (count c (kids-of f)) refl (λ q. parent-is (suc i) fs q)
+  parent-is i (f ∷ fs) p = go (count c (kids-of wide f)) refl (λ q. parent-is (suc i) fs q)
     where
-      go : (k : ℕ) → count c (kids-of f) ≡ k
-          → (1 ≤ count c (all-kids fs) → (j : ℕ) × (parent-by c (suc i) fs ≡ suc i + j) × (j < length fs) × (1 ≤ count c (kids-of (field-at fs j))))
-          → (j : ℕ) × (cond (eqb k 0) (parent-by c (suc i) fs) i ≡ i + j) × (j < length (f ∷ fs)) × (1 ≤ count c (kids-of (field-at (f ∷ fs) j)))
+      go : (k : ℕ) → count c (kids-of wide f) ≡ k
+          → (1 ≤ count c (all-kids wide fs) → (j : ℕ) × (parent-by wide c (suc i) fs ≡ suc i + j) × (j < length fs) × (1 ≤ count c (kids-of wide (field-at fs j))))
+          → (j : ℕ) × (cond (eqb k 0) (parent-by wide c (suc i) fs) i ≡ i + j) × (j < length (f ∷ fs)) × (1 ≤ count c (kids-of wide (field-at (f ∷ fs) j)))
       go zero q rec = let r = rec (omega (arith, count-kids f fs)) in (suc (r .0), omega (arith, r .1), omega (arith, r .2), r .3)
       go (suc k) q rec = (0, rw (ne-eqb (suc k) 0 (λ e. omega arith)) (sym (add-zero i)), omega arith, omega arith)
 
-pub parent-above : (fs : List Field) (c : ℕ) → ((j : ℕ) → j < length fs → shape-at fs j ≡ true) → 1 ≤ count c (all-kids fs)
+pub parent-above : (fs : List Field) (c : ℕ) → ((j : ℕ) → j < length fs → shape-at fs j ≡ true) → 1 ≤ count c (all-kids (wide-marks fs) fs)
     → (c < parent-of fs c) × (parent-of fs c < length fs)
 unfolding parent-of
 parent-above fs c good e =
-    let r = parent-is c 0 fs e in
-    let p : parent-by c 0 fs ≡ r .0 = r .1 ∙ omega arith in
+    let r = parent-is (wide-marks fs) c 0 fs e in
+    let p : parent-by (wide-marks fs) c 0 fs ≡ r .0 = r .1 ∙ omega arith in
     let l = child-below fs (r .0) c (good (r .0) (r .2)) (r .3) in
     (omega (arith, p), omega (arith, p, r .2))
 

@@ -1,6 +1,7 @@
 -- Theorems about the definition: first of the programs that are computed, then of every tree.
 pub mod Computing
 pub mod Starred
+pub mod Wide
 pub mod Examples
 pub mod VisitRows
 pub mod ImageRows
@@ -9,7 +10,9 @@ pub mod ImageMends
 pub mod Lists
 pub mod FieldLaws
 pub mod Kids
+pub mod Spread
 pub mod Payload
+pub mod Places
 pub mod Unfold
 pub mod Rows
 pub mod Reading

@@ -16,12 +16,13 @@ use lib.Seq.{drop-cons, drop-drop}
 use lib.Dec.{ltb}
 use borrow.Author.Tests.{lt-ltb, le-ltb}
 use Rattle.meaning.specs.Fields.{Field, field-at, words}
-use Rattle.meaning.specs.Grammar.{Item, one, perhaps, many, counted, none, names, ends, kind-of, due-after, ones, copies, fits, kids, items-of, lawful, tags-of, shape-at}
+use Rattle.meaning.specs.Grammar.{Item, one, perhaps, many, counted, none, names, ends, kind-of, due-after, ones, copies, items-of, items-in, grammar, lawful, wide-marks, tags-of, shape-at, words-of}
 use Rattle.meaning.specs.Tree.{kids-of}
 use Rattle.meaning.specs.Read.{at, words-at}
 use Rattle.meaning.specs.At.{tag-of}
-use Rattle.meaning.proofs.Lists.{lt-or-le, and-left, and-right, false-true, sum-of, sum-of-append}
-use Rattle.meaning.proofs.Kids.{inside-none, shape-fits}
+use Rattle.meaning.proofs.Lists.{lt-or-le, and-left, and-right, false-true, all-to, all-below, sum-of, sum-of-append}
+use Rattle.meaning.proofs.Kids.{inside-none, shape-fits, shape-tag}
+use Rattle.meaning.proofs.Spread.{fit, fits-words, least, fit-least, weigh, sum-in, Makes, tidy, due-fits, due-sum}
 
 -- how many words n groups of these kinds are
 abbrev pub groups : (ks : List ℕ) (n : ℕ) → ℕ
@@ -64,48 +65,18 @@ module _ (ok : ℕ → ℕ → Bool) where
 -- ---- what the children sum to
 
 module _ (g : ℕ → ℕ) where
-  abbrev pub weigh : (kind w : ℕ) → ℕ
-  weigh kind w = sum-of g (cond (names kind w) (w ∷ []) [])
-
   abbrev pub weigh-row : (ks now : List ℕ) → List ℕ → ℕ
   weigh-row ks [] [] = 0
-  weigh-row ks [] (w ∷ ws) = weigh (getD ks 0 none) w + weigh-row ks (drop 1 ks) ws
+  weigh-row ks [] (w ∷ ws) = weigh g (getD ks 0 none) w + weigh-row ks (drop 1 ks) ws
   weigh-row ks (k ∷ now) [] = 0
-  weigh-row ks (k ∷ now) (w ∷ ws) = weigh k w + weigh-row ks now ws
+  weigh-row ks (k ∷ now) (w ∷ ws) = weigh g k w + weigh-row ks now ws
 
   abbrev pub Sum : (ws : List ℕ) → List Item → (k : ℕ) → ℕ
   Sum ws [] k = 0
-  Sum ws (one kind ∷ is) k = weigh kind (at ws k) + Sum ws is (k + 1)
-  Sum ws (perhaps kind ∷ is) k = cond (ltb k (length ws)) (weigh kind (at ws k) + Sum ws is (k + 1)) 0
+  Sum ws (one kind ∷ is) k = weigh g kind (at ws k) + Sum ws is (k + 1)
+  Sum ws (perhaps kind ∷ is) k = cond (ltb k (length ws)) (weigh g kind (at ws k) + Sum ws is (k + 1)) 0
   Sum ws (many ks ∷ is) k = weigh-row ks [] (drop k ws)
   Sum ws (counted ks ∷ is) k = weigh-row ks [] (take (groups ks (at ws k)) (drop (k + 1) ws)) + Sum ws is (k + 1 + groups ks (at ws k))
-
--- ---- a payload in words
-
-module _ (ok : ℕ → ℕ → Bool) where
-  unfoldable pub fit : List Item → List ℕ → Bool
-  fit is [] = ends is
-  fit is (w ∷ ws) = ok (kind-of is) w && fit (due-after is w) ws
-
-  pub fits-words : (is : List Item) (p : List ℕ) → fits ok is p ≡ true → fit is (words p) ≡ true
-  unfolding fits fit words
-  fits-words is [] e = e
-  fits-words is (a ∷ []) e = absurd (false-true e)
-  fits-words is (a ∷ b ∷ p) e =
-      ap₂ _&&_ (and-left (ok (kind-of is) (a * 256 + b)) _ e) (fits-words (due-after is (a * 256 + b)) p (and-right (ok (kind-of is) (a * 256 + b)) _ e))
-
-module _ (g : ℕ → ℕ) where
-  unfoldable pub sum-in : List Item → List ℕ → ℕ
-  sum-in is [] = 0
-  sum-in is (w ∷ ws) = weigh g (kind-of is) w + sum-in (due-after is w) ws
-
-  pub sum-words : (is : List Item) (p : List ℕ) → sum-of g (kids is p) ≡ sum-in is (words p)
-  unfolding kids sum-in words sum-of
-  sum-words is [] = refl
-  sum-words is (a ∷ []) = refl
-  sum-words is (a ∷ b ∷ p) =
-      let w = a * 256 + b in
-      sum-of-append g (cond (names (kind-of is) w) (w ∷ []) []) (kids (due-after is w) p) ∙ ap (λ (n : ℕ). weigh g (kind-of is) w + n) (sum-words (due-after is w) p)
 
 -- ---- the law
 
@@ -199,15 +170,48 @@ pub none-lawful : (ts : List ℕ) (i w : ℕ) → lawful ts i none w ≡ true �
 unfolding lawful names
 none-lawful ts i w e = inside-none w e
 
+-- every mark is lawful
+lawful-makes : (wide : Bool) (ts : List ℕ) (i : ℕ) → Makes wide (lawful ts i) (lawful ts i)
+unfolding lawful names
+lawful-makes wide ts i = record { same = λ kind w n e. e; short = λ v q e. refl; long = λ v u q e f. refl }
+
+-- in 01's table no word that may be left out is a mark
+tags-tidy : all-to (λ t. tidy (items-of t)) 63 ≡ true
+unfolding all-to tidy items-of grammar
+tags-tidy = refl
+
+pub items-tidy : (tag : ℕ) → tag < 63 → tidy (items-of tag) ≡ true
+items-tidy tag l = all-below (λ t. tidy (items-of t)) 63 tag tags-tidy l
+
 module _ (fs : List Field) (i : ℕ) (shape : shape-at fs i ≡ true) where
-  words-fit : fit (lawful (tags-of fs) i) (items-of (tag-of fs i)) (words-at fs i) ≡ true
-  words-fit = fits-words (lawful (tags-of fs) i) (items-of (tag-of fs i)) (field-at fs i .payload) (shape-fits fs i shape)
+  -- the words as they are due, by what is lawful there
+  module _ (ok : ℕ → ℕ → Bool) (nothing : (w : ℕ) → Ok ok none w → ⊥) (makes : Makes (wide-marks fs) (lawful (tags-of fs) i) ok) where
+    words-fit : fit ok (items-of (tag-of fs i)) (words-at fs i) ≡ true
+    unfolding words-of items-in
+    words-fit = due-fits (wide-marks fs) (lawful (tags-of fs) i) ok makes (items-of (tag-of fs i)) (field-at fs i .payload) (items-tidy _ (shape-tag fs i shape)) (shape-fits fs i shape)
+
+    pub due-by : Due ok (words-at fs i) (items-of (tag-of fs i)) 0
+    due-by = parsed ok nothing (λ c. 0) (words-at fs i) (items-of (tag-of fs i)) 0 (omega arith) words-fit .0
 
   pub due-at : Due (lawful (tags-of fs) i) (words-at fs i) (items-of (tag-of fs i)) 0
-  due-at = parsed (lawful (tags-of fs) i) (none-lawful (tags-of fs) i) (λ c. 0) (words-at fs i) (items-of (tag-of fs i)) 0 (omega arith) words-fit .0
+  due-at = due-by (lawful (tags-of fs) i) (none-lawful (tags-of fs) i) (lawful-makes (wide-marks fs) (tags-of fs) i)
 
-  pub sum-at : (g : ℕ → ℕ) → sum-of g (kids-of (field-at fs i)) ≡ Sum g (words-at fs i) (items-of (tag-of fs i)) 0
-  unfolding kids-of
+  -- of the words of the file
+  file-fit : fit (lawful (tags-of fs) i) (items-in (wide-marks fs) (tag-of fs i)) (words (field-at fs i .payload)) ≡ true
+  file-fit = fits-words (lawful (tags-of fs) i) (items-in (wide-marks fs) (tag-of fs i)) (field-at fs i .payload) (shape-fits fs i shape)
+
+  pub file-due : Due (lawful (tags-of fs) i) (words (field-at fs i .payload)) (items-in (wide-marks fs) (tag-of fs i)) 0
+  file-due = parsed (lawful (tags-of fs) i) (none-lawful (tags-of fs) i) (λ c. 0) (words (field-at fs i .payload)) (items-in (wide-marks fs) (tag-of fs i)) 0 (omega arith) file-fit .0
+
+  pub file-least : least (items-in (wide-marks fs) (tag-of fs i)) ≤ length (words (field-at fs i .payload))
+  file-least = fit-least (lawful (tags-of fs) i) (items-in (wide-marks fs) (tag-of fs i)) (words (field-at fs i .payload)) file-fit
+
+  pub least-at : least (items-of (tag-of fs i)) ≤ length (words-at fs i)
+  least-at = fit-least (lawful (tags-of fs) i) (items-of (tag-of fs i)) (words-at fs i) (words-fit (lawful (tags-of fs) i) (none-lawful (tags-of fs) i) (lawful-makes (wide-marks fs) (tags-of fs) i))
+
+  pub sum-at : (g : ℕ → ℕ) → sum-of g (kids-of (wide-marks fs) (field-at fs i)) ≡ Sum g (words-at fs i) (items-of (tag-of fs i)) 0
+  unfolding kids-of words-of items-in
   sum-at g =
-      sum-words g (items-of (tag-of fs i)) (field-at fs i .payload)
-      ∙ parsed (lawful (tags-of fs) i) (none-lawful (tags-of fs) i) g (words-at fs i) (items-of (tag-of fs i)) 0 (omega arith) words-fit .1
+      due-sum (wide-marks fs) g (items-of (tag-of fs i)) (field-at fs i .payload) (items-tidy _ (shape-tag fs i shape))
+      ∙ parsed (lawful (tags-of fs) i) (none-lawful (tags-of fs) i) g (words-at fs i) (items-of (tag-of fs i)) 0 (omega arith)
+      (words-fit (lawful (tags-of fs) i) (none-lawful (tags-of fs) i) (lawful-makes (wide-marks fs) (tags-of fs) i)) .1

@@ -12,7 +12,7 @@ use borrow.Author.Tests.{ltb-true}
 use lib.Dec.{leb, ltb, eqb}
 use Rattle.meaning.specs.Base.{count, lowest}
 use Rattle.meaning.specs.Fields.{Field, field-at, fields, left}
-use Rattle.meaning.specs.Grammar.{fits, lawful, items-for, tags-of, shape-at}
+use Rattle.meaning.specs.Grammar.{fits, lawful, items-for, wide-marks, tags-of, shape-at}
 use Rattle.meaning.specs.Tree.{kids-of, all-kids, tree-at, parent-by, parent-of, depth-by, depth-of, depth-at}
 use Rattle.meaning.specs.Check.{framed, unless, checked-work, current, current-at, checked-fields, checked-tree, checked}
 use Rattle.meaning.specs.declared.Cause.{Cause}
@@ -26,10 +26,10 @@ unfoldable pub parent-in : (c i : ℕ) → List (List ℕ) → ℕ
 parent-in c i [] = i
 parent-in c i (ks ∷ kss) = let further = parent-in c (suc i) kss in cond (eqb (count c ks) 0) further i
 
-same-parent : (c i : ℕ) (fs : List Field) → parent-by c i fs ≡ parent-in c i (map kids-of fs)
+same-parent : (wide : Bool) (c i : ℕ) (fs : List Field) → parent-by wide c i fs ≡ parent-in c i (map (kids-of wide) fs)
 unfolding parent-by parent-in
-same-parent c i [] = refl
-same-parent c i (f ∷ fs) = ap (λ (p : ℕ). cond (eqb (count c (kids-of f)) 0) p i) (same-parent c (suc i) fs)
+same-parent wide c i [] = refl
+same-parent wide c i (f ∷ fs) = ap (λ (p : ℕ). cond (eqb (count c (kids-of wide f)) 0) p i) (same-parent wide c (suc i) fs)
 
 -- f at k, k + 1, .., n numbers in all
 unfoldable pub table : (f : ℕ → ℕ) → (n k : ℕ) → List ℕ
@@ -61,14 +61,15 @@ unless-at cause place n other = cond (ltb place n) (Refused cause place) other
 unfoldable pub quick-fields : (mode : ℕ) → List Field → (n work : ℕ) → Outcome
 quick-fields mode fs n work =
     let tags = tags-of fs in
-    let all = all-kids fs in
-    let kids = map kids-of fs in
+    let wide = wide-marks fs in
+    let all = all-kids wide fs in
+    let kids = map (kids-of wide) fs in
     let parents = table (λ c. parent-in c 0 kids) n 0 in
     let enough = checked-work n work in
     let flat = unless-at Depth (lowest (λ c. leb (depth-by (look (λ d. parent-in d 0 kids) parents n) (n - 1) n c) 128) n) n enough in
     let tree = unless-at Tree (lowest (λ c. eqb (count c all) 1) (n - 1)) (n - 1) flat in
     let kept = unless-at Retired (lowest (λ i. current mode (field-at fs i .tag)) n) n tree in
-    unless-at Shape (lowest (λ i. fits (lawful tags i) (items-for (field-at fs i .tag) (eqb (i + 1) n)) (field-at fs i .payload)) n) n kept
+    unless-at Shape (lowest (λ i. fits (lawful tags i) (items-for wide (field-at fs i .tag) (eqb (i + 1) n)) (field-at fs i .payload)) n) n kept
 
 unfoldable pub quick-checked : (mode : ℕ) (tree : List ℕ) (work : ℕ) → Outcome
 quick-checked mode tree work =
@@ -88,7 +89,7 @@ same-fields mode fs work =
     (unless Retired (current-at mode fs) (length fs)
     (unless Tree (tree-at fs) (length fs - 1)
     (unless Depth (λ c. leb (depth-by parent (length fs - 1) (length fs) c) 128) (length fs) (checked-work (length fs) work)))))
-    (fun-ext λ c. same-parent c 0 fs ∙ sym (same-look (λ d. parent-in d 0 (map kids-of fs)) (length fs) c))
+    (fun-ext λ c. same-parent (wide-marks fs) c 0 fs ∙ sym (same-look (λ d. parent-in d 0 (map (kids-of (wide-marks fs)) fs)) (length fs) c))
 
 pub quick : (mode : ℕ) (tree : List ℕ) (work : ℕ) → checked mode tree work ≡ quick-checked mode tree work
 unfolding checked checked-tree quick-checked framed

@@ -19,7 +19,7 @@ use Rattle.meaning.specs.Read.{at, bits, token, read-expr, read-stmt, re
 use Rattle.meaning.specs.At.{tag-of, word-of, count-of, readers-at, expr-at, stmt-at, fun-at, elif-at, exprs-at, stmts-at, funs-at, elifs-at, tokens-at, init-at, super-at, ExprBelow, StmtBelow, TagBelow}
 use Rattle.meaning.proofs.Lists.{lt-or-le}
 use Rattle.meaning.proofs.Payload.{Ok, Row, Due, due-at}
-use Rattle.meaning.proofs.Unfold.{expr-unfolds, stmt-unfolds, fun-unfolds, elif-unfolds, program-unfolds, last-tag, is-name, is-op, is-op12, is-expr, is-stmt, is-elif, is-method, is-super, is-init}
+use Rattle.meaning.proofs.Unfold.{expr-unfolds, stmt-unfolds, fun-unfolds, elif-unfolds, program-unfolds, last-items, is-name, is-op, is-op12, is-expr, is-stmt, is-elif, is-method, is-super, is-init}
 use Rattle.meaning.proofs.Rows.{part-slice, rest-slice, in-row, in-pairs, pairs-even}
 
 -- ---- expressions
@@ -414,7 +414,7 @@ module _ (fs : List Field) (good : (j : ℕ) → j < length fs → shape-at fs j
   unfolding items-of grammar stmts-at
   program-node some =
       let last = length fs - 1 in
-      let d = D last (omega arith) 0x1E (last-tag fs good some) in
+      let d = rw (last-items fs good some) at (due-at fs last (good last (omega arith))) in
       record {
         is = rw (rest-slice (words-at fs last) 0) at (program-unfolds fs good some);
         each = λ k b. is-stmt fs last _ (to-end last (omega arith) 0 stmt (d .1) k (omega arith) b);

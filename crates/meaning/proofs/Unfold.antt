@@ -4,7 +4,7 @@
 -- A reader asks only for children, which stand below their node (`locals`: a line for each tag). So fuel beyond a node's number makes no
 -- difference (`fuel`, by induction), and each child may be read with its own fuel.
 use mathlib.Core.Path.{_≡_, refl, ap, ap₂, _∙_}
-use mathlib.Core.Bool.{Bool, true, false, not, _&&_, cond}
+use mathlib.Core.Bool.{Bool, true, false, not, _&&_, _||_, cond}
 use mathlib.Core.Logic.{⊎-elim}
 use mathlib.Core.List.{List, [], _∷_}
 use Prim.Native.Nat.{ℕ, zero, suc, _+_, _-_, _*_, _<_, _≤_}
@@ -17,7 +17,7 @@ use lib.Dec.{eqb, leb, ltb}
 use borrow.Author.Tests.{eq-eqb, eqb-true, ltb-true, leb-true, eqb-false, not-true}
 use Rattle.meaning.specs.Fields.{Field, field-at, no-field}
 use Rattle.meaning.specs.Grammar.{super as superkind}
-use Rattle.meaning.specs.Grammar.{Item, never, name, op, op12, expr, stmt, elif, method, init, bounds, bound, inside, absent, names, lawful, grammar, items-of, items-for, fits, tags-of, shape-at}
+use Rattle.meaning.specs.Grammar.{Item, never, name, op, op12, expr, stmt, elif, method, init, bounds, bound, inside, absent, names, lawful, grammar, items-of, items-in, items-for, fits, wide-marks, tags-of, shape-at}
 use Rattle.meaning.specs.Syntax.{Expr, unary, binary, logical, call, function, and-expr, Stmt, expression, block, while, for-in, try, define, no-stmt, and-stmt, Elifs, and-elif, Fun, fun, and-fun, no-super, super}
 use Rattle.meaning.specs.Read.{Readers, Reader, at, token, tokens, readers, read-program, words-at, exprs, stmts, funs, elifs, initializer, superclass, no-expression, no-statement, expr-readers, stmt-readers, read-expr, read-stmt, read-fun, read-if}
 use Rattle.meaning.specs.At.{tag-of, word-of, expr-at, stmt-at, fun-at, variable-at, elif-at, readers-at, ExprBelow, StmtBelow, TagBelow}
@@ -296,22 +296,23 @@ module _ (fs : List Field) (good : (j : ℕ) → j < length fs → shape-at fs j
     unfolding variable-at readers
     variable-unfolds = refl
 
-  -- the last node is a program
-  pub last-tag : 1 ≤ length fs → tag-of fs (length fs - 1) ≡ 0x1E
-  unfolding shape-at items-for
-  last-tag some =
+  -- the last node is a program, of either tag
+  pub last-items : 1 ≤ length fs → items-of (tag-of fs (length fs - 1)) ≡ items-of 0x1E
+  unfolding shape-at items-for items-of grammar
+  last-items some =
       let last = length fs - 1 in
-      go (eqb (tag-of fs last) 0x1E) refl (rw (eq-eqb (last + 1) (length fs) (omega arith)) at (good last (omega arith)))
+      go (eqb (tag-of fs last) 0x1E) refl (eqb (tag-of fs last) 0x3E) refl (rw (eq-eqb (last + 1) (length fs) (omega arith)) at (good last (omega arith)))
     where
-      go : (b : Bool) → eqb (tag-of fs (length fs - 1)) 0x1E ≡ b
-          → fits (lawful (tags-of fs) (length fs - 1)) (cond b (items-of (tag-of fs (length fs - 1))) never) (field-at fs (length fs - 1) .payload) ≡ true
-          → tag-of fs (length fs - 1) ≡ 0x1E
-      go true e f = eqb-true _ 0x1E e
-      go false e f = absurd (none-fits (tags-of fs) (length fs - 1) (field-at fs (length fs - 1) .payload) f)
+      go : (a : Bool) → eqb (tag-of fs (length fs - 1)) 0x1E ≡ a → (b : Bool) → eqb (tag-of fs (length fs - 1)) 0x3E ≡ b
+          → fits (lawful (tags-of fs) (length fs - 1)) (cond (a || b) (items-in (wide-marks fs) (tag-of fs (length fs - 1))) never) (field-at fs (length fs - 1) .payload) ≡ true
+          → items-of (tag-of fs (length fs - 1)) ≡ items-of 0x1E
+      go true e b f h = ap items-of (eqb-true (tag-of fs (length fs - 1)) 0x1E e)
+      go false e true f h = ap items-of (eqb-true (tag-of fs (length fs - 1)) 0x3E f)
+      go false e false f h = absurd (none-fits (tags-of fs) (length fs - 1) (field-at fs (length fs - 1) .payload) h)
 
   pub program-unfolds : 1 ≤ length fs → read-program fs ≡ stmts (readers-at fs) (words-at fs (length fs - 1))
   unfolding read-program items-of grammar
   program-unfolds some =
       let last = length fs - 1 in
-      let d = rw (last-tag some) at (due-at fs last (good last (omega arith))) in
+      let d = rw (last-items some) at (due-at fs last (good last (omega arith))) in
       stmts-same (tags-of fs) last (readers fs last) (readers-at fs) (own last (omega arith)) (words-at fs last) (d .1)

@@ -1,5 +1,5 @@
 -- The counting law: the program's syntax tree weighs as much as the file's nodes together, and so has as many nodes as the file.
---     program-weight     own 1E and the program's weight is the sum of `own` of every node's tag
+--     program-weight     the last node's own and the program's weight is the sum of `own` of every node's tag
 --     program-size       one more than the program's size is the number of nodes
 --     accepted-size      program-size, of an accepted file
 -- What a node weighs is its own and its children's (a line for each tag, by `Sum`); so by induction it weighs what the tree under it does in the
@@ -18,7 +18,7 @@ use borrow.Author.Tests.{eq-eqb, ne-eqb, lt-ltb, le-ltb}
 use Rattle.meaning.specs.Base.{count}
 use Rattle.meaning.specs.Fields.{Field, fields}
 use Rattle.meaning.specs.Grammar.{super as superkind}
-use Rattle.meaning.specs.Grammar.{Item, never, name, mark, expr, stmt, elif, method, init, absent, names, lawful, grammar, items-of, tags-of, shape-at}
+use Rattle.meaning.specs.Grammar.{Item, never, name, mark, expr, stmt, elif, method, init, absent, names, lawful, grammar, items-of, wide-marks, tags-of, shape-at}
 use Rattle.meaning.specs.Tree.{all-kids}
 use Rattle.meaning.specs.Check.{checked}
 use Rattle.meaning.specs.declared.Outcome.the-variants.{Accepted}
@@ -27,8 +27,9 @@ use Rattle.meaning.specs.Read.{Readers, Reader, at, token, exprs, stmts,
 use Rattle.meaning.specs.At.{tag-of, readers-at, expr-at, stmt-at, fun-at, variable-at, elif-at}
 use Rattle.meaning.specs.Weight.{weight-expr, weight-exprs, weight-stmt, weight-stmts, weight-elifs, weight-fun, weight-funs, weight-super, size-stmts}
 use Rattle.meaning.proofs.Lists.{sum-of, sum-to, sum-to-ones}
-use Rattle.meaning.proofs.Payload.{none-lawful, Ok, Row, Due, weigh, weigh-row, Sum, due-at, sum-at}
-use Rattle.meaning.proofs.Unfold.{_&_, Each, each-at, is-expr, is-stmt, is-init, is-method, is-super, is-elif, expr-unfolds, stmt-unfolds, fun-unfolds, elif-unfolds, variable-unfolds, last-tag, program-unfolds}
+use Rattle.meaning.proofs.Payload.{none-lawful, Ok, Row, Due, weigh-row, Sum, due-at, sum-at}
+use Rattle.meaning.proofs.Spread.{weigh}
+use Rattle.meaning.proofs.Unfold.{_&_, Each, each-at, is-expr, is-stmt, is-init, is-method, is-super, is-elif, expr-unfolds, stmt-unfolds, fun-unfolds, elif-unfolds, variable-unfolds, last-items, program-unfolds}
 use Rattle.meaning.proofs.Accepted.{accepted}
 use Rattle.meaning.proofs.Counting.{total-by, total-step, tree-total}
 
@@ -220,21 +221,21 @@ module _ (own : ℕ → ℕ) where
 
     -- ---- the program
 
-    module _ (some : 1 ≤ length fs) (once : (c : ℕ) → c < length fs - 1 → count c (all-kids fs) ≡ 1) where
-      pub program-weight : own 0x1E + weight-stmts own (read-program fs) ≡ sum-to (λ j. own (tag-of fs j)) (length fs)
+    module _ (some : 1 ≤ length fs) (once : (c : ℕ) → c < length fs - 1 → count c (all-kids (wide-marks fs) fs) ≡ 1) where
+      pub program-weight : own (tag-of fs (length fs - 1)) + weight-stmts own (read-program fs) ≡ sum-to (λ j. own (tag-of fs j)) (length fs)
       unfolding items-of grammar total
       program-weight =
           let last = length fs - 1 in
           let l : last < length fs = omega arith in
           let w = weighs last (λ c q. weight-below last c q (omega arith)) in
-          let e = last-tag fs good some in
+          let e = last-items fs good some in
           let d = rw e at (due-at fs last (good last l)) in
-          ap (λ (n : ℕ). own 0x1E + n) (ap (weight-stmts own) (program-unfolds fs good some) ∙ stmts-weight (tags-of fs) last (readers-at fs) total w (words-at fs last) (d .1))
+          ap (λ (n : ℕ). own (tag-of fs last) + n) (ap (weight-stmts own) (program-unfolds fs good some) ∙ stmts-weight (tags-of fs) last (readers-at fs) total w (words-at fs last) (d .1))
           ∙ sym (rw e at (at-tag last l w))
           ∙ tree-total fs good some once (λ j. own (tag-of fs j))
 
 -- the number of nodes: the program itself and those of its statements
-pub program-size : (fs : List Field) (good : (j : ℕ) → j < length fs → shape-at fs j ≡ true) → 1 ≤ length fs → ((c : ℕ) → c < length fs - 1 → count c (all-kids fs) ≡ 1)
+pub program-size : (fs : List Field) (good : (j : ℕ) → j < length fs → shape-at fs j ≡ true) → 1 ≤ length fs → ((c : ℕ) → c < length fs - 1 → count c (all-kids (wide-marks fs) fs) ≡ 1)
     → 1 + size-stmts (read-program fs) ≡ length fs
 program-size fs good some once = program-weight (λ t. 1) fs good some once ∙ sum-to-ones (length fs)
 

@@ -1,10 +1,11 @@
 -- 01, "Outcome": what a call answers, and what it leaves in the output and the work area.
 use Prim.Native.Nat.{ℕ, _-_}
-use mathlib.Core.Bool.{cond}
+use mathlib.Core.Bool.{Bool, cond}
 use mathlib.Core.List.{List, _++_}
 use lib.ListN.{length, replicate}
 use lib.Dec.{ltb}
 use Rattle.meaning.specs.Fields.{fields}
+use Rattle.meaning.specs.Grammar.{wide-marks}
 use Rattle.meaning.specs.Check.{checked}
 use Rattle.meaning.specs.Read.{read-program}
 use Rattle.meaning.specs.State.{Res, refused, done}
@@ -58,14 +59,14 @@ abbrev pub fitted : (room last : ℕ) → List ℕ → Finished
 fitted room last bytes = cond (ltb room (length bytes)) (stopped Room last) (imaged bytes)
 
 -- a refusal stays; else the image of the state in which the lowering ended, if there is room
-abbrev pub lowered : (room last : ℕ) → Res ℕ → Finished
-lowered room last (refused c place) = stopped c place
-lowered room last (done index s) = fitted room last (image s)
+abbrev pub lowered : (wide : Bool) → (room last : ℕ) → Res ℕ → Finished
+lowered wide room last (refused c place) = stopped c place
+lowered wide room last (done index s) = fitted room last (image wide s)
 
 -- after the check
 abbrev pub finished-after : (mode : ℕ) → Outcome → (tree : List ℕ) (room : ℕ) → Finished
 finished-after mode (Refused c place) tree room = stopped c place
-finished-after mode (Accepted n) tree room = lowered room (n - 1) (lower-program mode (n - 1) (read-program (fields tree)))
+finished-after mode (Accepted n) tree room = lowered (wide-marks (fields tree)) room (n - 1) (lower-program mode (n - 1) (read-program (fields tree)))
 
 -- the mode, the tree's bytes, the work area's length in words, the output's length in bytes
 unfoldable pub finished : (mode : ℕ) (tree : List ℕ) (work room : ℕ) → Finished

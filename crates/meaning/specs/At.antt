@@ -1,13 +1,15 @@
 -- What stands at a node: its tag and words, the syntax tree that unfolds from it, and the rows of its payload. The lowering's contracts cite
 -- these; `Read.antt` says what they are.
-use Prim.Native.Nat.{ℕ, suc, _<_, _≤_}
+use Prim.Native.Nat.{ℕ, zero, suc, _+_, _*_, _<_, _≤_}
 use mathlib.Core.Path.{_≡_}
-use mathlib.Core.List.{List}
+use mathlib.Core.Bool.{Bool, cond}
+use mathlib.Core.List.{List, [], _∷_}
 use lib.ListN.{length}
 use lib.Seq.{slice}
-use Rattle.meaning.specs.Fields.{Field, field-at}
+use Rattle.meaning.specs.Fields.{Field, field-at, words}
+use Rattle.meaning.specs.Grammar.{wide-marks, short-mark}
 use Rattle.meaning.specs.Syntax.{Token, Expr, Exprs, Stmt, Stmts, Elifs, Fun, Funs, Super}
-use Rattle.meaning.specs.Read.{Readers, readers, at, words-at, tokens, exprs, stmts, funs, elifs, initializer, superclass}
+use Rattle.meaning.specs.Read.{Readers, readers, at, words-at, token, tokens, exprs, stmts, funs, elifs, initializer, superclass}
 
 -- ---- a node's tag, its words, and how many they are
 
@@ -22,6 +24,42 @@ word-of fs i k = at (words-at fs i) k
 -- how many words its payload has
 abbrev pub count-of : List Field → (node : ℕ) → ℕ
 count-of fs i = length (words-at fs i)
+
+-- E5: the words of its payload as they stand in the file, where a wide mark takes two
+abbrev pub file-words : List Field → (node : ℕ) → List ℕ
+file-words fs i = words (field-at fs i .payload)
+
+-- the mark at word p of the words of a file, two bytes or four
+abbrev pub mark-at : (wide : Bool) → List ℕ → (p : ℕ) → ℕ
+mark-at wide vs p = cond wide (at vs p * 65536 + at vs (p + 1)) (short-mark (at vs p))
+
+-- the words of the file that a wide mark takes more than another
+abbrev pub extra : (wide : Bool) → ℕ
+extra wide = cond wide 1 0
+
+-- the words of the file that a mark takes
+abbrev pub mark-words : (wide : Bool) → ℕ
+mark-words wide = 1 + extra wide
+
+-- from word k on the words of node i stand d places further in the file
+pub record Behind (fs : List Field) (i k d : ℕ) : Type 0 where
+  pub same : (j : ℕ) → k ≤ j → word-of fs i j ≡ at (file-words fs i) (j + d)
+  pub size : length (file-words fs i) ≡ count-of fs i + d
+
+-- the words of the file before pair k
+abbrev pub pair-place : (wide : Bool) → (k : ℕ) → ℕ
+pair-place wide k = 2 * k + cond wide k 0
+
+-- n pairs n m from word p of the file's words on
+abbrev pub pairs-in : (wide : Bool) → List ℕ → (p n : ℕ) → List Token
+pairs-in wide vs p zero = []
+pairs-in wide vs p (suc n) = token (at vs p) (mark-at wide vs (p + 1)) ∷ pairs-in wide vs (p + 1 + mark-words wide) n
+
+-- the first four words of node i by the words of the file, where word m is a mark, and no other; 4 where none is
+pub record Heads (fs : List Field) (i m : ℕ) : Type 0 where
+  pub before : (k : ℕ) → k < m → k ≤ 3 → word-of fs i k ≡ at (file-words fs i) k
+  pub mark : m ≤ 3 → word-of fs i m ≡ mark-at (wide-marks fs) (file-words fs i) m
+  pub after : (k : ℕ) → m < k → k ≤ 3 → word-of fs i k ≡ at (file-words fs i) (k + extra (wide-marks fs))
 
 -- ---- the syntax tree at a node, by the node's role; children stand below their node, so its number and one more is fuel enough
 

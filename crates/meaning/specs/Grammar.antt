@@ -1,10 +1,10 @@
--- 01, the table of tags: what each tag's payload holds, item by item; what it is to fit; the children that a payload names.
-use Prim.Native.Nat.{ℕ, zero, suc, _+_, _*_}
-use mathlib.Core.Bool.{Bool, true, false, not, _&&_, cond}
+-- 01, the table of tags, and 02, E5: what each tag's payload holds, item by item; what it is to fit; the children that a payload names; its words as they are due.
+use Prim.Native.Nat.{ℕ, zero, suc, _+_, _-_, _*_}
+use mathlib.Core.Bool.{Bool, true, false, not, _&&_, _||_, cond}
 use mathlib.Core.List.{List, [], _∷_, _++_, map}
-use lib.ListN.{length, getD, drop}
+use lib.ListN.{length, getD, drop, replicate}
 use lib.Dec.{eqb, leb, ltb}
-use Rattle.meaning.specs.Fields.{Field, field-at}
+use Rattle.meaning.specs.Fields.{Field, field-at, words}
 
 -- ---- the kinds of words
 
@@ -12,13 +12,9 @@ use Rattle.meaning.specs.Fields.{Field, field-at}
 abbrev pub none : ℕ
 none = 0
 
--- a mark, a piece of a number, a text, another literal
+-- a piece of a number, a text, another literal, a mark's two bytes
 abbrev pub any : ℕ
 any = 1
-
--- the same kind, where the word is a mark
-abbrev pub mark : ℕ
-mark = 1
 
 -- a name, which is not 65,535, the empty text
 abbrev pub name : ℕ
@@ -60,12 +56,16 @@ super = 10
 abbrev pub init : ℕ
 init = 11
 
+-- a mark, which has two bytes, or four in a wide tree; every one is lawful
+abbrev pub mark : ℕ
+mark = 12
+
 -- of each kind the lowest, the highest and one more that is not lawful: of the word, and from `expr` on of the child's tag
 unfoldable pub bounds : List ℕ
 bounds =
     -- none
     1 ∷ 0 ∷ 65536 ∷
-    -- any, mark
+    -- any
     0 ∷ 65535 ∷ 65536 ∷
     -- name: not 65,535
     0 ∷ 65535 ∷ 65535 ∷
@@ -102,7 +102,7 @@ absent w = eqb w 65535
 
 -- the word names a child
 unfoldable pub names : (kind w : ℕ) → Bool
-names kind w = cond (ltb kind expr) false (cond (ltb kind super) true (not (absent w)))
+names kind w = cond (ltb kind expr) false (cond (ltb kind super) true (ltb kind mark && not (absent w)))
 
 -- the word w is lawful at a kind in node i: a child stands below i, and its tag has the right role
 unfoldable pub lawful : (tags : List ℕ) (i kind w : ℕ) → Bool
@@ -160,20 +160,15 @@ grammar =
     (one mark ∷ one expr ∷ counted (stmt ∷ []) ∷ counted (elif ∷ []) ∷ many (stmt ∷ []) ∷ []) ∷
     (one expr ∷ many (stmt ∷ []) ∷ []) ∷
     (one stmt ∷ one name ∷ one mark ∷ one stmt ∷ []) ∷
-    -- 1C function statement, 1D class, 1E program
+    -- 1C function statement, 1D class, 1E program; and 02, E5: 3E, a program whose tree has wide marks
     (one name ∷ one mark ∷ counted (name ∷ mark ∷ []) ∷ many (stmt ∷ []) ∷ []) ∷
     (one name ∷ one mark ∷ one super ∷ counted (method ∷ []) ∷ many (method ∷ []) ∷ []) ∷
     (many (stmt ∷ []) ∷ []) ∷
-    []
+    (replicate 31 never ++ (many (stmt ∷ []) ∷ []) ∷ [])
 
 -- the payload of a tag; nothing fits a number that is no tag
 unfoldable pub items-of : (tag : ℕ) → List Item
 items-of tag = getD grammar tag never
-
--- the last node is a program, and no other is
-unfoldable pub items-for : (tag : ℕ) → (last : Bool) → List Item
-items-for tag true = cond (eqb tag 0x1E) (items-of tag) never
-items-for tag false = cond (eqb tag 0x1E) never (items-of tag)
 
 -- ---- what it is to fit
 
@@ -186,6 +181,32 @@ ones (k ∷ ks) is = one k ∷ ones ks is
 abbrev pub copies : ℕ → List ℕ → List Item → List Item
 copies zero ks is = is
 copies (suc n) ks is = ones ks (copies n ks is)
+
+-- kinds as the words of a file have them: a mark is two bytes, "in a wide tree four"
+unfoldable pub spread-kinds : (wide : Bool) → List ℕ → List ℕ
+spread-kinds wide [] = []
+spread-kinds wide (k ∷ ks) = cond (eqb k mark) (cond wide (any ∷ any ∷ spread-kinds wide ks) (any ∷ spread-kinds wide ks)) (k ∷ spread-kinds wide ks)
+
+-- the same of items
+unfoldable pub spread : (wide : Bool) → List Item → List Item
+spread wide [] = []
+spread wide (one k ∷ is) = ones (spread-kinds wide (k ∷ [])) (spread wide is)
+spread wide (perhaps k ∷ is) = perhaps k ∷ spread wide is
+spread wide (many ks ∷ is) = many (spread-kinds wide ks) ∷ spread wide is
+spread wide (counted ks ∷ is) = counted (spread-kinds wide ks) ∷ spread wide is
+
+-- the payload of a tag, in words of a file
+unfoldable pub items-in : (wide : Bool) → (tag : ℕ) → List Item
+items-in wide tag = spread wide (items-of tag)
+
+-- 1E, or "tag 3E in place of 1E"
+abbrev pub is-program : (tag : ℕ) → Bool
+is-program tag = eqb tag 0x1E || eqb tag 0x3E
+
+-- the last node is a program, and no other is
+unfoldable pub items-for : (wide : Bool) → (tag : ℕ) → (last : Bool) → List Item
+items-for wide tag true = cond (is-program tag) (items-in wide tag) never
+items-for wide tag false = cond (is-program tag) never (items-in wide tag)
 
 -- the payload may end before these items
 unfoldable pub ends : List Item → Bool
@@ -227,6 +248,36 @@ kids is (a ∷ b ∷ p) = cond (names (kind-of is) (a * 256 + b)) ((a * 256 + b)
 abbrev pub tags-of : List Field → List ℕ
 tags-of fs = map (λ f. f .tag) fs
 
+-- E5: "A last field with tag 3E in place of 1E says that every mark in its tree has four bytes"
+unfoldable pub wide-marks : List Field → Bool
+wide-marks fs = eqb (field-at fs (length fs - 1) .tag) 0x3E
+
 -- "A node has the right shape when .."
 unfoldable pub shape-at : List Field → ℕ → Bool
-shape-at fs i = fits (lawful (tags-of fs) i) (items-for (field-at fs i .tag) (eqb (i + 1) (length fs))) (field-at fs i .payload)
+shape-at fs i = fits (lawful (tags-of fs) i) (items-for (wide-marks fs) (field-at fs i .tag) (eqb (i + 1) (length fs))) (field-at fs i .payload)
+
+-- ---- words as they are due
+
+-- the next word is a mark
+unfoldable pub marked : List Item → Bool
+marked is = eqb (kind-of is) mark
+
+-- a mark of two bytes: 65,535 is none, which is 4,294,967,295 at either width
+abbrev pub short-mark : ℕ → ℕ
+short-mark v = cond (eqb v 65535) 4294967295 v
+
+-- a word of two bytes
+unfoldable pub short : List Item → ℕ → ℕ
+short is v = cond (marked is) (short-mark v) v
+
+-- the words of a payload, where a mark is one: a wide one is made of two words of the file
+unfoldable pub due-words : (wide : Bool) → List Item → List ℕ → List ℕ
+due-words wide is [] = []
+due-words wide is (v ∷ []) = cond (wide && marked is) (v * 65536 ∷ []) (short is v ∷ [])
+due-words wide is (v ∷ u ∷ vs) =
+    cond (wide && marked is) ((v * 65536 + u) ∷ due-words wide (due-after is (v * 65536 + u)) vs)
+    (short is v ∷ due-words wide (due-after is (short is v)) (u ∷ vs))
+
+-- the words of a node
+unfoldable pub words-of : (wide : Bool) → Field → List ℕ
+words-of wide f = due-words wide (items-of (f .tag)) (words (f .payload))

@@ -6,7 +6,7 @@ use lib.ListN.{length}
 use lib.Dec.{eqb}
 use Rattle.meaning.specs.Constant.{Constant, number, text, other}
 use Rattle.meaning.specs.State.{Capture, Proto, State}
-use Rattle.meaning.specs.Images.{Image, image-of-state}
+use Rattle.meaning.specs.Images.{Image, image-of-state, inst-tag}
 use Rattle.meaning.specs.declared.Instruction.{Instruction}
 
 -- two bytes, high first
@@ -59,5 +59,5 @@ abbrev pub written : (tag : ℕ) → Image → List ℕ
 written tag im = proto-bytes tag (im .prototypes) ++ constant-bytes (im .constants)
 
 -- what the lowering writes
-unfoldable pub image : State → List ℕ
-image s = written 0x43 (image-of-state s)
+unfoldable pub image : (wide : Bool) → State → List ℕ
+image wide s = written (inst-tag wide) (image-of-state s)

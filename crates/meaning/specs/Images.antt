@@ -1,10 +1,11 @@
 -- 01, "Image file": an image as a value, and the value that fields stand for. `tag` is that of instructions: 43, or 47 with wide marks.
 use Prim.Native.Nat.{ℕ, _+_, _*_}
-use mathlib.Core.Bool.{cond}
+use mathlib.Core.Bool.{Bool, cond}
 use mathlib.Core.List.{List, [], _∷_}
 use lib.ListN.{getD}
 use lib.Dec.{eqb}
 use Rattle.meaning.specs.Fields.{Field, word-at}
+use Rattle.meaning.specs.Grammar.{short-mark}
 use Rattle.meaning.specs.Opcode.{inst}
 use Rattle.meaning.specs.Constant.{Constant, number, text, other}
 use Rattle.meaning.specs.State.{Capture, Proto, State}
@@ -19,13 +20,17 @@ pub record Image : Type 0 where
 abbrev pub image-of-state : State → Image
 image-of-state s = record { prototypes = s .prototypes; constants = s .constants }
 
+-- E5: "its image uses tag 47 .. for every instruction"
+abbrev pub inst-tag : (wide : Bool) → ℕ
+inst-tag wide = cond wide 0x47 0x43
+
 -- the bytes of an instruction's payload: 43 has a mark of two bytes, 47 of four
 abbrev pub inst-size : (tag : ℕ) → ℕ
 inst-size tag = cond (eqb tag 0x47) 8 6
 
--- a mark, by the payload: two bytes, or four
+-- a mark, by the payload: two bytes, of which 65,535 says that there is none, or four
 abbrev pub mark-of : (tag : ℕ) → List ℕ → ℕ
-mark-of tag p = cond (eqb tag 0x47) (word-at p 4 * 65536 + word-at p 6) (word-at p 4)
+mark-of tag p = cond (eqb tag 0x47) (word-at p 4 * 65536 + word-at p 6) (short-mark (word-at p 4))
 
 -- an instruction
 abbrev pub inst-of : (tag : ℕ) → List ℕ → Instruction

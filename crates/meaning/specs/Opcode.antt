@@ -128,9 +128,9 @@ GetExcept = 50
 abbrev pub inst : (opcode a b c mark : ℕ) → Instruction
 inst opcode a b c mark = record { opcode = opcode; a = a; b = b; c = c; mark = mark }
 
--- the mark that stands for `None`
+-- the mark that stands for `None`, at either width (E5, "Absent is 4,294,967,295"); its two low bytes are 01's 65,535
 abbrev pub no-mark : ℕ
-no-mark = 65535
+no-mark = 4294967295
 
 -- an instruction whose b and c hold a 16-bit number, high byte first
 abbrev pub wide : (opcode a n mark : ℕ) → Instruction

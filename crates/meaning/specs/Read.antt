@@ -4,8 +4,8 @@ use mathlib.Core.Bool.{cond}
 use mathlib.Core.List.{List, [], _∷_}
 use lib.ListN.{getD, take, drop, length}
 use lib.Dec.{eqb}
-use Rattle.meaning.specs.Fields.{Field, field-at, words}
-use Rattle.meaning.specs.Grammar.{absent}
+use Rattle.meaning.specs.Fields.{Field, field-at}
+use Rattle.meaning.specs.Grammar.{absent, wide-marks, words-of}
 use Rattle.meaning.specs.Constant.{number, text, other}
 use Rattle.meaning.specs.Syntax.{Token, Expr, literal, variable, unary, binary, logical, call, function, Exprs, no-expr, and-expr, Stmt, expression, let-only, let-as, block, while, classic-for, for-in, break, continue, return-none, return, if, try, define, class, Stmts, no-stmt, and-stmt, Elifs, no-elif, and-elif, Fun, fun, Funs, no-fun, and-fun, Super, no-super, super}
 
@@ -137,7 +137,7 @@ read-stmt r i tag ws = getD stmt-readers (tag - 0x10) (λ r i ws. no-statement) 
 
 -- the words of node i
 abbrev pub words-at : List Field → ℕ → List ℕ
-words-at fs i = words (field-at fs i .payload)
+words-at fs i = words-of (wide-marks fs) (field-at fs i)
 
 -- the readers of nodes below `fuel`: children stand below their node, so a node's number is fuel enough for its children
 unfoldable pub readers : List Field → (fuel : ℕ) → Readers

@@ -7,6 +7,7 @@ use mathlib.Core.Option.{Option, none, some}
 use lib.ListN.{length}
 use lib.Dec.{eqb}
 use Rattle.meaning.specs.Fields.{fields}
+use Rattle.meaning.specs.Grammar.{wide-marks}
 use Rattle.meaning.specs.Check.{checked}
 use Rattle.meaning.specs.Opcode.{inst, bx, no-mark, Move, LoadK, Jmp, Test, Add, Sub, Div, Mod, Mul, Pow, Lt, Gt, Lte, Gte, Eq, Neq, Not, Neg, Call, Return, GetUpval, Closure, Class, ClassMeth, ClassStMeth, Addi, GetIter, GetIterk, GetIteri, Length, GetGlobal, SetGlobal, GetBuiltin, RegisterTryCatch, DeregisterTryCatch}
 use Rattle.meaning.specs.Constant.{Constant, number, text, other}
@@ -117,7 +118,7 @@ pub record Lowered (mode : ℕ) (tree : List ℕ) (work : ℕ) (bytes : List ℕ
   pub main : ℕ
   pub state : State
   pub lowering : lower-program mode (nodes - 1) (read-program (fields tree)) ≡ done main state
-  pub image-of : bytes ≡ image state
+  pub image-of : bytes ≡ image (wide-marks (fields tree)) state
 
 -- every prototype is safe, no step from any of its instructions leads out of it, and every walk from its first instruction stands within it
 pub record Demand3-over (step : List Instruction → ℕ → Option ℕ → Type 0) (s : State) : Type 0 where

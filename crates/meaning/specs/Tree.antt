@@ -6,29 +6,29 @@ use lib.ListN.{length}
 use lib.Dec.{leb, eqb}
 use Rattle.meaning.specs.Base.{count}
 use Rattle.meaning.specs.Fields.{Field}
-use Rattle.meaning.specs.Grammar.{items-of, kids}
+use Rattle.meaning.specs.Grammar.{items-in, kids, wide-marks}
 
--- the children of a node, in order
-unfoldable pub kids-of : Field → List ℕ
-kids-of f = kids (items-of (f .tag)) (f .payload)
+-- the children of a node, in order; `wide` says that marks have four bytes
+unfoldable pub kids-of : (wide : Bool) → Field → List ℕ
+kids-of wide f = kids (items-in wide (f .tag)) (f .payload)
 
 -- the children of all nodes
-unfoldable pub all-kids : List Field → List ℕ
-all-kids [] = []
-all-kids (f ∷ fs) = kids-of f ++ all-kids fs
+unfoldable pub all-kids : (wide : Bool) → List Field → List ℕ
+all-kids wide [] = []
+all-kids wide (f ∷ fs) = kids-of wide f ++ all-kids wide fs
 
 -- node c is a child exactly once
 unfoldable pub tree-at : List Field → ℕ → Bool
-tree-at fs c = eqb (count c (all-kids fs)) 1
+tree-at fs c = eqb (count c (all-kids (wide-marks fs) fs)) 1
 
 -- the lowest node that has c as a child, where the first of the list is node i
-unfoldable pub parent-by : (c i : ℕ) → List Field → ℕ
-parent-by c i [] = i
-parent-by c i (f ∷ fs) = cond (eqb (count c (kids-of f)) 0) (parent-by c (suc i) fs) i
+unfoldable pub parent-by : (wide : Bool) → (c i : ℕ) → List Field → ℕ
+parent-by wide c i [] = i
+parent-by wide c i (f ∷ fs) = cond (eqb (count c (kids-of wide f)) 0) (parent-by wide c (suc i) fs) i
 
 -- the lowest node that has c as a child, or the number of nodes where none has
 unfoldable pub parent-of : List Field → ℕ → ℕ
-parent-of fs c = parent-by c 0 fs
+parent-of fs c = parent-by (wide-marks fs) c 0 fs
 
 -- how deep node c stands, the last node being at 1: one deeper than its parent
 unfoldable pub depth-by : (parent : ℕ → ℕ) → (last fuel c : ℕ) → ℕ

@@ -1,7 +1,7 @@
 // The types that the crates share. The definitions of specs/ give document 01's number and values for each case of an enum.
 
-// The mark of an instruction that has none (01, "no mark").
-pub const NO_MARK: u32 = 65535;
+// The mark of an instruction that has none, at either width (02, E5); its two low bytes are 01's 65,535.
+pub const NO_MARK: u32 = 4294967295;
 
 // A constant. A number is its f64; a NaN keeps its 64 bits in a case of its own (docs/DECISIONS.md).
 pub enum Literal {

@@ -13,6 +13,6 @@ both room list (unmended c place) = (omega arith, omega arith)
 both room list (mended-to bytes es) = (omega (arith, length-append bytes (replicate (room - length bytes) 0)), omega (arith, list-size es, length-append (list-bytes es) (replicate (list - length (list-bytes es)) 0)))
 
 -- of what a call answers and leaves in output and list
-pub fits : (image : List ℕ) (room list : ℕ) (r : MendAnswer) (o l : List ℕ) → r ≡ mend-answer (mend-as 0x43 image room list) → o ≡ mend-output room (mend-as 0x43 image room list) → l ≡ mend-list list (mend-as 0x43 image room list)
+pub fits : (tag : ℕ) (image : List ℕ) (room list : ℕ) (r : MendAnswer) (o l : List ℕ) → r ≡ mend-answer (mend-as tag image room list) → o ≡ mend-output room (mend-as tag image room list) → l ≡ mend-list list (mend-as tag image room list)
     → (r .length ≤ length o) × (8 * r .entries ≤ length l)
-fits image room list r o l er eo el = rw (er, eo, el) (both room list (mend-as 0x43 image room list))
+fits tag image room list r o l er eo el = rw (er, eo, el) (both room list (mend-as tag image room list))

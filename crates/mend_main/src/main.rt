@@ -19,7 +19,7 @@ fn started(room: &mut [u8]) {
     large(room, 1);
 }
 
-// An entry of eight bytes stands for an instruction of nine, so the list is no longer than the image.
+// An entry of eight bytes stands for an instruction of nine or more, so the list is no longer than the image.
 fn few(image: &[u8]) {
     let mut out = [0u8; 65536];
     let mut list = [0u8; 65536];
@@ -32,12 +32,12 @@ fn never() -> bool {
     libc::getpid() == 0
 }
 
-// One byte more than 256 prototypes of 13 bytes, each with 65,535 captures of 5 and as many instructions of 9, and 1,024 constants of 11.
+// One byte more than 256 prototypes of 13 bytes, each with 65,535 captures of 5 and as many instructions of 11, and 1,024 constants of 11.
 fn large(read: &[u8], turns: usize) {
     if never() && 0 < turns {
         large(read, turns - 1);
     }
-    let mut room = [0u8; 234892033];
+    let mut room = [0u8; 268445953];
     more(read, &mut room);
 }
 
@@ -53,7 +53,7 @@ fn many(image: &[u8], turns: usize) {
     if never() && 0 < turns {
         many(image, turns - 1);
     }
-    let mut out = [0u8; 234892033];
+    let mut out = [0u8; 268445953];
     let mut list = [0u8; 134215680];
     told(image, &mut out, &mut list);
 }

@@ -10,7 +10,7 @@ use lib.ListN.{length, getD, take, drop, set, length-take, length-drop, length-s
 use lib.Seq.{drop-drop, getD-drop, getD-set-same, getD-set-other}
 use borrow.Author.Count.{below-more}
 use Rattle.meaning.specs.Fields.{word-at, span, whole, Field, front, rest, fields, field-at}
-use Rattle.meaning.specs.At.{tag-of, count-of}
+use Rattle.meaning.specs.At.{tag-of, file-words}
 use Rattle.meaning.proofs.Lists.{tail-part}
 use Rattle.meaning.proofs.FieldLaws.{whole-true, fields-whole, fields-cut}
 use Rattle.nodes.proofs.Words.{words-count}
@@ -74,7 +74,7 @@ module _ {tree work : List ℕ} {base node : ℕ} (h : Readable tree work base n
     pub payload-is : take (word-at tree (start + 1)) (drop (start + 3) tree) ≡ field-at (fields tree) node .payload
     payload-is = rw (here .1, size-drop tree start, drop-drop 3 start tree)
 
-    pub count-is : word-at tree (start + 1) / 2 ≡ count-of (fields tree) node
+    pub count-is : word-at tree (start + 1) / 2 ≡ length (file-words (fields tree) node)
     count-is =
         let n = simp (length-take, length-drop) at (ap length payload-is) in
         let h = words-count (field-at (fields tree) node .payload) in

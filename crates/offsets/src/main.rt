@@ -7,6 +7,7 @@ ghost use Rattle.meaning.specs.Opcode.{Jmp, no-mark, inst};
 use instruction::Halves;
 use instruction::OpCode;
 use meaning::Instruction;
+use meaning::NO_MARK;
 
 fn jump(h: Halves) -> Instruction
     ensures { λ r. ⌜ r ≡ inst Jmp 0 (h .b) (h .c) no-mark ⌝ }
@@ -16,7 +17,7 @@ fn jump(h: Halves) -> Instruction
         a: 0,
         b: h.b,
         c: h.c,
-        mark: 65535,
+        mark: NO_MARK,
     }
 }
 

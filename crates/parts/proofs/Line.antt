@@ -19,7 +19,7 @@ use Rattle.parts.specs.Parts.{Spare, Owing}
 pub record Line (w : List ℕ) (p : Scope) (s : Step) (a b e : ℕ) (w' : List ℕ) (r : Step) (u : Cost) : Type 0 where
   pub owing : Owing w p s a b e
   pub moves : Moves w p s w' p r u
-  pub image : (o : List ℕ) (ps : List Proto) → Image o s ps → Image o r ps
+  pub image : (o : List ℕ) (ps : List Proto) → Image p o s ps → Image p o r ps
 
 pub owing-from : {w : List ℕ} {p : Scope} {s : Step} {a b e : ℕ} → Fine w p s → Owing w p s a b e → Line w p s a b e w s nothing
 owing-from h o = record { owing = o; moves = none-moved h; image = λ l ps i. i }

@@ -5,9 +5,9 @@ use mathlib.Core.Path.{_≡_, ap, _∙_}
 use mathlib.Core.List.{List, [], _∷_}
 use native.Mathlib.Omega.{arith}
 use native.Mathlib.Numerals.{add-one}
-use lib.ListN.{length}
 use Rattle.meaning.specs.Fields.{words}
 use Rattle.meaning.specs.Read.{at, token}
+use Rattle.meaning.specs.At.{pair-place}
 use Rattle.meaning.specs.Syntax.{Token}
 use Rattle.meaning.specs.Functions.{parameters}
 use Rattle.meaning.specs.Opcode.{inst, GetIteri}
@@ -17,14 +17,14 @@ use Rattle.forward.specs.Forward.{Config, Run, bind, sure, emit, fwd-code, fwd-
 use Rattle.store.specs.declared.Step.{Step}
 use Rattle.store.specs.declared.Scope.{Scope}
 use Rattle.store.specs.Layout.{registers}
-use Rattle.store.specs.Store.{run, goes-on, Fine}
+use Rattle.store.specs.Store.{is-wide, run, goes-on, Fine}
 use Rattle.store.specs.Promise.{Cost, uses, a-register, a-local, a-parameter, some-registers, both, Room, Leaf}
 use Rattle.store.proofs.Compose.{moves-by, known}
 use Rattle.parts.specs.Parts.{tokens-from}
 use Rattle.parts.proofs.Line.{Line, Within, _▹_, from as line-from}
 use Rattle.parts.proofs.Counts.{named-takes, emit-keeps}
 use Rattle.parts.proofs.Named.{parameter-chain, iterate-each-chain}
-use Rattle.parts.proofs.Tokens.{left, left-all, left-none, left-more}
+use Rattle.parts.proofs.Tokens.{left, mark-in, left-all, left-none, left-more}
 
 -- the cost of k turns, of a words each
 abbrev pub turns : (a k : ℕ) → Cost
@@ -35,7 +35,7 @@ pub record Turned (op : ℕ → List Token → Config → Run) (l : List ℕ) (f
   pub most : k ≤ n
   pub line : Line w₀ p s₀ 0 0 0 w s (turns a k)
   pub counted : goes-on (s .outcome) → registers w (p .depth) ≡ registers w₀ (p .depth) + k
-  pub rest : (ps : List Proto) (x : Run) → x ≡ bind (run w p s ps) (op k (left l from n k)) → x ≡ bind (run w₀ p s₀ ps) (op 0 (tokens-from l from n))
+  pub rest : (ps : List Proto) (x : Run) → x ≡ bind (run w p s ps) (op k (left p l from n k)) → x ≡ bind (run w₀ p s₀ ps) (op 0 (tokens-from p l from n))
 
 -- the same line, its cost said with other numbers
 pub costing : {w w' : List ℕ} {p : Scope} {s r : Step} {a b e : ℕ} {u : Cost} (v : Cost) → Within u v → Line w p s a b e w' r u → Line w p s a b e w' r v
@@ -49,24 +49,24 @@ module _ {op : ℕ → List Token → Config → Run} {l : List ℕ} {from n a :
         most = omega arith;
         line = costing (turns a 0) (record { words = omega arith; locals = omega arith; names = omega arith; still = λ z. z; visits = omega arith }) (line-from h r);
         counted = λ g. omega arith;
-        rest = λ ps x e. e ∙ ap (λ t. bind (run w₀ p s₀ ps) (op 0 t)) (left-all l from n);
+        rest = λ ps x e. e ∙ ap (λ t. bind (run w₀ p s₀ ps) (op 0 t)) (left-all p l from n);
       }
 
   -- one turn more, of which x = the k-th pair
-  pub one-turn : {w w' : List ℕ} {s s' : Step} {k : ℕ} → Turned op l from n a w₀ p s₀ w s k → from + 2 * n ≤ length (words l) → k < n → Line w₀ p s₀ 0 0 0 w' s' (turns a (k + 1)) → (goes-on (s' .outcome) → registers w' (p .depth) ≡ registers w₀ (p .depth) + (k + 1))
-      → ((ps : List Proto) (x : Run) → x ≡ bind (run w' p s' ps) (op (suc k) (left l from n (k + 1))) → x ≡ bind (run w p s ps) (op k (token (at (words l) (from + 2 * k)) (at (words l) (from + 2 * k + 1)) ∷ left l from n (k + 1))))
+  pub one-turn : {w w' : List ℕ} {s s' : Step} {k : ℕ} → Turned op l from n a w₀ p s₀ w s k → k < n → Line w₀ p s₀ 0 0 0 w' s' (turns a (k + 1)) → (goes-on (s' .outcome) → registers w' (p .depth) ≡ registers w₀ (p .depth) + (k + 1))
+      → ((ps : List Proto) (x : Run) → x ≡ bind (run w' p s' ps) (op (suc k) (left p l from n (k + 1))) → x ≡ bind (run w p s ps) (op k (token (at (words l) (from + pair-place (is-wide p) k)) (mark-in p l from k) ∷ left p l from n (k + 1))))
       → Turned op l from n a w₀ p s₀ w' s' (k + 1)
-  one-turn {w} {w'} {s} {s'} {k} v inside less line counted turn =
+  one-turn {w} {w'} {s} {s'} {k} v less line counted turn =
       record {
         most = omega arith;
         line = line;
         counted = counted;
-        rest = λ ps x e. v .rest ps x (rw (left-more l from n k inside less) (turn ps x (rw (← (add-one k)) e)));
+        rest = λ ps x e. v .rest ps x (rw (left-more p l from n k less) (turn ps x (rw (← (add-one k)) e)));
       }
 
   -- no turn left
-  pub all-turned : {w : List ℕ} {s : Step} {k : ℕ} → Turned op l from n a w₀ p s₀ w s k → n ≤ k → (ps : List Proto) (x : Run) → x ≡ bind (run w p s ps) (op k []) → x ≡ bind (run w₀ p s₀ ps) (op 0 (tokens-from l from n))
-  all-turned {w} {s} {k} v done ps x e = v .rest ps x (rw (left-none l from n k done) e)
+  pub all-turned : {w : List ℕ} {s : Step} {k : ℕ} → Turned op l from n a w₀ p s₀ w s k → n ≤ k → (ps : List Proto) (x : Run) → x ≡ bind (run w p s ps) (op k []) → x ≡ bind (run w₀ p s₀ ps) (op 0 (tokens-from p l from n))
+  all-turned {w} {s} {k} v done ps x e = v .rest ps x (rw (left-none p l from n k done) e)
 
 -- ---- one turn of each loop
 
@@ -78,21 +78,21 @@ abbrev pub all-names : (node mark element : ℕ) → ℕ → List Token → Conf
 all-names node mark element i ts = fwd-code (iterate-each node mark element i ts)
 
 module _ (node name : ℕ) {l : List ℕ} {from n k : ℕ} {w₀ w w' : List ℕ} {p : Scope} {s₀ s s' : Step} where
-  pub parameter-turn : Turned (all-parameters node) l from n 1 w₀ p s₀ w s k → from + 2 * n ≤ length (words l) → k < n → name ≡ at (words l) (from + 2 * k)
+  pub parameter-turn : Turned (all-parameters node) l from n 1 w₀ p s₀ w s k → k < n → name ≡ at (words l) (from + pair-place (is-wide p) k)
       → Leaf w p s w' p s' (both a-register a-local) (a-parameter node name) → Turned (all-parameters node) l from n 1 w₀ p s₀ w' s' (k + 1)
-  parameter-turn v inside less e m =
-      one-turn v inside less (costing (turns 1 (k + 1)) (record { words = omega arith; locals = omega arith; names = omega arith; still = λ z. omega arith; visits = omega arith }) (v .line ▹ m))
+  parameter-turn v less e m =
+      one-turn v less (costing (turns 1 (k + 1)) (record { words = omega arith; locals = omega arith; names = omega arith; still = λ z. omega arith; visits = omega arith }) (v .line ▹ m))
       (λ g. omega (arith, named-takes node name m g .counted, v .counted (m .moves .back g)))
-      (λ ps x h. parameter-chain node (token (at (words l) (from + 2 * k)) (at (words l) (from + 2 * k + 1))) _ _ _ (rw (← e) (m .runs ps)) _ (known _ _ _ ps) x h)
+      (λ ps x h. parameter-chain node (token (at (words l) (from + pair-place (is-wide p) k)) (mark-in p l from k)) _ _ _ (rw (← e) (m .runs ps)) _ (known _ _ _ ps) x h)
 
 module _ (node mark element name : ℕ) {l : List ℕ} {from n k : ℕ} {w₀ w w1 w' : List ℕ} {p : Scope} {s₀ s s1 s' : Step} where
-  pub name-turn : Turned (all-names node mark element) l from n 3 w₀ p s₀ w s k → from + 2 * n ≤ length (words l) → k < n → name ≡ at (words l) (from + 2 * k)
+  pub name-turn : Turned (all-names node mark element) l from n 3 w₀ p s₀ w s k → k < n → name ≡ at (words l) (from + pair-place (is-wide p) k)
       → Leaf w p s w1 p s1 (both a-register a-local) (a-parameter node name) → Leaf w1 p s1 w' p s' (uses 2 0 0) (sure (emit (inst GetIteri (s1 .result) element k mark)))
       → Turned (all-names node mark element) l from n 3 w₀ p s₀ w' s' (k + 1)
-  name-turn v inside less e m i =
-      one-turn v inside less (costing (turns 3 (k + 1)) (record { words = omega arith; locals = omega arith; names = omega arith; still = λ z. omega arith; visits = omega arith }) (v .line ▹ m ▹ i))
+  name-turn v less e m i =
+      one-turn v less (costing (turns 3 (k + 1)) (record { words = omega arith; locals = omega arith; names = omega arith; still = λ z. omega arith; visits = omega arith }) (v .line ▹ m ▹ i))
       (λ g. omega (arith, emit-keeps _ i g .counted, named-takes node name m (i .moves .back g) .counted, v .counted (m .moves .back (i .moves .back g))))
-      (λ ps x h. iterate-each-chain node mark element k (token (at (words l) (from + 2 * k)) (at (words l) (from + 2 * k + 1))) _ _ _ (rw (← e) (m .runs ps)) _ (known _ _ _ ps) _ (i .runs ps) x h)
+      (λ ps x h. iterate-each-chain node mark element k (token (at (words l) (from + pair-place (is-wide p) k)) (mark-in p l from k)) _ _ _ (rw (← e) (m .runs ps)) _ (known _ _ _ ps) _ (i .runs ps) x h)
 
 -- each turn took a register, so k is a byte
 pub name-byte : (node mark element name : ℕ) {l : List ℕ} {from n k : ℕ} {w₀ w w1 : List ℕ} {p : Scope} {s₀ s s1 : Step} → Turned (all-names node mark element) l from n 3 w₀ p s₀ w s k → Leaf w p s w1 p s1 (both a-register a-local) (a-parameter node name)

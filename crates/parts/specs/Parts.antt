@@ -1,23 +1,22 @@
 -- The leaves of several calls: what they are given and what they promise, beside `Leaf`.
 use Prim.Native.Nat.{ℕ, _+_, _-_, _*_, _<_, _≤_, min}
 use mathlib.Core.List.{List}
-use lib.Seq.{slice}
 use Rattle.meaning.specs.Fields.{words}
-use Rattle.meaning.specs.Read.{tokens}
+use Rattle.meaning.specs.At.{pairs-in}
 use Rattle.meaning.specs.Syntax.{Token}
 use Rattle.store.specs.declared.Step.{Step}
 use Rattle.store.specs.declared.Scope.{Scope}
 use Rattle.store.specs.Layout.{edge, top}
-use Rattle.store.specs.Store.{while-going}
+use Rattle.store.specs.Store.{is-wide, while-going}
 use Rattle.store.specs.Promise.{Cost, uses, gives, live, taken}
 
 -- a result that is a register
 abbrev pub Small : Step → Type 0
 Small s = while-going (s .outcome) (s .result < 255)
 
--- the n pairs from word `from` of a payload on
-unfoldable pub tokens-from : (payload : List ℕ) (from n : ℕ) → List Token
-tokens-from payload from n = tokens (slice from (from + 2 * n) (words payload))
+-- the n pairs from word `from` of a payload on, with marks of the scope's width
+unfoldable pub tokens-from : Scope → (payload : List ℕ) (from n : ℕ) → List Token
+tokens-from p payload from n = pairs-in (is-wide p) (words payload) from n
 
 -- ---- the name of a global function or class is noted before its constant is stored
 

@@ -1,8 +1,6 @@
 // visit_enhanced_for_stmt: the head of the loop.
 ghost use Prim.Native.Nat.{ℕ, _+_, _*_, _<_, _≤_};
 ghost use mathlib.Core.List.{[], _∷_};
-ghost use lib.ListN.{length};
-ghost use Rattle.meaning.specs.Fields.{words};
 ghost use Rattle.meaning.specs.Read.{token};
 ghost use Rattle.meaning.specs.Statements.{iterate-each, iterate};
 ghost use Rattle.forward.specs.Forward.{fwd-code, open-for-in, head-for-in};
@@ -87,13 +85,13 @@ fn iterate_each(
     element: u32,
     mark: u32,
 ) -> Step
-    requires { ⌜ Fine (now work) scope step × Room (now work) scope step 0 0 0 × (from + 2 * n ≤ length (words (now payload))) × (n < 65536) × while-going (step .outcome) (element < 256) ⌝ }
-    ensures { λ r. ⌜ Leaf (now (work .entry)) scope step (now (work .exit)) scope r (both (some-registers n) (uses (3 * n) n 0)) (fwd-code (iterate-each node mark element 0 (tokens-from (now (payload .entry)) from n))) ⌝ }
+    requires { ⌜ Fine (now work) scope step × Room (now work) scope step 0 0 0 × (from < 65536) × (n < 65536) × while-going (step .outcome) (element < 256) ⌝ }
+    ensures { λ r. ⌜ Leaf (now (work .entry)) scope step (now (work .exit)) scope r (both (some-registers n) (uses (3 * n) n 0)) (fwd-code (iterate-each node mark element 0 (tokens-from scope (now (payload .entry)) from n))) ⌝ }
 {
     let mut last = step;
     let mut k: usize = 0;
     while k < n {
-        let name = nodes::child(payload, from + 2 * k);
+        let name = nodes::pair(payload, from, k, scope.wide);
         let next = store::declare_parameter(work, last, scope, name, node);
         last = code::emit(
             work,
@@ -123,11 +121,11 @@ fn iterate(
     counter: u32,
     mark: u32,
 ) -> Step
-    requires { ⌜ Fine (now work) scope step × Room (now work) scope step 0 3 1 × (1 ≤ n) × (from + 2 * n ≤ length (words (now payload))) × (n < 65536) × (counter + 3 < 255) × (collection < 256) ⌝ }
-    ensures { λ r. ⌜ Leaf (now (work .entry)) scope step (now (work .exit)) scope r (uses 3 1 0) (fwd-code (iterate node mark (counter + 3) collection counter (tokens-from (now (payload .entry)) from n))) ⌝ }
+    requires { ⌜ Fine (now work) scope step × Room (now work) scope step 0 3 1 × (1 ≤ n) × (from < 65536) × (n < 65536) × (counter + 3 < 255) × (collection < 256) ⌝ }
+    ensures { λ r. ⌜ Leaf (now (work .entry)) scope step (now (work .exit)) scope r (uses 3 1 0) (fwd-code (iterate node mark (counter + 3) collection counter (tokens-from scope (now (payload .entry)) from n))) ⌝ }
 {
     if n == 1 {
-        let name = nodes::child(payload, from);
+        let name = nodes::word(payload, from);
         return iterate_one(work, step, scope, name, collection, counter, mark);
     }
     let gotten = code::emit(
@@ -165,8 +163,8 @@ pub fn head_for_in(
     counter: u32,
     mark: u32,
 ) -> Step
-    requires { ⌜ Fine (now work) scope step × Room (now work) scope step 0 11 1 × (1 ≤ n) × (from + 2 * n ≤ length (words (now payload))) × (n < 65536) × while-going (step .outcome) ((counter + 3 < 255) × (step .result < 256)) ⌝ }
-    ensures { λ r. ⌜ Leaf (now (work .entry)) scope step (now (work .exit)) scope r (uses 11 1 0) (head-for-in node (tokens-from (now (payload .entry)) from n) counter mark) ⌝ }
+    requires { ⌜ Fine (now work) scope step × Room (now work) scope step 0 11 1 × (1 ≤ n) × (from < 65536) × (n < 65536) × while-going (step .outcome) ((counter + 3 < 255) × (step .result < 256)) ⌝ }
+    ensures { λ r. ⌜ Leaf (now (work .entry)) scope step (now (work .exit)) scope r (uses 11 1 0) (head-for-in node (tokens-from scope (now (payload .entry)) from n) counter mark) ⌝ }
 {
     let o = step.outcome;
     let Outcome::Accepted(_) = o else {

@@ -1,7 +1,5 @@
 // visit_function_expr and visit_fn_stmt: parameters, and the end of a body.
 ghost use Prim.Native.Nat.{_+_, _*_, _<_, _≤_};
-ghost use lib.ListN.{length};
-ghost use Rattle.meaning.specs.Fields.{words};
 ghost use Rattle.meaning.specs.Read.{token};
 ghost use Rattle.meaning.specs.Functions.{parameters};
 ghost use Rattle.forward.specs.Forward.{fwd-zero, open-function, open-fun, end-function};
@@ -26,13 +24,13 @@ fn parameters(
     from: usize,
     n: usize,
 ) -> Step
-    requires { ⌜ Fine (now work) scope step × Room (now work) scope step 0 0 0 × (from + 2 * n ≤ length (words (now payload))) ⌝ }
-    ensures { λ r. ⌜ Leaf (now (work .entry)) scope step (now (work .exit)) scope r (both (some-registers n) (uses n n 0)) (fwd-zero (parameters node (tokens-from (now (payload .entry)) from n))) × (r .result < 255) ⌝ }
+    requires { ⌜ Fine (now work) scope step × Room (now work) scope step 0 0 0 × ((from < 65536) × (n < 65536)) ⌝ }
+    ensures { λ r. ⌜ Leaf (now (work .entry)) scope step (now (work .exit)) scope r (both (some-registers n) (uses n n 0)) (fwd-zero (parameters node (tokens-from scope (now (payload .entry)) from n))) × (r .result < 255) ⌝ }
 {
     let mut last = step;
     let mut k: usize = 0;
     while k < n {
-        let name = nodes::child(payload, from + 2 * k);
+        let name = nodes::pair(payload, from, k, scope.wide);
         last = store::declare_parameter(work, last, scope, name, node);
         k += 1;
     }
@@ -49,8 +47,8 @@ pub fn open_function(
     from: usize,
     n: usize,
 ) -> Step
-    requires { ⌜ Fine (now work) scope step × Room (now work) scope step 0 0 0 × (from + 2 * n ≤ length (words (now payload))) ⌝ }
-    ensures { λ r. ⌜ Leaf (now (work .entry)) scope step (now (work .exit)) scope r (both (some-registers (1 + n)) (uses n n 0)) (open-function node (tokens-from (now (payload .entry)) from n)) × Small r ⌝ }
+    requires { ⌜ Fine (now work) scope step × Room (now work) scope step 0 0 0 × ((from < 65536) × (n < 65536)) ⌝ }
+    ensures { λ r. ⌜ Leaf (now (work .entry)) scope step (now (work .exit)) scope r (both (some-registers (1 + n)) (uses n n 0)) (open-function node (tokens-from scope (now (payload .entry)) from n)) × Small r ⌝ }
 {
     let own = store::next_register(work, step, scope, node);
     parameters(payload, work, own, scope, node, from, n)
@@ -68,8 +66,8 @@ pub fn open_fun(
     from: usize,
     n: usize,
 ) -> Step
-    requires { ⌜ Fine (now work) scope step × Room (now work) scope step 0 0 0 × (name < 65536) × (from + 2 * n ≤ length (words (now payload))) ⌝ }
-    ensures { λ r. ⌜ Leaf (now (work .entry)) scope step (now (work .exit)) scope r (both (some-registers (1 + n)) (uses (3 + n) (1 + n) 0)) (open-fun node (token name mark) (tokens-from (now (payload .entry)) from n)) × Small r ⌝ }
+    requires { ⌜ Fine (now work) scope step × Room (now work) scope step 0 0 0 × (name < 65536) × ((from < 65536) × (n < 65536)) ⌝ }
+    ensures { λ r. ⌜ Leaf (now (work .entry)) scope step (now (work .exit)) scope r (both (some-registers (1 + n)) (uses (3 + n) (1 + n) 0)) (open-fun node (token name mark) (tokens-from scope (now (payload .entry)) from n)) × Small r ⌝ }
 {
     let own = store::declare_parameter(work, step, scope, name, node);
     let last = parameters(payload, work, own, scope, node, from, n);

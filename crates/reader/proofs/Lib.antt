@@ -3,6 +3,7 @@ pub mod Glances
 pub mod Tested
 pub mod Quick
 pub mod Scanned
+pub mod Widths
 pub mod Runs
 pub mod Blocks
 pub mod Locates

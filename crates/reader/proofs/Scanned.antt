@@ -14,6 +14,7 @@ use Rattle.meaning.specs.Opcode.{inst}
 use Rattle.meaning.specs.Steps.{inst-at}
 use Rattle.reader.specs.declared.facts.Around.{Around}
 use Rattle.meaning.specs.Fields.{word-at}
+use Rattle.meaning.specs.Grammar.{short-mark}
 use Rattle.meaning.specs.Images.{inst-size, inst-of, capture-of}
 use Rattle.reader.specs.Laid.{code-in, captures-in, proto-in, proto-span}
 use Rattle.reader.specs.Tests.{closure-seen, text-seen, lawful-seen, seen-test, local-need, outer-need}
@@ -63,7 +64,7 @@ inst-size-small tag = go (eqb tag 0x47)
     go false = (omega arith, omega arith)
 
 -- what stands from a place on, byte by byte
-pub inst-read : (s : List ℕ) (tag at m : ℕ) → m ≡ cond (eqb tag 0x47) (word-at s (at + 4) * 65536 + word-at s (at + 4 + 2)) (word-at s (at + 4))
+pub inst-read : (s : List ℕ) (tag at m : ℕ) → m ≡ cond (eqb tag 0x47) (word-at s (at + 4) * 65536 + word-at s (at + 4 + 2)) (short-mark (word-at s (at + 4)))
     → inst (getD s at 0) (getD s (at + 1) 0) (getD s (at + 2) 0) (getD s (at + 3) 0) m ≡ inst-of tag (drop at s)
 inst-read s tag at m e =
     let b0 = byte-at s at 0 at (omega arith) in

@@ -5,6 +5,7 @@ mod marks;
 mod order;
 mod rules;
 mod texts;
+mod width;
 
 pub use facts::is_replaced;
 pub use locate::heads;
@@ -13,6 +14,7 @@ use meaning::Instruction;
 use meaning::Outcome;
 use order::Spot;
 pub use order::inst_size;
+pub use width::image_tag;
 ghost use mathlib.Core.Path.{_≡_};
 ghost use mathlib.Core.Logic.{_⊎_};
 ghost use Prim.Native.Nat.{_<_, _≤_};
@@ -20,7 +22,7 @@ ghost use lib.ListN.{length};
 ghost use Rattle.meaning.specs.Fields.{fields, word-at};
 ghost use Rattle.meaning.specs.Images.{Image, image-of};
 ghost use Rattle.meaning.specs.Steps.{inst-at};
-ghost use Rattle.meaning.specs.Reader.{broken, ruled, read-as, read-outcome};
+ghost use Rattle.meaning.specs.Reader.{broken, ruled, image-tag, read-image, read-outcome};
 ghost use Rattle.meaning.specs.Mend.{read-mended};
 ghost use Rattle.reader.specs.Spots.{spot-of};
 ghost use Rattle.reader.specs.Lens.{lens-image, read-by};
@@ -74,18 +76,18 @@ fn read_as(image: &[u8], tag: u8, mend: bool) -> Outcome
     }
 }
 
-// An image is taken, with the number of its fields, or refused.
+// An image of either width is taken, with the number of its fields, or refused.
 pub fn read(image: &[u8]) -> Outcome
-    ensures { λ r. ⌜ r ≡ read-outcome (length (fields (now (image .entry)))) (read-as 0x43 (now (image .entry))) ⌝ }
+    ensures { λ r. ⌜ r ≡ read-outcome (length (fields (now (image .entry)))) (read-image (now (image .entry))) ⌝ }
 {
-    read_as(image, 0x43, false)
+    read_as(image, image_tag(image), false)
 }
 
 // The same of its mended copy (E9), where the fields of the image are in order.
 pub fn read_mended(image: &[u8]) -> Outcome
-    ensures { λ r. ⌜ r ≡ read-outcome (length (fields (now (image .entry)))) (read-mended 0x43 (now (image .entry))) ⌝ }
+    ensures { λ r. ⌜ r ≡ read-outcome (length (fields (now (image .entry)))) (read-mended (image-tag (now (image .entry))) (now (image .entry))) ⌝ }
 {
-    read_as(image, 0x43, true)
+    read_as(image, image_tag(image), true)
 }
 
 // The part of an image in order from prototype q on; where there are not so many, that behind the last, which is the constants.

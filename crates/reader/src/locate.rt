@@ -4,10 +4,11 @@ use fields::word;
 use meaning::Instruction;
 ghost use mathlib.Core.Path.{_≡_};
 ghost use mathlib.Core.Bool.{true, false, cond};
-ghost use Prim.Native.Nat.{_+_, _*_, _≤_};
+ghost use Prim.Native.Nat.{_+_, _*_, _<_, _≤_};
 ghost use lib.ListN.{length, getD, drop};
 ghost use lib.Dec.{eqb};
 ghost use Rattle.meaning.specs.Fields.{fields, whole, word-at};
+ghost use Rattle.meaning.specs.Grammar.{short-mark};
 ghost use Rattle.meaning.specs.Images.{inst-size, inst-of, image-of};
 ghost use Rattle.reader.specs.Laid.{part-from, Ordered, Located};
 
@@ -39,15 +40,26 @@ pub(crate) fn prototype<'a>(image: &'a [u8], tag: u8, size: usize, q: usize) -> 
     t
 }
 
+// A mark of two bytes: 65,535 is none, which is 4,294,967,295 at either width.
+fn short_mark(v: usize) -> u32
+    requires { ⌜ v < 65536 ⌝ }
+    ensures { λ r. ⌜ r ≡ short-mark v ⌝ }
+{
+    if v == 65535 {
+        return 4294967295;
+    }
+    v as u32
+}
+
 // The mark at a place: two bytes, with 47 four.
 fn mark_at(s: &[u8], tag: u8, at: usize) -> u32
     requires { ⌜ (at + 2 ≤ length (now s)) × (tag ≡ 0x47 → at + 4 ≤ length (now s)) ⌝ }
-    ensures { λ r. ⌜ r ≡ cond (eqb tag 0x47) (word-at (now (s .entry)) at * 65536 + word-at (now (s .entry)) (at + 2)) (word-at (now (s .entry)) at) ⌝ }
+    ensures { λ r. ⌜ r ≡ cond (eqb tag 0x47) (word-at (now (s .entry)) at * 65536 + word-at (now (s .entry)) (at + 2)) (short-mark (word-at (now (s .entry)) at)) ⌝ }
 {
     if tag == 0x47 {
         return (word(s, at) * 65536 + word(s, at + 2)) as u32;
     }
-    word(s, at) as u32
+    short_mark(word(s, at))
 }
 
 // The instruction whose payload stands at a place.

@@ -29,7 +29,7 @@ block-around {p = p} {u = u} h k e m g =
 sound-loops : {w : List ℕ} (p q : Scope) → q .nodes ≡ p .nodes → q .depth ≡ p .depth → q .block ≡ p .block → q .loops ≤ p .nodes + 10 → Sound w p → Sound w q
 sound-loops {w} p q n d b l h = again (q .nodes) (q .depth) (q .block) n d b
   where
-    again : (x y z : ℕ) → x ≡ p .nodes → y ≡ p .depth → z ≡ p .block → Sound w (record { nodes = x; depth = y; block = z; loops = q .loops; mode = q .mode })
+    again : (x y z : ℕ) → x ≡ p .nodes → y ≡ p .depth → z ≡ p .block → Sound w (record { nodes = x; depth = y; block = z; loops = q .loops; mode = q .mode; wide = q .wide })
     again x y z e f g =
         rw (e, f, g)
         (record { some = h .some; few = h .few; long = h .long; deep = h .deep; blocks = h .blocks; loops = l; sorted = h .sorted; main = h .main; starts = h .starts; count = h .count; linked = h .linked })

@@ -57,7 +57,7 @@ module _ {w w' : List ℕ} {p : Scope} (h : Sound w p) (lim : p .block < p .node
       ∙ span-more (block w' (p .nodes)) a (p .block) l
       ∙ ap₂ (λ x y. x ∷ y) opened-new (opened-blocks a (p .block) (omega arith))
 
-  pub opened-sound : (d l : ℕ) → d ≤ 8 → l ≤ p .nodes + 10 → ((j : ℕ) → j ≤ d → first w' j < p .block + 1) → Sound w' (record { nodes = p .nodes; depth = d; block = p .block + 1; loops = l; mode = p .mode })
+  pub opened-sound : (d l : ℕ) → d ≤ 8 → l ≤ p .nodes + 10 → ((j : ℕ) → j ≤ d → first w' j < p .block + 1) → Sound w' (record { nodes = p .nodes; depth = d; block = p .block + 1; loops = l; mode = p .mode; wide = p .wide })
   opened-sound d l dl ll st =
       record {
         some = h .some;

@@ -93,7 +93,7 @@ room-by {w} {p} {s} {k} {a} {b} k' a' b' x y h = record { roomy = promised (s .o
 -- ---- runs
 
 -- a leaf, among steps that write to the output
-pub leaf-after : {w w' : List ℕ} {p q : Scope} {s r : Step} {u : Cost} {op : Config → Run} → Leaf w p s w' q r u op → (o : List ℕ) (ps : List Proto) → Image o s ps → After w' o q r (bind (run w p s ps) op)
+pub leaf-after : {w w' : List ℕ} {p q : Scope} {s r : Step} {u : Cost} {op : Config → Run} → Leaf w p s w' q r u op → (o : List ℕ) (ps : List Proto) → Image p o s ps → After w' o q r (bind (run w p s ps) op)
 leaf-after g o ps i = record { protos = ps; image = g .image o ps i; runs = g .runs ps }
 
 pub leaf-does : {w w' : List ℕ} {p q : Scope} {s r : Step} {u : Cost} {op : Config → Run} → Leaf w p s w' q r u op → (o : List ℕ) → Does w o p s w' o q r u op
@@ -153,7 +153,7 @@ settled {w} {p} s r small h =
             still = λ z. refl;
           };
       runs = λ ps. by-result w p s r ps;
-      image = image-same s (with-result s r) refl refl;
+      image = image-same p s (with-result s r) refl refl;
     }
   where
     limit : (o : Outcome) → r < result-limit o
@@ -176,9 +176,9 @@ refused-leaf {w} {p} s k n u h = record { moves = moves (s .outcome) refl; runs 
     moves (Accepted x) e = refused-moves s k n u h e
     moves (Refused x y) e = rw (← (refused-again s k n e)) (absorbed u h e)
 
-    image : (x : Outcome) → s .outcome ≡ x → (o : List ℕ) (ps : List Proto) → Image o s ps → Image o (refused-step s k n) ps
-    image (Accepted x) e = image-none s (refused-step s k n) (refused-outcome s k n e)
-    image (Refused x y) e = image-same s (refused-step s k n) (sym (ap (λ (z : Step). z .outcome) (refused-again s k n e))) refl
+    image : (x : Outcome) → s .outcome ≡ x → (o : List ℕ) (ps : List Proto) → Image p o s ps → Image p o (refused-step s k n) ps
+    image (Accepted x) e = image-none p s (refused-step s k n) (refused-outcome s k n e)
+    image (Refused x y) e = image-same p s (refused-step s k n) (sym (ap (λ (z : Step). z .outcome) (refused-again s k n e))) refl
 
 -- a question to the state, whose answer the words give
 pub told-of : {A : Type 0} (w : List ℕ) (p : Scope) (s : Step) (f : State → A) (a : A) → ((ps : List Proto) → f (state-of w p s ps) ≡ a) → Tells w p s a (get f)

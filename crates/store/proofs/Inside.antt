@@ -62,7 +62,7 @@ module _ {w w' : List ℕ} {p : Scope} {r : Step} (fine : Fine w (inner p) r) (h
   closed-around : p .depth < 7 → around w (p .nodes) (p .depth + 1) ≡ open-at w' (p .nodes) (p .depth) (p .block) (p .loops) ∷ around w' (p .nodes) (p .depth)
   unfolding around
   closed-around deep =
-      sym (left-around {p = record { nodes = p .nodes; depth = p .depth + 1; block = p .block; loops = 0; mode = p .mode }} fine (record { same = g .same; other = g .other; linked = g .linked }) (omega arith))
+      sym (left-around {p = record { nodes = p .nodes; depth = p .depth + 1; block = p .block; loops = 0; mode = p .mode; wide = p .wide }} fine (record { same = g .same; other = g .other; linked = g .linked }) (omega arith))
       ∙ ap (λ d. around w' (p .nodes) d) (add-one (p .depth))
       ∙ ap₂ (λ e l. open-at w' (p .nodes) (p .depth) e l ∷ around w' (p .nodes) (p .depth)) (word (3075 + 8 * suc (p .depth)) (omega arith) ∙ here .first-is) (word (3076 + 8 * suc (p .depth)) (omega arith) ∙ here .saved-is)
 

@@ -118,8 +118,8 @@ module _ (w w1 w2 w' : List ℕ) (n : ℕ) (some : 1 ≤ n) (few : n ≤ 32768) 
       empty b h (yes e) = omega (arith, half-even w' (24576 + 20 * n + b) e, heads ((24576 + 20 * n + b) / 2) (omega arith) (omega arith))
       empty b h (no e) = omega (arith, half-odd w' (24576 + 20 * n + b) e, heads ((24576 + 20 * n + b) / 2) (omega arith) (omega arith))
 
-  start-sound : (mode : ℕ) → Sound w' (main-scope mode n)
-  start-sound mode =
+  start-sound : (mode wide : ℕ) → Sound w' (main-scope mode wide n)
+  start-sound mode wide =
       let e = edges 1 (omega arith) in
       record {
         some = some;
@@ -135,14 +135,14 @@ module _ (w w1 w2 w' : List ℕ) (n : ℕ) (some : 1 ≤ n) (few : n ≤ 32768) 
         linked = start-linked;
       }
 
-  start-fine : (mode : ℕ) → Fine w' (main-scope mode n) first-step
-  start-fine mode =
+  start-fine : (mode wide : ℕ) → Fine w' (main-scope mode wide n) first-step
+  start-fine mode wide =
       let e = edges 1 (omega arith) in
-      record { sound = start-sound mode; nested = omega arith; room = omega arith; constants = omega arith; globals = omega arith; functions = omega arith; written = omega arith; result = omega arith }
+      record { sound = start-sound mode wide; nested = omega arith; room = omega arith; constants = omega arith; globals = omega arith; functions = omega arith; written = omega arith; result = omega arith }
 
-  start-room : (mode : ℕ) → Room w' (main-scope mode n) first-step n 0 0
+  start-room : (mode wide : ℕ) → Room w' (main-scope mode wide n) first-step n 0 0
   unfolding taken
-  start-room mode =
+  start-room mode wide =
       let e = edges 1 (omega arith) in
       record { roomy = record { words = omega (arith, framed .registers-none); locals = omega (arith, framed .registers-none); globals = omega arith } }
 
@@ -151,9 +151,9 @@ module _ (w w1 w2 w' : List ℕ) (n : ℕ) (some : 1 ≤ n) (few : n ≤ 32768) 
       span-more (block w' n) 0 0 (omega arith)
       ∙ ap₂ (λ b l. b ∷ l) (rw (edges 1 (omega arith)) (span-none (local-at w' n) (edge w' n 0) 0 (omega arith))) (span-none (block w' n) 0 0 (omega arith))
 
-  start-runs : (mode : ℕ) → run w' (main-scope mode n) first-step [] ≡ going (config [] 0 start)
+  start-runs : (mode wide : ℕ) → run w' (main-scope mode wide n) first-step [] ≡ going (config [] 0 start)
   unfolding run config-of state-of open-at around tab stack
-  start-runs mode = rw (framed .name-is, framed .registers-none, framed .held-none, framed .first-is, start-blocks)
+  start-runs mode wide = rw (framed .name-is, framed .registers-none, framed .held-none, framed .first-is, start-blocks)
 
   -- the count of visits is not among these words
   count : getD w' 3077 0 ≡ getD w 3077 0
@@ -171,6 +171,6 @@ module _ (w w1 w2 w' : List ℕ) (n : ℕ) (some : 1 ≤ n) (few : n ≤ 32768) 
         fine = start-fine;
         room = start-room;
         runs = start-runs;
-        image = λ o. record { counted = refl; sized = refl; bytes = λ h. refl };
+        image = λ mode wide o. record { counted = refl; sized = refl; bytes = λ h. refl };
         counts = ap (λ x. x % 4294967296) (count ∙ ap (λ l. getD l 3077 0) e ∙ getD-set-same w0 3077 1 0 (omega (arith, ap length e, length-set w0 3077 1)));
       }

@@ -76,7 +76,7 @@ module _ (w : List ℕ) (p : Scope) (s : Step) (fine : Fine w p s) (shallow : p 
       record {
         moves = refused-moves s Constants node a-constant fine on;
         runs = λ ps. ran-out w w p p s (refused-step s Constants node) (add-constant node v) ps give x Constants node on (refused-outcome s Constants node on) (out-of-constants node v h ps);
-        image = image-none s (refused-step s Constants node) (refused-outcome s Constants node on);
+        image = image-none p s (refused-step s Constants node) (refused-outcome s Constants node on);
       }
 
   module _ (kind high low : ℕ) (left : ¬ (s .constants ≡ 1024)) where
@@ -132,7 +132,7 @@ module _ (w : List ℕ) (p : Scope) (s : Step) (fine : Fine w p s) (shallow : p 
           moves = constant-moves;
           runs = λ ps. ran w w' p p s (constant-more s) (add-constant node (constant-by kind high low)) ps (s .constants) (λ a b. a) x x on on
               (code-same w w' (p .nodes) (s .code) (omega (arith, fine .room)) (above (top (p .nodes) - 2 * s .code) (top (p .nodes)) (omega (arith, fine .room, few)) only)) refl (constant-next node ps);
-          image = image-same s (constant-more s) refl refl;
+          image = image-same p s (constant-more s) refl refl;
         }
 
 -- ---- globals
@@ -191,7 +191,7 @@ module _ (w : List ℕ) (p : Scope) (s : Step) (fine : Fine w p s) (shallow : p 
         moves = global-moves;
         runs = λ ps. ran w global-words p p s (global-more s) (add-global name) ps tt (λ a b. b) x x on on
             (code-same w global-words (p .nodes) (s .code) (omega (arith, fine .room)) (above (top (p .nodes) - 2 * s .code) (top (p .nodes)) (omega (arith, fine .room, within)) global-only)) refl (global-next ps);
-        image = image-same s (global-more s) refl refl;
+        image = image-same p s (global-more s) refl refl;
       }
 
 pub global-here : (p : Scope) → global-scope p ≡ true → (p .depth ≡ 0) × (p .block ≡ 1)

@@ -134,7 +134,7 @@ module _ (w w' : List ℕ) (p : Scope) (s : Step) (v : ℕ) (fine : Fine w p s) 
       record {
         moves = rw one at (registers-moves (registers w (p .depth)) x (omega (arith, below-256 (getD w (3073 + 8 * p .depth) 0))) on);
         runs = λ ps. ran w w' p p s (with-result s (registers w (p .depth))) (next-register node) ps (registers w (p .depth)) (λ a b. a) x x on on registers-code refl (register-next node one ne ps);
-        image = image-same s (with-result s (registers w (p .depth))) refl refl;
+        image = image-same p s (with-result s (registers w (p .depth))) refl refl;
       }
 
   -- several
@@ -147,7 +147,7 @@ module _ (w w' : List ℕ) (p : Scope) (s : Step) (v : ℕ) (fine : Fine w p s) 
       record {
         moves = registers-moves 0 x (omega arith) on;
         runs = λ ps. ran w w' p p s (with-result s 0) (next-registers node v) ps tt (λ a b. 0) x x on on registers-code refl (registers-next node fits ps);
-        image = image-same s (with-result s 0) refl refl;
+        image = image-same p s (with-result s 0) refl refl;
       }
 
 -- ---- no register is left
@@ -162,7 +162,7 @@ module _ (w : List ℕ) (p : Scope) (s : Step) (fine : Fine w p s) (x : ℕ) (on
       record {
         moves = refused-moves s Registers node a-register fine on;
         runs = λ ps. ran-out w w p p s (refused-step s Registers node) (next-register node) ps give x Registers node on (refused-outcome s Registers node on) (out-of-one node h ps);
-        image = image-none s (refused-step s Registers node) (refused-outcome s Registers node on);
+        image = image-none p s (refused-step s Registers node) (refused-outcome s Registers node on);
       }
 
   out-of-many : (node n : ℕ) → 255 < registers w (p .depth) + n → (ps : List Proto) → next-registers node n (state-of w p s ps) ≡ refused Registers node
@@ -174,7 +174,7 @@ module _ (w : List ℕ) (p : Scope) (s : Step) (fine : Fine w p s) (x : ℕ) (on
       record {
         moves = refused-moves s Registers node (some-registers n) fine on;
         runs = λ ps. ran-out w w p p s (refused-step s Registers node) (next-registers node n) ps add-zero x Registers node on (refused-outcome s Registers node on) (out-of-many node n h ps);
-        image = image-none s (refused-step s Registers node) (refused-outcome s Registers node on);
+        image = image-none p s (refused-step s Registers node) (refused-outcome s Registers node on);
       }
 
 -- the word that is stored

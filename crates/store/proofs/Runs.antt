@@ -7,7 +7,7 @@ use Rattle.store.specs.declared.Step.{Step}
 use Rattle.store.specs.declared.Scope.{Scope}
 use Rattle.store.specs.Table.{tab}
 use Rattle.store.specs.Layout.{inst-at}
-use Rattle.store.specs.Store.{state-of, config-of, run, image-by, Image, goes-on, while-going, Fine, Kept}
+use Rattle.store.specs.Store.{state-of, config-of, run, code-tag, image-by, Image, goes-on, while-going, Fine, Kept}
 use Rattle.store.specs.Promise.{Cost, Moves, Leaf}
 use Rattle.meaning.specs.State.{Proto, M, refused, done}
 use Rattle.meaning.specs.declared.Cause.{Cause}
@@ -99,11 +99,11 @@ leaf-absorbed {w} {p} {s} u op {k} {n} h e = record { moves = absorbed u h e; ru
 
 -- ---- the image: prototypes and their bytes stay
 
-image-of : (o : List ℕ) (x y : Outcome) (f g : ℕ) (ps : List Proto) → y ≡ x → g ≡ f → image-by x o f ps → image-by y o g ps
-image-of o x y f g ps e h i = rw (e, h) i
+image-of : (t : ℕ) (o : List ℕ) (x y : Outcome) (f g : ℕ) (ps : List Proto) → y ≡ x → g ≡ f → image-by t x o f ps → image-by t y o g ps
+image-of t o x y f g ps e h i = rw (e, h) i
 
-pub image-same : (s r : Step) → r .outcome ≡ s .outcome → r .functions ≡ s .functions → (o : List ℕ) (ps : List Proto) → Image o s ps → Image o r ps
-image-same s r e h o ps i = image-of o (s .outcome) (r .outcome) (s .functions) (r .functions) ps e h i
+pub image-same : (p : Scope) (s r : Step) → r .outcome ≡ s .outcome → r .functions ≡ s .functions → (o : List ℕ) (ps : List Proto) → Image p o s ps → Image p o r ps
+image-same p s r e h o ps i = image-of (code-tag p) o (s .outcome) (r .outcome) (s .functions) (r .functions) ps e h i
 
-pub image-none : (s r : Step) {k : Cause} {n : ℕ} → r .outcome ≡ Refused k n → (o : List ℕ) (ps : List Proto) → Image o s ps → Image o r ps
-image-none s r e o ps i = rw e tt
+pub image-none : (p : Scope) (s r : Step) {k : Cause} {n : ℕ} → r .outcome ≡ Refused k n → (o : List ℕ) (ps : List Proto) → Image p o s ps → Image p o r ps
+image-none p s r e o ps i = rw e tt

@@ -124,5 +124,5 @@ module _ (w w' : List ℕ) (p : Scope) (s : Step) (fine : Fine w p s) (deep : p 
               still = λ z. edge-kept (p .block);
             };
         tells = λ ps. rw (run-going w p s ps x on, run-stopped w' p (refused-step s Captures node) ps Captures node (refused-outcome s Captures node on)) (tells-full node none ps e);
-        image = image-none s (refused-step s Captures node) (refused-outcome s Captures node on);
+        image = image-none p s (refused-step s Captures node) (refused-outcome s Captures node on);
       }

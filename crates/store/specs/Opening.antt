@@ -32,10 +32,10 @@ pub record Framed (w : List ℕ) (j name block loops : ℕ) (w' : List ℕ) : Ty
 pub record Begun (w : List ℕ) (n : ℕ) (w' : List ℕ) : Type 0 where
   pub same : length w' ≡ length w
   pub offsets : (i : ℕ) → 12288 + 15 * n ≤ i → getD w' i 0 ≡ getD w i 0
-  pub fine : (mode : ℕ) → Fine w' (main-scope mode n) first-step
-  pub room : (mode : ℕ) → Room w' (main-scope mode n) first-step n 0 0
-  pub runs : (mode : ℕ) → run w' (main-scope mode n) first-step [] ≡ going (config [] 0 start)
-  pub image : (o : List ℕ) → Image o first-step []
+  pub fine : (mode wide : ℕ) → Fine w' (main-scope mode wide n) first-step
+  pub room : (mode wide : ℕ) → Room w' (main-scope mode wide n) first-step n 0 0
+  pub runs : (mode wide : ℕ) → run w' (main-scope mode wide n) first-step [] ≡ going (config [] 0 start)
+  pub image : (mode wide : ℕ) (o : List ℕ) → Image (main-scope mode wide n) o first-step []
   -- the program is visited
   pub counts : visited w' ≡ 1
 

@@ -127,13 +127,13 @@ pub record Moves (w : List ℕ) (p : Scope) (s : Step) (w' : List ℕ) (q : Scop
 pub record Leaf (w : List ℕ) (p : Scope) (s : Step) (w' : List ℕ) (q : Scope) (r : Step) (u : Cost) (op : Config → Run) : Type 0 where
   pub moves : Moves w p s w' q r u
   pub runs : (ps : List Proto) → run w' q r ps ≡ bind (run w p s ps) op
-  pub image : (o : List ℕ) (ps : List Proto) → Image o s ps → Image o r ps
+  pub image : (o : List ℕ) (ps : List Proto) → Image p o s ps → Image q o r ps
 
 -- a step that answers a question of the definition, with a
 pub record Told {A : Type 0} (w : List ℕ) (p : Scope) (s : Step) (w' : List ℕ) (q : Scope) (r : Step) (u : Cost) (a : A) (m : M A) : Type 0 where
   pub moves : Moves w p s w' q r u
   pub tells : (ps : List Proto) → Answers (run w p s ps) m a (run w' q r ps)
-  pub image : (o : List ℕ) (ps : List Proto) → Image o s ps → Image o r ps
+  pub image : (o : List ℕ) (ps : List Proto) → Image p o s ps → Image q o r ps
 
 -- a question that changes nothing
 abbrev pub Tells : {A : Type 0} → List ℕ → Scope → Step → A → M A → Type 0
@@ -142,14 +142,14 @@ Tells w p s a m = (ps : List Proto) → Answers (run w p s ps) m a (run w p s ps
 -- the prototypes that the output then holds, and what the step then stands for
 pub record After (w' o' : List ℕ) (q : Scope) (r : Step) (x : Run) : Type 0 where
   pub protos : List Proto
-  pub image : Image o' r protos
+  pub image : Image q o' r protos
   pub runs : run w' q r protos ≡ x
 
 -- any step does `op`
 pub record Does (w o : List ℕ) (p : Scope) (s : Step) (w' o' : List ℕ) (q : Scope) (r : Step) (u : Cost) (op : Config → Run) : Type 0 where
   pub moves : Moves w p s w' q r u
   pub same : length o' ≡ length o
-  pub does : (ps : List Proto) → Image o s ps → After w' o' q r (bind (run w p s ps) op)
+  pub does : (ps : List Proto) → Image p o s ps → After w' o' q r (bind (run w p s ps) op)
 
 -- one visit more is counted: nothing but the count changed
 pub record Ticked (w w' : List ℕ) : Type 0 where

@@ -1,7 +1,7 @@
 -- What the words, a step and a scope stand for: the definition's State and the pending code. This is the abstraction that every contract cites.
 use Prim.Native.Nat.{ℕ, zero, suc, _+_, _*_, _%_, _<_, _≤_}
 use mathlib.Core.Path.{_≡_}
-use mathlib.Core.Bool.{Bool, _&&_}
+use mathlib.Core.Bool.{Bool, not, _&&_}
 use mathlib.Core.List.{List, [], _∷_}
 use lib.ListN.{length, getD, take}
 use lib.Dec.{eqb}
@@ -9,6 +9,7 @@ use Rattle.store.specs.declared.Step.{Step}
 use Rattle.store.specs.declared.Scope.{Scope}
 use Rattle.store.specs.Table.{tab, stack, span}
 use Rattle.store.specs.Layout.{constant-at, name-of, registers, held, first, saved, capture-at, global-at, edge, local-at, block, latest, link, head, top, inst-at}
+use Rattle.meaning.specs.Images.{inst-tag}
 use Rattle.meaning.specs.Image.{proto-bytes}
 use Rattle.meaning.specs.State.{Open, Proto, State}
 use Rattle.meaning.specs.declared.Cause.{Cause}
@@ -60,19 +61,27 @@ run w p s ps = run-by (s .outcome) (config-of w p s ps)
 
 -- one block more
 abbrev pub deeper : Scope → Scope
-deeper p = record { nodes = p .nodes; depth = p .depth; block = p .block + 1; loops = p .loops; mode = p .mode }
+deeper p = record { nodes = p .nodes; depth = p .depth; block = p .block + 1; loops = p .loops; mode = p .mode; wide = p .wide }
 
 -- one loop more
 abbrev pub looped : Scope → Scope
-looped p = record { nodes = p .nodes; depth = p .depth; block = p .block; loops = p .loops + 1; mode = p .mode }
+looped p = record { nodes = p .nodes; depth = p .depth; block = p .block; loops = p .loops + 1; mode = p .mode; wide = p .wide }
 
 -- one function more, with its first block
 abbrev pub inner : Scope → Scope
-inner p = record { nodes = p .nodes; depth = p .depth + 1; block = p .block + 1; loops = 0; mode = p .mode }
+inner p = record { nodes = p .nodes; depth = p .depth + 1; block = p .block + 1; loops = 0; mode = p .mode; wide = p .wide }
 
 -- the main function's
-abbrev pub main-scope : (mode nodes : ℕ) → Scope
-main-scope mode n = record { nodes = n; depth = 0; block = 1; loops = 0; mode = mode }
+abbrev pub main-scope : (mode wide nodes : ℕ) → Scope
+main-scope mode wide n = record { nodes = n; depth = 0; block = 1; loops = 0; mode = mode; wide = wide }
+
+-- the marks have four bytes
+abbrev pub is-wide : Scope → Bool
+is-wide p = not (eqb (p .wide) 0)
+
+-- the tag of the image's instructions
+abbrev pub code-tag : Scope → ℕ
+code-tag p = inst-tag (is-wide p)
 
 -- one open function with one open block
 abbrev pub global-scope : Scope → Bool
@@ -120,19 +129,19 @@ while-going (Refused cause node) P = Unit {0}
 -- ---- the output: it holds the finished prototypes where they fit; they are counted always
 
 -- so many bytes and so many functions are those of the prototypes ps, which stand at the front of the output where they fit
-pub record Written (o : List ℕ) (written functions : ℕ) (ps : List Proto) : Type 0 where
+pub record Written (tag : ℕ) (o : List ℕ) (written functions : ℕ) (ps : List Proto) : Type 0 where
   pub counted : functions ≡ length ps
-  pub sized : written ≡ length (proto-bytes 0x43 ps)
-  pub bytes : written ≤ length o → take written o ≡ proto-bytes 0x43 ps
+  pub sized : written ≡ length (proto-bytes tag ps)
+  pub bytes : written ≤ length o → take written o ≡ proto-bytes tag ps
 
 -- the same while nothing is refused; of a refused step's output nothing is said
-abbrev pub image-by : Outcome → List ℕ → ℕ → List Proto → Type 0
-image-by (Accepted written) o functions ps = Written o written functions ps
-image-by (Refused cause node) o functions ps = Unit {0}
+abbrev pub image-by : (tag : ℕ) → Outcome → List ℕ → ℕ → List Proto → Type 0
+image-by tag (Accepted written) o functions ps = Written tag o written functions ps
+image-by tag (Refused cause node) o functions ps = Unit {0}
 
--- the output holds the prototypes ps, as the step counts them
-abbrev pub Image : List ℕ → Step → List Proto → Type 0
-Image o s ps = image-by (s .outcome) o (s .functions) ps
+-- the output holds the prototypes ps, as the step counts them, with marks of the scope's width
+abbrev pub Image : Scope → List ℕ → Step → List Proto → Type 0
+Image p o s ps = image-by (code-tag p) (s .outcome) o (s .functions) ps
 
 -- the bytes of the finished prototypes, 0 where a step is refused
 abbrev pub written-by : Outcome → ℕ
@@ -199,8 +208,8 @@ pub record Fine (w : List ℕ) (p : Scope) (s : Step) : Type 0 where
   -- a global's name is a constant, but for one that is still due
   pub globals : s .globals ≤ s .constants + 1
   pub functions : s .functions ≤ 256
-  -- a prototype has 300,000 bytes at most
-  pub written : written-by (s .outcome) ≤ 300000 * s .functions
+  -- a prototype has 370,000 bytes at most
+  pub written : written-by (s .outcome) ≤ 370000 * s .functions
   pub result : s .result < result-limit (s .outcome)
 
 -- what lies outside the scope stays, refused or not

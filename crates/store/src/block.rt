@@ -27,6 +27,7 @@ pub fn enter_block(work: &mut [u32], scope: Scope) -> Scope
         block: scope.block + 1,
         loops: scope.loops,
         mode: scope.mode,
+        wide: scope.wide,
     }
 }
 

@@ -59,6 +59,7 @@ fn search(work: &mut [u32], nodes: usize, depth: usize, name: usize) -> Found
         block: end,
         loops: 0,
         mode: 0,
+        wide: 0,
     };
     if is_global_context(around) {
         return Found::Nothing;

@@ -38,6 +38,7 @@ pub fn enter_function(
         block: block + 1,
         loops: 0,
         mode: scope.mode,
+        wide: scope.wide,
     };
     if depth == 7 {
         let refused = refuse(step, meaning::Cause::Nesting, node);

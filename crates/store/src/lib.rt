@@ -16,6 +16,8 @@ pub use block::leave_block;
 pub use capture::get_upvalue;
 pub use constant::add_constant;
 pub use constant::add_name;
+pub use count::visit;
+pub use count::visits;
 pub use function::enter_function;
 pub use global::add_global;
 pub use global::is_global_context;
@@ -32,8 +34,6 @@ pub use local::get_var_register;
 pub use register::next_register;
 pub use register::next_registers;
 pub use start::begin;
-pub use count::visit;
-pub use count::visits;
 ghost use mathlib.Core.Path.{_≡_};
 ghost use Rattle.store.specs.Store.{refused-step, advanced, with-result};
 
@@ -48,13 +48,14 @@ pub struct Step {
     pub result: u32,
 }
 
-// What is lexical: the number of nodes, which fixes the layout; of functions around the current one; of open blocks; of the current function's open loops; and the mode of the call.
+// What is lexical: the number of nodes, which fixes the layout; of functions around the current one; of open blocks; of the current function's open loops; the mode of the call; and whether the marks have four bytes.
 pub struct Scope {
     pub nodes: usize,
     pub depth: usize,
     pub block: usize,
     pub loops: usize,
     pub mode: usize,
+    pub wide: usize,
 }
 
 // What a search gives: a register or an index, nothing, or a capture that does not fit.

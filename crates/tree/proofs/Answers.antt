@@ -9,7 +9,7 @@ use lib.Dec.{leb, ltb}
 use borrow.Author.Tests.{eqb-true, eq-eqb, ne-eqb, lt-ltb, le-ltb, lt-leb, le-leb}
 use Rattle.meaning.specs.Base.{count, lowest}
 use Rattle.meaning.specs.Fields.{Field, field-at, span, whole, rest, fields, left}
-use Rattle.meaning.specs.Grammar.{shape-at}
+use Rattle.meaning.specs.Grammar.{wide-marks, shape-at}
 use Rattle.meaning.specs.Tree.{kids-of, all-kids, tree-at, parent-of, depth-of, depth-at}
 use Rattle.meaning.specs.Check.{framed, unless, work-for, checked-work, checked-fields, checked-tree}
 use Rattle.meaning.specs.declared.Cause.the-variants.{Frame, Many, Shape, Tree, Depth, Work}
@@ -20,8 +20,13 @@ use Rattle.meaning.proofs.Modes.{fields-0}
 use Rattle.meaning.proofs.FieldLaws.{whole-true, whole-false, fields-whole, fields-cut}
 use Rattle.meaning.proofs.Kids.{shape-tag, shape-kids, parent-above, depth-same}
 use Rattle.tree.specs.Used.{few, used, zeroed, scratch-after}
-use Rattle.tree.specs.Scratch.{once, parent-in, Owned, depth-in, Entered}
+use Rattle.tree.specs.Scratch.{once, parent-in, Owned, depth-in, Entered, shape-by}
 use Rattle.tree.proofs.Parents.{owner-is, once-is}
+
+-- a shape by the tree's own width is its shape
+pub own-shape : (fs : List Field) (n : ℕ) → lowest (shape-by (wide-marks fs) fs) n ≡ lowest (shape-at fs) n
+unfolding shape-by shape-at
+own-shape fs n = refl
 
 -- ---- the words after all nodes, where every shape is right
 
@@ -31,7 +36,7 @@ pub record Shapely (fs : List Field) (l : List ℕ) (n : ℕ) : Type 0 where
   pub most : n ≤ 32768
   pub room : n ≤ length l
   pub shapes : n ≡ lowest (shape-at fs) n
-  pub entered : Entered fs l
+  pub entered : Entered (wide-marks fs) fs l
 
 module _ (fs : List Field) (l : List ℕ) (n : ℕ) (v : Shapely fs l n) where
   abbrev l₀ : List ℕ
@@ -46,7 +51,7 @@ module _ (fs : List Field) (l : List ℕ) (n : ℕ) (v : Shapely fs l n) where
   tag : (c : ℕ) → c < n → field-at fs c .tag < 256
   tag c h = omega (arith, shape-tag fs c (good c h))
 
-  none : (c : ℕ) → c < n → (j : ℕ) → j < suc c → count c (kids-of (field-at fs j)) ≡ 0
+  none : (c : ℕ) → c < n → (j : ℕ) → j < suc c → count c (kids-of (wide-marks fs) (field-at fs j)) ≡ 0
   none c h j q = shape-kids fs j c (good j (omega arith)) (omega arith)
 
   -- 4: the lowest node that is not a child exactly once
@@ -55,7 +60,7 @@ module _ (fs : List Field) (l : List ℕ) (n : ℕ) (v : Shapely fs l n) where
       ∙ once-is l₀ fs c (omega arith) (omega arith) (omega arith) (tag c (omega arith)) (none c (omega arith)))
 
   module _ (trees : n - 1 ≤ lowest (tree-at fs) (n - 1)) where
-    is-child : (c : ℕ) → c < n - 1 → count c (all-kids fs) ≡ 1
+    is-child : (c : ℕ) → c < n - 1 → count c (all-kids (wide-marks fs) fs) ≡ 1
     unfolding tree-at
     is-child c h = eqb-true _ 1 (lowest-all (tree-at fs) (n - 1) trees c h)
 

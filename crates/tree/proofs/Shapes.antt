@@ -3,9 +3,9 @@
 -- before, by `last-is`, where the file is framed.
 use mathlib.Core.Path.{_≡_, refl, sym, ap, subst, fun-ext, _∙_}
 use mathlib.Core.Bool.{Bool, true, false, _&&_, cond}
-use mathlib.Core.List.{List}
+use mathlib.Core.List.{List, [], _∷_}
 use mathlib.Core.Logic.{_⊎_, inl, inr, ⊎-elim}
-use Prim.Native.Nat.{ℕ, _+_, _-_, _%_, _<_, _≤_}
+use Prim.Native.Nat.{ℕ, zero, suc, _+_, _-_, _%_, _<_, _≤_}
 use native.Mathlib.Nat.{not-suc-le-zero}
 use native.Mathlib.Numerals.{add-one}
 use native.Mathlib.Omega.{arith}
@@ -16,13 +16,13 @@ use borrow.Author.Tests.{ltb-true, eqb-true, eqb-false, eq-eqb, ne-eqb}
 use borrow.Author.Count.{below-more}
 use Rattle.meaning.specs.Base.{lowest}
 use Rattle.meaning.specs.Fields.{Field, no-field, field-at, whole, span, payload-of, front, rest, fields, left}
-use Rattle.meaning.specs.Grammar.{Item, never, names, inside, lawful, items-of, items-for, fits, kids, tags-of, shape-at}
+use Rattle.meaning.specs.Grammar.{Item, never, names, inside, lawful, is-program, items-in, items-for, fits, kids, tags-of, wide-marks}
 use Rattle.meaning.specs.Tree.{kids-of}
 use Rattle.meaning.proofs.Lists.{tail-part, lowest-found, lowest-none}
 use Rattle.meaning.proofs.FieldLaws.{from, Walk, walk-start, walk-more, walk-part, walk-end, walk-at, walk-below, walk-done, whole-true, whole-false, fields-whole}
 use Rattle.meaning.proofs.Kids.{none-fits}
 use Rattle.tree.specs.Rows.{start-of, fits-row}
-use Rattle.tree.specs.Scratch.{tags-in, note-row, note-all, enter-all, Beyond, Found}
+use Rattle.tree.specs.Scratch.{tags-in, note-row, note-all, enter-all, shape-by, last-tag, Beyond, Found}
 use Rattle.tree.specs.Used.{few}
 use Rattle.tree.proofs.Table.{fits-rows, kids-rows}
 use Rattle.tree.proofs.Words.{tag-at, row-kids, row-beyond, all-tags, beyond-refl, beyond-then, beyond-set, beyond-more}
@@ -43,16 +43,16 @@ fits-same : (ts ts′ : List ℕ) (i : ℕ) → ((k : ℕ) → k < i → getD ts
 fits-same ts ts′ i same is p = ap (λ (ok : ℕ → ℕ → Bool). fits ok is p) (fun-ext (λ kind. fun-ext (λ w. lawful-same ts ts′ i same kind w)))
 
 -- a payload that fits where the last node must be a program names the children of its tag
-kids-tag : (ts : List ℕ) (i tag : ℕ) (last : Bool) (p : List ℕ) → fits (lawful ts i) (items-for tag last) p ≡ true → kids (items-for tag last) p ≡ kids (items-of tag) p
+kids-tag : (wide : Bool) (ts : List ℕ) (i tag : ℕ) (last : Bool) (p : List ℕ) → fits (lawful ts i) (items-for wide tag last) p ≡ true → kids (items-for wide tag last) p ≡ kids (items-in wide tag) p
 unfolding items-for
-kids-tag ts i tag true p e = go (eqb tag 0x1E) e
+kids-tag wide ts i tag true p e = go (is-program tag) e
   where
-    go : (b : Bool) → fits (lawful ts i) (cond b (items-of tag) never) p ≡ true → kids (cond b (items-of tag) never) p ≡ kids (items-of tag) p
+    go : (b : Bool) → fits (lawful ts i) (cond b (items-in wide tag) never) p ≡ true → kids (cond b (items-in wide tag) never) p ≡ kids (items-in wide tag) p
     go true q = refl
     go false q = absurd (none-fits ts i p q)
-kids-tag ts i tag false p e = go (eqb tag 0x1E) e
+kids-tag wide ts i tag false p e = go (is-program tag) e
   where
-    go : (b : Bool) → fits (lawful ts i) (cond b never (items-of tag)) p ≡ true → kids (cond b never (items-of tag)) p ≡ kids (items-of tag) p
+    go : (b : Bool) → fits (lawful ts i) (cond b never (items-in wide tag)) p ≡ true → kids (cond b never (items-in wide tag)) p ≡ kids (items-in wide tag) p
     go true q = absurd (none-fits ts i p q)
     go false q = refl
 
@@ -91,29 +91,43 @@ pub record Passed (s l₀ l t : List ℕ) (i : ℕ) : Type 0 where
   pub beyond : Beyond (few i) l₀ l
 
 -- no node so far is wrong
-pub record Shaped (s l₀ l t : List ℕ) (i : ℕ) : Type 0 where
+pub record Shaped (wide : Bool) (s l₀ l t : List ℕ) (i : ℕ) : Type 0 where
   pub known : (k : ℕ) → k < i → getD (tags-in l) k 0 ≡ getD (tags-of (fields s)) k 0
-  pub good : (k : ℕ) → k < i → shape-at (fields s) k ≡ true
-  pub entered : enter-all l₀ 0 (fields s) ≡ enter-all l i (fields t)
+  pub good : (k : ℕ) → k < i → shape-by wide (fields s) k ≡ true
+  pub entered : enter-all wide l₀ 0 (fields s) ≡ enter-all wide l i (fields t)
 
 -- refusals 1 and 2 are passed, so that shapes matter
 abbrev Numbered : List ℕ → Type 0
 Numbered s = (length (left s) ≡ 0) × (length (fields s) ≤ 32768)
 
 -- every node is right so far, or w is the lowest wrong one
-abbrev So-far : (s l₀ l t : List ℕ) (i w : ℕ) → Type 0
-So-far s l₀ l t i w = ((w ≡ 32768) × Shaped s l₀ l t i) ⊎ ((w < i) × (w ≡ lowest (shape-at (fields s)) (length (fields s))))
+abbrev So-far : (wide : Bool) (s l₀ l t : List ℕ) (i w : ℕ) → Type 0
+So-far wide s l₀ l t i w = ((w ≡ 32768) × Shaped wide s l₀ l t i) ⊎ ((w < i) × (w ≡ lowest (shape-by wide (fields s)) (length (fields s))))
 
-pub record Judged (s l₀ l t : List ℕ) (i w : ℕ) : Type 0 where
+-- the tag of the field before field i, 0 where there is none
+pub last-of : List Field → ℕ → ℕ
+last-of fs zero = 0
+last-of fs (suc i) = field-at fs i .tag
+
+last-all : (fs : List Field) → last-of fs (length fs) ≡ last-tag fs
+unfolding last-of
+last-all [] = refl
+last-all (f ∷ fs) = ap (λ (k : ℕ). field-at (f ∷ fs) k .tag) (let z : length fs ≡ suc (length fs) - 1 = omega arith in z)
+
+-- and x is the last tag so far
+pub record Judged (wide : Bool) (s l₀ l t : List ℕ) (i w x : ℕ) : Type 0 where
   pub passed : Passed s l₀ l t i
   pub most : w ≤ 32768
-  pub so-far : Numbered s → So-far s l₀ l t i w
+  pub so-far : Numbered s → So-far wide s l₀ l t i w
+  pub tagged : x ≡ last-of (fields s) i
 
-pub judged-start : (s l₀ : List ℕ) → Judged s l₀ l₀ s 0 32768
-judged-start s l₀ = record {
+pub judged-start : (wide : Bool) (s l₀ : List ℕ) → Judged wide s l₀ l₀ s 0 32768 0
+unfolding last-of
+judged-start wide s l₀ = record {
   passed = record { walk = walk-start s; beyond = beyond-refl 0 l₀ };
   most = omega arith;
   so-far = λ _. inl (refl, record { known = λ k h. absurd (not-suc-le-zero h); good = λ k h. absurd (not-suc-le-zero h); entered = refl });
+  tagged = refl;
 }
 
 module _ (s l₀ l t : List ℕ) (i : ℕ) (m : Passed s l₀ l t i) where
@@ -135,14 +149,14 @@ module _ (s l₀ l t : List ℕ) (i : ℕ) (m : Passed s l₀ l t i) where
   passed-over : whole t ≡ true → (k : ℕ) → k ≡ span t → Passed s l₀ l (from k t) (i + 1)
   passed-over w k ek = record { walk = walk-part s i t k (m .walk) w ek; beyond = beyond-more (few i) (few (i + 1)) l₀ l (omega arith) (m .beyond) }
 
-  module _ (v : Shaped s l₀ l t i) where
+  module _ (wide : Bool) (v : Shaped wide s l₀ l t i) where
     -- after the last field
-    shaped-end : length (fields s) ≤ i → l ≡ enter-all l₀ 0 (fields s)
+    shaped-end : length (fields s) ≤ i → l ≡ enter-all wide l₀ 0 (fields s)
     unfolding enter-all
     shaped-end h = sym (v .entered ∙ rw (walk-done s i t (m .walk) h))
 
-    shaped-all : i ≡ lowest (shape-at (fields s)) i
-    shaped-all = sym (lowest-none (shape-at (fields s)) i (v .good))
+    shaped-all : i ≡ lowest (shape-by wide (fields s)) i
+    shaped-all = sym (lowest-none (shape-by wide (fields s)) i (v .good))
 
     module _ (w : whole t ≡ true) where
       here : field-at (fields s) i ≡ front t
@@ -152,94 +166,114 @@ module _ (s l₀ l t : List ℕ) (i : ℕ) (m : Passed s l₀ l t i) where
       tag-here = List·getD-map (λ (f : Field). f .tag) (fields s) i no-field ∙ ap (λ (f : Field). f .tag) here
 
       -- a payload that is tested is that of node i
-      module _ (none : length (left s) ≡ 0) (k first : ℕ) (p : List ℕ) (ek : k ≡ span t) (ef : first ≡ start-of (getD t 0 0) (eqb k (length t))) (ep : p ≡ payload-of t) where
-        first-is : first ≡ start-of (getD t 0 0) (is-last s i)
-        first-is = ef ∙ ap (start-of (getD t 0 0)) (last-is s i t (m .walk) w none k ek)
+      module _ (none : length (left s) ≡ 0) (k first : ℕ) (p : List ℕ) (ek : k ≡ span t) (ef : first ≡ start-of wide (getD t 0 0) (eqb k (length t))) (ep : p ≡ payload-of t) where
+        first-is : first ≡ start-of wide (getD t 0 0) (is-last s i)
+        first-is = ef ∙ ap (start-of wide (getD t 0 0)) (last-is s i t (m .walk) w none k ek)
 
-        shaped-test : fits-row (lawful (tags-in l) i) first 0 p ≡ shape-at (fields s) i
-        unfolding shape-at
+        shaped-test : fits-row (lawful (tags-in l) i) first 0 p ≡ shape-by wide (fields s) i
+        unfolding shape-by
         shaped-test =
             rw (first-is, ep)
-            (sym (fits-rows (lawful (tags-in l) i) (getD t 0 0) (is-last s i) (payload-of t))
-            ∙ fits-same (tags-in l) (tags-of (fields s)) i (v .known) (items-for (getD t 0 0) (is-last s i)) (payload-of t)
+            (sym (fits-rows (lawful (tags-in l) i) wide (getD t 0 0) (is-last s i) (payload-of t))
+            ∙ fits-same (tags-in l) (tags-of (fields s)) i (v .known) (items-for wide (getD t 0 0) (is-last s i)) (payload-of t)
             ∙ rw here)
 
         -- the lowest node that is wrong
-        shaped-stop : false ≡ fits-row (lawful (tags-in l) i) first 0 p → i ≡ lowest (shape-at (fields s)) (length (fields s))
-        shaped-stop e = sym (lowest-found (shape-at (fields s)) (length (fields s)) i (walk-below s i t (m .walk) w) (v .good) (sym shaped-test ∙ sym e))
+        shaped-stop : false ≡ fits-row (lawful (tags-in l) i) first 0 p → i ≡ lowest (shape-by wide (fields s)) (length (fields s))
+        shaped-stop e = sym (lowest-found (shape-by wide (fields s)) (length (fields s)) i (walk-below s i t (m .walk) w) (v .good) (sym shaped-test ∙ sym e))
 
         module _ (e : true ≡ fits-row (lawful (tags-in l) i) first 0 p) where
           -- its children are noted
-          noted-here : note-row (lawful (tags-in l) i) l i first 0 p ≡ note-all l i (kids-of (front t))
+          noted-here : note-row (lawful (tags-in l) i) l i first 0 p ≡ note-all l i (kids-of wide (front t))
           unfolding kids-of
           noted-here =
               row-kids (lawful (tags-in l) i) l i first 0 p (sym e)
               ∙ ap (note-all l i)
               (rw (first-is, ep)
-              (sym (kids-rows (getD t 0 0) (is-last s i) (payload-of t))
-              ∙ kids-tag (tags-in l) i (getD t 0 0) (is-last s i) (payload-of t) (fits-rows (lawful (tags-in l) i) (getD t 0 0) (is-last s i) (payload-of t) ∙ rw (← first-is, ← ep) (sym e))))
+              (sym (kids-rows wide (getD t 0 0) (is-last s i) (payload-of t))
+              ∙ kids-tag wide (tags-in l) i (getD t 0 0) (is-last s i) (payload-of t) (fits-rows (lawful (tags-in l) i) wide (getD t 0 0) (is-last s i) (payload-of t) ∙ rw (← first-is, ← ep) (sym e))))
 
           shaped-more : (l′ : List ℕ) → l′ ≡ note-row (lawful (tags-in l) i) l i first 0 p → getD t 0 0 < 256 → i < length l₀
-              → Shaped s l₀ (set l′ i (getD t 0 0)) (from k t) (i + 1)
+              → Shaped wide s l₀ (set l′ i (getD t 0 0)) (from k t) (i + 1)
           unfolding enter-all
           shaped-more l′ el small room = record {
             known = below-more (λ j. getD (tags-in (set l′ i (getD t 0 0))) j 0 ≡ getD (tags-of (fields s)) j 0) i
                 (λ j h. tag-at (set l′ i (getD t 0 0)) j ∙ ap (λ (x : ℕ). x % 256) (getD-set-other l′ i j (getD t 0 0) 0 (λ q. omega arith)) ∙ sym (tag-at l′ j) ∙ same-tag j ∙ v .known j h)
                 (tag-at (set l′ i (getD t 0 0)) i ∙ ap (λ (x : ℕ). x % 256) (getD-set-same l′ i (getD t 0 0) 0 (omega (arith, noted-beyond first p l′ el .size, m .beyond .size))) ∙ whole-tag ∙ sym tag-here);
-            good = below-more (λ j. shape-at (fields s) j ≡ true) i (v .good) (sym shaped-test ∙ sym e);
+            good = below-more (λ j. shape-by wide (fields s) j ≡ true) i (v .good) (sym shaped-test ∙ sym e);
             entered = v .entered ∙ rw (fields-whole t w) (simp (tail-part, ek, el ∙ noted-here, add-one));
           }
             where
               same-tag : (j : ℕ) → getD (tags-in l′) j 0 ≡ getD (tags-in l) j 0
-              same-tag j = ap (λ (ts : List ℕ). getD ts j 0) (ap tags-in (el ∙ noted-here) ∙ all-tags l i (kids-of (front t)))
+              same-tag j = ap (λ (ts : List ℕ). getD ts j 0) (ap tags-in (el ∙ noted-here) ∙ all-tags l i (kids-of wide (front t)))
 
               whole-tag : getD t 0 0 % 256 ≡ getD t 0 0
               whole-tag = omega arith
 
 -- ---- a turn, and the end
 
-module _ (s l₀ l t : List ℕ) (i w : ℕ) (j : Judged s l₀ l t i w) where
-  module _ (is : whole t ≡ true) (k : ℕ) (ek : k ≡ span t) where
+module _ (wide : Bool) (s l₀ l t : List ℕ) (i w x : ℕ) (j : Judged wide s l₀ l t i w x) where
+  module _ (is : whole t ≡ true) (k : ℕ) (ek : k ≡ span t) (x′ : ℕ) (ex : x′ ≡ getD t 0 0) where
+    tag-more : x′ ≡ last-of (fields s) (i + 1)
+    unfolding last-of
+    tag-more = ex ∙ sym (rw add-one (ap (λ (f : Field). f .tag) (walk-at s i t no-field (j .passed .walk) is)))
+
     -- behind a wrong node, or behind all that a tree may have
-    pub judged-over : w ≤ i → (l′ : List ℕ) (w′ : ℕ) → l′ ≡ l → w′ ≡ w → Judged s l₀ l′ (from k t) (i + 1) w′
+    pub judged-over : w ≤ i → (l′ : List ℕ) (w′ : ℕ) → l′ ≡ l → w′ ≡ w → Judged wide s l₀ l′ (from k t) (i + 1) w′ x′
     judged-over h l′ w′ el ew = rw (el, ew) record {
       passed = passed-over s l₀ l t i (j .passed) is k ek;
       most = j .most;
       so-far = λ q. ⊎-elim (λ x. absurd (omega (arith, x .0, q .1, walk-below s i t (j .passed .walk) is))) (λ x. inr (omega (arith, x .0), x .1)) (j .so-far q);
+      tagged = tag-more;
     }
 
     -- a node that is tested, with the answer r
     module _ (yet : i < w) (room : i < length l₀) (small : getD t 0 0 < 256) (first : ℕ) (p l′ l″ : List ℕ)
-        (ef : first ≡ start-of (getD t 0 0) (eqb k (length t))) (ep : p ≡ payload-of t) (r : Bool) (er : r ≡ fits-row (lawful (tags-in l) i) first 0 p)
+        (ef : first ≡ start-of wide (getD t 0 0) (eqb k (length t))) (ep : p ≡ payload-of t) (r : Bool) (er : r ≡ fits-row (lawful (tags-in l) i) first 0 p)
         (el : l′ ≡ note-row (lawful (tags-in l) i) l i first 0 p) (el′ : l″ ≡ set l′ i (getD t 0 0)) where
-      shaped-yet : Numbered s → (w ≡ 32768) × Shaped s l₀ l t i
+      shaped-yet : Numbered s → (w ≡ 32768) × Shaped wide s l₀ l t i
       shaped-yet q = ⊎-elim (λ x. x) (λ x. absurd (omega (arith, x .0))) (j .so-far q)
 
-      pub judged-more : (w′ : ℕ) → ((r ≡ false) × (w′ ≡ i)) ⊎ ((r ≡ true) × (w′ ≡ w)) → Judged s l₀ l″ (from k t) (i + 1) w′
+      pub judged-more : (w′ : ℕ) → ((r ≡ false) × (w′ ≡ i)) ⊎ ((r ≡ true) × (w′ ≡ w)) → Judged wide s l₀ l″ (from k t) (i + 1) w′ x′
       judged-more w′ told = record {
         passed = rw el′ (passed-more s l₀ l t i (j .passed) is (omega (arith, j .most)) first p l′ k el ek);
         most = ⊎-elim (λ x. omega (arith, x .1, j .most)) (λ x. omega (arith, x .1, j .most)) told;
         so-far = λ q. let v = shaped-yet q in ⊎-elim
-            (λ x. inr (omega (arith, x .1), x .1 ∙ shaped-stop s l₀ l t i (j .passed) (v .1) is (q .0) k first p ek ef ep (sym (x .0) ∙ er)))
-            (λ x. inl (x .1 ∙ v .0, rw el′ (shaped-more s l₀ l t i (j .passed) (v .1) is (q .0) k first p ek ef ep (sym (x .0) ∙ er) l′ el small room)))
+            (λ x. inr (omega (arith, x .1), x .1 ∙ shaped-stop s l₀ l t i (j .passed) wide (v .1) is (q .0) k first p ek ef ep (sym (x .0) ∙ er)))
+            (λ x. inl (x .1 ∙ v .0, rw el′ (shaped-more s l₀ l t i (j .passed) wide (v .1) is (q .0) k first p ek ef ep (sym (x .0) ∙ er) l′ el small room)))
             told;
+        tagged = tag-more;
       }
 
   module _ (cut : whole t ≡ false) where
     end : (i ≡ length (fields s)) × (length t ≡ length (left s))
     end = walk-end s i t (j .passed .walk) cut
 
-    found : length t ≡ 0 → i ≤ 32768 → So-far s l₀ l t i w
+    found : length t ≡ 0 → i ≤ 32768 → So-far wide s l₀ l t i w
     found none most = j .so-far (omega (arith, end .1), omega (arith, end .0))
 
-    pub judged-end : few (length (fields s)) ≤ length l₀ → Found s l i (length t) w
+    pub judged-end : few (length (fields s)) ≤ length l₀ → Found wide s l i (length t) w
     judged-end room = record {
       whole-fields = end .0;
       bytes-after = end .1;
       room = omega (arith, end .0, j .passed .beyond .size);
       misshapen = λ none most h. ⊎-elim (λ x. absurd (omega (arith, x .0))) (λ x. rw (end .0) (x .1)) (found none most);
       shapely = λ none most h. ⊎-elim
-          (λ x. (shaped-all s l₀ l t i (j .passed) (x .1), record { before = l₀; size = j .passed .beyond .size; all = shaped-end s l₀ l t i (j .passed) (x .1) (omega (arith, end .0)) }))
+          (λ x. (shaped-all s l₀ l t i (j .passed) wide (x .1), record { before = l₀; size = j .passed .beyond .size; all = shaped-end s l₀ l t i (j .passed) wide (x .1) (omega (arith, end .0)) }))
           (λ x. absurd (omega (arith, x .0)))
           (found none most);
     }
+
+    pub last-end : x ≡ last-tag (fields s)
+    last-end = j .tagged ∙ ap (last-of (fields s)) (end .0) ∙ last-all (fields s)
+
+-- ---- the last tag says whether marks are wide
+
+module _ (s l : List ℕ) (n after w x : ℕ) (e : x ≡ last-tag (fields s)) where
+  pub found-narrow : (x ≡ 0x3E → ⊥) → Found false s l n after w → Found (wide-marks (fields s)) s l n after w
+  unfolding wide-marks
+  found-narrow h f = rw (← e, ne-eqb x 0x3E h) f
+
+  pub found-wide : x ≡ 0x3E → Found true s l n after w → Found (wide-marks (fields s)) s l n after w
+  unfolding wide-marks
+  found-wide h f = rw (← e, eq-eqb x 0x3E h) f

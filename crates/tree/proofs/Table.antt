@@ -4,14 +4,13 @@
 use mathlib.Core.Path.{_≡_, refl, sym, ap, ap₂, _∙_}
 use mathlib.Core.Bool.{Bool, true, false, not, _&&_, cond}
 use mathlib.Core.Logic.{_⊎_, inl, inr, ⊎-elim}
-use mathlib.Core.List.{List, [], _∷_, _++_}
+use mathlib.Core.List.{List, [], _∷_, _++_, map}
 use Prim.Native.Nat.{ℕ, zero, suc, _+_, _-_, _*_, _<_, _≤_}
-use native.Mathlib.Nat.{eq-or-lt-of-le}
 use native.Mathlib.Omega.{arith}
-use lib.ListN.{getD, drop, List·getD-eq-default}
+use lib.ListN.{getD, take, drop, List·getD-eq-default}
 use lib.Dec.{eqb, ltb}
-use borrow.Author.Tests.{eqb-true, eq-eqb, ne-eqb, ltb-true}
-use Rattle.meaning.specs.Grammar.{Item, one, perhaps, many, counted, never, names, grammar, items-of, items-for, ones, copies, ends, kind-of, due-after, fits, kids}
+use borrow.Author.Tests.{eqb-true, ne-eqb, ltb-true}
+use Rattle.meaning.specs.Grammar.{Item, one, perhaps, many, counted, never, names, grammar, items-of, spread-kinds, spread, items-in, is-program, items-for, ones, copies, ends, kind-of, due-after, fits, kids}
 use Rattle.meaning.proofs.Lists.{lt-or-le, and-left, and-right, false-true, eq-list, list-is, all-true, nth-true, same, same-is, all-to, all-below}
 use Rattle.tree.specs.Rows.{row-list, first-rows, row-at, kind-in, next-in, done-in, flow-in, ends-in, next-left, next-row, fits-row, kids-row, start-of}
 
@@ -89,8 +88,18 @@ all-spots : List (List Item) → List Spot
 all-spots [] = []
 all-spots (is ∷ iss) = spots-of is ++ all-spots iss
 
+-- of these payloads those that wide marks change
+widened : List (List Item) → List (List Item)
+widened [] = []
+widened (is ∷ iss) = cond (eq-items (spread true is) (spread false is)) [] (spread true is ∷ []) ++ widened iss
+
+-- the tags up to 1E: what stands from 1F to 3D is never, and the payload of 3E is that of 1E
+tags : List (List Item)
+tags = take 31 grammar
+
+-- narrow ones first, then those that wide marks change
 spots : List Spot
-spots = at-items never ∷ at-items [] ∷ all-spots grammar
+spots = at-items never ∷ at-items [] ∷ all-spots (map (spread false) tags ++ widened tags)
 
 spot : ℕ → Spot
 spot r = getD spots r (at-items [])
@@ -169,8 +178,8 @@ module _ (r : ℕ) where
   common =
       eqb kind (kind-of (fixed here))
       ∷ same (ends-in (row-at r)) (ends (fixed here))
-      ∷ ltb next 78
-      ∷ ltb done 78
+      ∷ ltb next 163
+      ∷ ltb done 163
       ∷ cond (plain here) true (not (null (here .pre)))
       ∷ ltb kind 12
       ∷ []
@@ -215,8 +224,8 @@ module _ (r : ℕ) where
       all-true common
       && cond (eqb flow 0) (cond (plain here) (all-true alone) (all-true within)) (cond (eqb flow 1) (all-true counts) (all-true last))
 
-rows-ok : all-to ok-row 78 ≡ true
-unfolding all-to ok-row common alone within counts last all-true same spot spots all-spots spots-of in-group at-items fixed null plain uncounted eq-list eq-items ctor args row-list grammar ends kind-of due-after
+rows-ok : all-to ok-row 163 ≡ true
+unfolding all-to ok-row common alone within counts last all-true same spot spots all-spots tags widened spread spread-kinds spots-of in-group at-items fixed null plain uncounted eq-list eq-items ctor args row-list grammar ends kind-of due-after
 rows-ok = refl
 
 -- ---- what the test says
@@ -227,7 +236,7 @@ Valid r l = (plain (spot r) ≡ true) ⊎ (1 ≤ l)
 -- row r′ is one where these items are due, with l′ groups left
 record Goes (r′ l′ : ℕ) (is : List Item) : Type 0 where
   due : state (spot r′) l′ ≡ is
-  low : r′ < 78
+  low : r′ < 163
   valid : Valid r′ l′
 
 rest-ones : (ks : List ℕ) (is : List Item) (w : ℕ) → not (null ks) ≡ true → due-after (ones ks is) w ≡ ones (drop 1 ks) is
@@ -235,9 +244,9 @@ unfolding null due-after
 rest-ones [] is w e = absurd (false-true e)
 rest-ones (k ∷ ks) is w e = refl
 
-module _ (r : ℕ) (h : r < 78) where
+module _ (r : ℕ) (h : r < 163) where
   ok : ok-row r ≡ true
-  ok = all-below ok-row 78 r rows-ok h
+  ok = all-below ok-row 163 r rows-ok h
 
   every : (k : ℕ) → getD (common r) k true ≡ true
   unfolding ok-row
@@ -247,20 +256,20 @@ module _ (r : ℕ) (h : r < 78) where
   unfolding common
   kind-low = ltb-true _ 12 (every 5)
 
-  next-low : next r < 78
+  next-low : next r < 163
   unfolding common
-  next-low = ltb-true _ 78 (every 2)
+  next-low = ltb-true _ 163 (every 2)
 
-  done-low : done r < 78
+  done-low : done r < 163
   unfolding common
-  done-low = ltb-true _ 78 (every 3)
+  done-low = ltb-true _ 163 (every 3)
 
   -- whatever is left, the next row is a row
-  pub row-low : (l : ℕ) → next-row (row-at r) l < 78
+  pub row-low : (l : ℕ) → next-row (row-at r) l < 163
   unfolding next-row
   row-low l = go (eqb (flow r) 0) (eqb l 0)
     where
-      go : (a b : Bool) → cond a (next r) (cond b (done r) (next r)) < 78
+      go : (a b : Bool) → cond a (next r) (cond b (done r) (next r)) < 163
       go true b = next-low
       go false true = done-low
       go false false = next-low
@@ -426,7 +435,7 @@ module _ (r : ℕ) (h : r < 78) where
 
 -- ---- a payload fits by the rows as it fits by the items, and names the same children
 
-fits-state : (ok : ℕ → ℕ → Bool) (p : List ℕ) (r l : ℕ) → r < 78 → Valid r l → fits-row ok r l p ≡ fits ok (state (spot r) l) p
+fits-state : (ok : ℕ → ℕ → Bool) (p : List ℕ) (r l : ℕ) → r < 163 → Valid r l → fits-row ok r l p ≡ fits ok (state (spot r) l) p
 unfolding fits-row fits
 fits-state ok [] r l h v = ends-is r h l v
 fits-state ok (a ∷ []) r l h v = refl
@@ -435,7 +444,7 @@ fits-state ok (a ∷ b ∷ p) r l h v =
     ap₂ _&&_ (ap (λ (k : ℕ). ok k (a * 256 + b)) (kind-is r h l v))
     (fits-state ok p _ _ (g .low) (g .valid) ∙ ap (λ (is : List Item). fits ok is p) (g .due))
 
-kids-state : (p : List ℕ) (r l : ℕ) → r < 78 → Valid r l → kids-row r l p ≡ kids (state (spot r) l) p
+kids-state : (p : List ℕ) (r l : ℕ) → r < 163 → Valid r l → kids-row r l p ≡ kids (state (spot r) l) p
 unfolding kids-row kids
 kids-state [] r l h v = refl
 kids-state (a ∷ []) r l h v = refl
@@ -447,29 +456,46 @@ kids-state (a ∷ b ∷ p) r l h v =
 -- ---- the first row of each tag
 
 start-tests : ℕ → List Item → List Bool
-start-tests row is = eq-items (fixed (spot row)) is ∷ ltb row 78 ∷ plain (spot row) ∷ []
+start-tests row is = eq-items (fixed (spot row)) is ∷ ltb row 163 ∷ plain (spot row) ∷ []
 
-starts-ok : all-to (λ tag. all-true (start-tests (getD first-rows tag 0) (getD grammar tag never))) 31 ≡ true
-unfolding all-to all-true start-tests first-rows spot spots all-spots spots-of in-group at-items fixed null plain eq-list eq-items ctor args grammar
-starts-ok = refl
+-- the row of a tag: a program's is 77
+abbrev row-of : (wide : Bool) → (tag : ℕ) → ℕ
+row-of wide tag = cond (is-program tag) 77 (getD (first-rows wide) tag 0)
+
+starts-ok : (wide : Bool) → all-to (λ tag. all-true (start-tests (row-of wide tag) (spread wide (getD grammar tag never)))) 63 ≡ true
+unfolding all-to all-true start-tests first-rows spot spots all-spots tags widened spread spread-kinds spots-of in-group at-items fixed null plain eq-list eq-items ctor args grammar
+starts-ok false = refl
+starts-ok true = refl
 
 -- row 0 is that of what fits nothing
 never-true : all-true (start-tests 0 never) ≡ true
 unfolding all-true start-tests spot spots at-items fixed null plain eq-list eq-items ctor args
 never-true = refl
 
-start-true : (tag : ℕ) → all-true (start-tests (getD first-rows tag 0) (getD grammar tag never)) ≡ true
-unfolding first-rows grammar
-start-true tag =
-    ⊎-elim (λ (q : tag < 31). all-below (λ t. all-true (start-tests (getD first-rows t 0) (getD grammar t never))) 31 tag starts-ok q)
-    (λ (q : 31 ≤ tag). ap₂ (λ (r : ℕ) (is : List Item). all-true (start-tests r is))
-    (List·getD-eq-default first-rows 0 q) (List·getD-eq-default grammar never q) ∙ never-true)
-    (lt-or-le tag 31)
+-- a number beyond the table is no tag
+beyond-first : (wide : Bool) (tag : ℕ) → 30 ≤ tag → getD (first-rows wide) tag 0 ≡ 0
+unfolding first-rows
+beyond-first false tag h = List·getD-eq-default (first-rows false) 0 h
+beyond-first true tag h = List·getD-eq-default (first-rows true) 0 h
+
+beyond-row : (wide : Bool) (tag : ℕ) → 63 ≤ tag → row-of wide tag ≡ 0
+beyond-row wide tag h = simp (ne-eqb tag 0x1E (λ q. omega arith), ne-eqb tag 0x3E (λ q. omega arith)) (beyond-first wide tag (omega arith))
+
+beyond-items : (wide : Bool) (tag : ℕ) → 63 ≤ tag → spread wide (getD grammar tag never) ≡ never
+unfolding grammar spread spread-kinds
+beyond-items wide tag h = ap (spread wide) (List·getD-eq-default grammar never h)
+
+start-true : (wide : Bool) (tag : ℕ) → all-true (start-tests (row-of wide tag) (items-in wide tag)) ≡ true
+unfolding items-in items-of
+start-true wide tag =
+    ⊎-elim (λ (q : tag < 63). all-below (λ t. all-true (start-tests (row-of wide t) (spread wide (getD grammar t never)))) 63 tag (starts-ok wide) q)
+    (λ (q : 63 ≤ tag). ap₂ (λ (r : ℕ) (is : List Item). all-true (start-tests r is)) (beyond-row wide tag q) (beyond-items wide tag q) ∙ never-true)
+    (lt-or-le tag 63)
 
 module _ (row : ℕ) (is : List Item) (t : all-true (start-tests row is) ≡ true) where
-  first-low : row < 78
+  first-low : row < 163
   unfolding start-tests
-  first-low = ltb-true _ 78 (nth-true (start-tests row is) t 1)
+  first-low = ltb-true _ 163 (nth-true (start-tests row is) t 1)
 
   first-valid : Valid row 0
   unfolding start-tests
@@ -485,49 +511,54 @@ module _ (row : ℕ) (is : List Item) (t : all-true (start-tests row is) ≡ tru
   first-kids : (p : List ℕ) → kids is p ≡ kids-row row 0 p
   first-kids p = sym (kids-state p row 0 first-low first-valid ∙ ap (λ (i : List Item). kids i p) first-is)
 
-pub start-low : (tag : ℕ) → getD first-rows tag 0 < 78
-start-low tag = first-low (getD first-rows tag 0) (getD grammar tag never) (start-true tag)
-
 -- as the code finds it for a node that is not the last
-pub start-tag : (tag : ℕ) → tag < 0x1E → getD first-rows tag 0 ≡ start-of tag false
-unfolding start-of
-start-tag tag h = simp (ne-eqb tag 0x1E (λ q. omega arith))
+module _ (wide : Bool) (tag : ℕ) where
+  pub start-low : start-of wide tag false < 163
+  unfolding start-of
+  start-low = go (is-program tag) (first-low (row-of wide tag) (items-in wide tag) (start-true wide tag))
+    where
+      go : (b : Bool) → cond b 77 (getD (first-rows wide) tag 0) < 163 → cond b 0 (getD (first-rows wide) tag 0) < 163
+      go true h = omega arith
+      go false h = h
 
-pub start-none : (tag : ℕ) → 0x1E ≤ tag → 0 ≡ start-of tag false
-unfolding start-of first-rows
-start-none tag h =
-    ⊎-elim (λ (q : 0x1E ≡ tag). simp (eq-eqb tag 0x1E (sym q)))
-    (λ (q : 0x1E < tag). simp (ne-eqb tag 0x1E (λ e. omega arith)) (sym (List·getD-eq-default first-rows 0 q)))
-    (eq-or-lt-of-le h)
+  pub start-tag : tag < 0x1E → getD (first-rows wide) tag 0 ≡ start-of wide tag false
+  unfolding start-of
+  start-tag h = simp (ne-eqb tag 0x1E (λ q. omega arith), ne-eqb tag 0x3E (λ q. omega arith))
+
+  pub start-none : 0x1E ≤ tag → 0 ≡ start-of wide tag false
+  unfolding start-of
+  start-none h = go (is-program tag)
+    where
+      go : (b : Bool) → 0 ≡ cond b 0 (getD (first-rows wide) tag 0)
+      go true = refl
+      go false = sym (beyond-first wide tag h)
 
 -- a node that must be the program, or must not be
-module _ {A : Type 0} (f : List Item → A) (g : ℕ → A) (tag : ℕ) (yes : f (items-of tag) ≡ g (getD first-rows tag 0)) (non : f never ≡ g 0) where
-  by-start : (final : Bool) → f (items-for tag final) ≡ g (start-of tag final)
+module _ {A : Type 0} (f : List Item → A) (g : ℕ → A) (wide : Bool) (tag : ℕ) (yes : f (items-in wide tag) ≡ g (row-of wide tag)) (non : f never ≡ g 0) where
+  by-start : (final : Bool) → f (items-for wide tag final) ≡ g (start-of wide tag final)
   unfolding items-for start-of
-  by-start true = go (eqb tag 0x1E)
+  by-start true = go (is-program tag) yes
     where
-      go : (b : Bool) → f (cond b (items-of tag) never) ≡ g (cond b (getD first-rows tag 0) 0)
-      go true = yes
-      go false = non
-  by-start false = go (eqb tag 0x1E)
+      go : (b : Bool) → f (items-in wide tag) ≡ g (cond b 77 (getD (first-rows wide) tag 0)) → f (cond b (items-in wide tag) never) ≡ g (cond b 77 0)
+      go true y = y
+      go false y = non
+  by-start false = go (is-program tag) yes
     where
-      go : (b : Bool) → f (cond b never (items-of tag)) ≡ g (cond b 0 (getD first-rows tag 0))
-      go true = non
-      go false = yes
+      go : (b : Bool) → f (items-in wide tag) ≡ g (cond b 77 (getD (first-rows wide) tag 0)) → f (cond b never (items-in wide tag)) ≡ g (cond b 0 (getD (first-rows wide) tag 0))
+      go true y = non
+      go false y = y
 
-pub fits-rows : (ok : ℕ → ℕ → Bool) (tag : ℕ) (final : Bool) (p : List ℕ) → fits ok (items-for tag final) p ≡ fits-row ok (start-of tag final) 0 p
-unfolding items-of
-fits-rows ok tag final p =
-    by-start (λ is. fits ok is p) (λ r. fits-row ok r 0 p) tag
-    (first-fits (getD first-rows tag 0) (getD grammar tag never) (start-true tag) ok p)
+pub fits-rows : (ok : ℕ → ℕ → Bool) (wide : Bool) (tag : ℕ) (final : Bool) (p : List ℕ) → fits ok (items-for wide tag final) p ≡ fits-row ok (start-of wide tag final) 0 p
+fits-rows ok wide tag final p =
+    by-start (λ is. fits ok is p) (λ r. fits-row ok r 0 p) wide tag
+    (first-fits (row-of wide tag) (items-in wide tag) (start-true wide tag) ok p)
     (first-fits 0 never never-true ok p)
     final
 
 -- a payload that fits names the children of its tag
-pub kids-rows : (tag : ℕ) (final : Bool) (p : List ℕ) → kids (items-for tag final) p ≡ kids-row (start-of tag final) 0 p
-unfolding items-of
-kids-rows tag final p =
-    by-start (λ is. kids is p) (λ r. kids-row r 0 p) tag
-    (first-kids (getD first-rows tag 0) (getD grammar tag never) (start-true tag) p)
+pub kids-rows : (wide : Bool) (tag : ℕ) (final : Bool) (p : List ℕ) → kids (items-for wide tag final) p ≡ kids-row (start-of wide tag final) 0 p
+kids-rows wide tag final p =
+    by-start (λ is. kids is p) (λ r. kids-row r 0 p) wide tag
+    (first-kids (row-of wide tag) (items-in wide tag) (start-true wide tag) p)
     (first-kids 0 never never-true p)
     final

@@ -1,16 +1,17 @@
--- The grammar as the code has it: a table of rows, a row for each place in the payload of each tag. A row is one number:
+-- The grammar as the code has it: a table of rows, a row for each place in the payload of each tag, and further rows for tags whose marks are wide.
+-- A row is one number:
 --     kind      what the word there is, in the lowest four bits
 --     next      16 times the row of the word after it
---     done      2,048 times the row of the word after it, where no group of a counted run is left to come
---     flow      262,144 times 1 where the word is a count of groups, 2 where it is the last of its group, else 0
---     ends      1,048,576 where the payload may end before this word
+--     done      4,096 times the row of the word after it, where no group of a counted run is left to come
+--     flow      1,048,576 times 1 where the word is a count of groups, 2 where it is the last of its group, else 0
+--     ends      4,194,304 where the payload may end before this word
 -- Only contracts of inner functions cite this; proofs/Table.antt proves that the rows say what the grammar says.
 use Prim.Native.Nat.{ℕ, _+_, _-_, _*_, _/_, _%_}
 use mathlib.Core.Bool.{Bool, true, false, _&&_, cond}
 use mathlib.Core.List.{List, [], _∷_, _++_}
 use lib.ListN.{getD}
 use lib.Dec.{eqb}
-use Rattle.meaning.specs.Grammar.{none, any, name, op, op12, count, expr, stmt, elif, method, super, init, names}
+use Rattle.meaning.specs.Grammar.{none, any, name, op, op12, count, expr, stmt, elif, method, super, init, names, is-program}
 
 -- a word that is in no counted run, or not the last of its group
 abbrev word : (kind next : ℕ) → ℕ
@@ -18,15 +19,15 @@ word k n = k + 16 * n
 
 -- a count: the first word of a group is due next, or what comes after the run
 abbrev counts : (next done : ℕ) → ℕ
-counts n d = word count n + 2048 * d + 262144
+counts n d = word count n + 4096 * d + 1048576
 
 -- the last word of a group: another group is due next, or what comes after the run
 abbrev closes : (kind next done : ℕ) → ℕ
-closes k n d = word k n + 2048 * d + 524288
+closes k n d = word k n + 4096 * d + 2097152
 
 -- a row before which the payload may end
 abbrev ending : ℕ → ℕ
-ending row = row + 1048576
+ending row = row + 4194304
 
 -- the rows in order; where a tag's begin, the number is named
 unfoldable pub row-list : List ℕ
@@ -135,11 +136,114 @@ row-list =
     ending (word method 76) ∷
     -- 77: 1E program
     ending (word stmt 77) ∷
+    -- 78: 04 variable, wide
+    word name 79 ∷
+    word any 80 ∷
+    word any 1 ∷
+    -- 81: 05 unary, wide
+    word op 82 ∷
+    word any 83 ∷
+    word any 84 ∷
+    word expr 1 ∷
+    -- 85: 06 binary, wide
+    word op12 86 ∷
+    word any 87 ∷
+    word any 88 ∷
+    word expr 89 ∷
+    word expr 1 ∷
+    -- 90: 07 logical, wide
+    word op 91 ∷
+    word any 92 ∷
+    word any 93 ∷
+    word expr 94 ∷
+    word expr 1 ∷
+    -- 95: 08 call, wide
+    word expr 96 ∷
+    word any 97 ∷
+    word any 98 ∷
+    ending (word expr 98) ∷
+    -- 99: 09 function, wide
+    counts 100 103 ∷
+    word name 101 ∷
+    word any 102 ∷
+    closes any 100 103 ∷
+    ending (word stmt 103) ∷
+    -- 104: 11 let, wide
+    word name 105 ∷
+    word any 106 ∷
+    word any 107 ∷
+    ending (word expr 1) ∷
+    -- 108: 13 while, wide
+    word any 109 ∷
+    word any 110 ∷
+    word expr 111 ∷
+    word stmt 1 ∷
+    -- 112: 14 for, wide
+    word any 113 ∷
+    word any 114 ∷
+    word init 115 ∷
+    word expr 116 ∷
+    word expr 117 ∷
+    word stmt 1 ∷
+    -- 118: 15 for-in, wide
+    word any 119 ∷
+    word any 120 ∷
+    word expr 121 ∷
+    word stmt 122 ∷
+    word name 123 ∷
+    word any 124 ∷
+    word any 125 ∷
+    ending (word name 126) ∷
+    word any 127 ∷
+    word any 125 ∷
+    -- 128: 16 break, wide
+    word any 129 ∷
+    word any 1 ∷
+    -- 130: 17 continue, wide
+    word any 131 ∷
+    word any 1 ∷
+    -- 132: 18 return, wide
+    word any 133 ∷
+    word any 134 ∷
+    ending (word expr 1) ∷
+    -- 135: 19 if, wide
+    word any 136 ∷
+    word any 137 ∷
+    word expr 138 ∷
+    counts 139 140 ∷
+    closes stmt 139 140 ∷
+    counts 141 142 ∷
+    closes elif 141 142 ∷
+    ending (word stmt 142) ∷
+    -- 143: 1B try, wide
+    word stmt 144 ∷
+    word name 145 ∷
+    word any 146 ∷
+    word any 147 ∷
+    word stmt 1 ∷
+    -- 148: 1C function statement, wide
+    word name 149 ∷
+    word any 150 ∷
+    word any 151 ∷
+    counts 152 155 ∷
+    word name 153 ∷
+    word any 154 ∷
+    closes any 152 155 ∷
+    ending (word stmt 155) ∷
+    -- 156: 1D class, wide
+    word name 157 ∷
+    word any 158 ∷
+    word any 159 ∷
+    word super 160 ∷
+    counts 161 162 ∷
+    closes method 161 162 ∷
+    ending (word method 162) ∷
     []
 
--- the first row of each tag, from 00 on, and 0 for a number that is no tag
-unfoldable pub first-rows : List ℕ
-first-rows = 0 ∷ 2 ∷ 6 ∷ 7 ∷ 8 ∷ 10 ∷ 13 ∷ 17 ∷ 21 ∷ 24 ∷ 0 ∷ 0 ∷ 0 ∷ 0 ∷ 0 ∷ 0 ∷ 28 ∷ 29 ∷ 32 ∷ 33 ∷ 36 ∷ 41 ∷ 48 ∷ 49 ∷ 50 ∷ 52 ∷ 59 ∷ 61 ∷ 65 ∷ 71 ∷ 77 ∷ []
+-- the first row of each tag but a program's, from 00 on, and 0 for a number that is no tag; what has no mark shares its rows in a wide tree
+unfoldable pub first-rows : (wide : Bool) → List ℕ
+first-rows false = 0 ∷ 2 ∷ 6 ∷ 7 ∷ 8 ∷ 10 ∷ 13 ∷ 17 ∷ 21 ∷ 24 ∷ 0 ∷ 0 ∷ 0 ∷ 0 ∷ 0 ∷ 0 ∷ 28 ∷ 29 ∷ 32 ∷ 33 ∷ 36 ∷ 41 ∷ 48 ∷ 49 ∷ 50 ∷ 52 ∷ 59 ∷ 61 ∷ 65 ∷ 71 ∷ []
+first-rows true = 0 ∷ 2 ∷ 6 ∷ 7 ∷ 78 ∷ 81 ∷ 85 ∷ 90 ∷ 95 ∷ 99 ∷ 0 ∷ 0 ∷ 0 ∷ 0 ∷ 0 ∷ 0 ∷ 28 ∷ 104 ∷ 32 ∷ 108 ∷ 112 ∷ 118 ∷ 128 ∷ 130 ∷ 132 ∷ 135 ∷ 59 ∷ 143 ∷ 148 ∷ 156 ∷ []
 
 -- ---- what a row says
 
@@ -153,19 +257,19 @@ kind-in row = row % 16
 
 -- the number of the row after it
 abbrev pub next-in : ℕ → ℕ
-next-in row = row / 16 % 128
+next-in row = row / 16 % 256
 
 -- the number of the row after it, where no group is left
 abbrev pub done-in : ℕ → ℕ
-done-in row = row / 2048 % 128
+done-in row = row / 4096 % 256
 
 -- 1 a count, 2 the last word of a group, 0 any other
 abbrev pub flow-in : ℕ → ℕ
-flow-in row = row / 262144 % 4
+flow-in row = row / 1048576 % 4
 
 -- the payload may end before it
 abbrev pub ends-in : ℕ → Bool
-ends-in row = eqb (row / 1048576) 1
+ends-in row = eqb (row / 4194304) 1
 
 -- how many groups of a counted run are left after the word w of a row, where `left` were before it
 unfoldable pub next-left : (row left w : ℕ) → ℕ
@@ -195,7 +299,7 @@ kids-row r left (a ∷ b ∷ p) =
     let left′ = next-left (row-at r) left w in
     cond (names (kind-in (row-at r)) w) (w ∷ []) [] ++ kids-row (next-row (row-at r) left′) left′ p
 
--- the first row of a node: the last node is a program, and no other is
-unfoldable pub start-of : (tag : ℕ) → (last : Bool) → ℕ
-start-of tag true = cond (eqb tag 0x1E) (getD first-rows tag 0) 0
-start-of tag false = cond (eqb tag 0x1E) 0 (getD first-rows tag 0)
+-- the first row of a node: the last node is a program, whose row is 77, and no other is
+unfoldable pub start-of : (wide : Bool) → (tag : ℕ) → (last : Bool) → ℕ
+start-of wide tag true = cond (is-program tag) 77 0
+start-of wide tag false = cond (is-program tag) 0 (getD (first-rows wide) tag 0)

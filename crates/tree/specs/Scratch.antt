@@ -8,8 +8,8 @@ use Prim.Native.Nat.{ℕ, suc, _+_, _-_, _*_, _/_, _%_, _<_, _≤_}
 use lib.ListN.{length, getD, set, drop}
 use lib.Dec.{leb, ltb, eqb}
 use Rattle.meaning.specs.Base.{lowest}
-use Rattle.meaning.specs.Fields.{Field, fields, left}
-use Rattle.meaning.specs.Grammar.{names, shape-at}
+use Rattle.meaning.specs.Fields.{Field, field-at, fields, left}
+use Rattle.meaning.specs.Grammar.{names, lawful, items-for, fits, tags-of}
 use Rattle.meaning.specs.Tree.{kids-of, depth-by}
 use Rattle.tree.specs.Used.{few}
 use Rattle.tree.specs.Rows.{row-at, kind-in, next-left, next-row}
@@ -45,10 +45,10 @@ note-row ok l i r left (a ∷ b ∷ p) =
     let left′ = next-left (row-at r) left w in
     cond (ok kind w) (note-row ok (note-word l i kind w) i (next-row (row-at r) left′) left′ p) l
 
--- all nodes, of which the first is node i: each notes its children and enters its own tag
-unfoldable pub enter-all : List ℕ → (i : ℕ) → List Field → List ℕ
-enter-all l i [] = l
-enter-all l i (f ∷ fs) = enter-all (set (note-all l i (kids-of f)) i (f .tag)) (suc i) fs
+-- all nodes, of which the first is node i: each notes its children, by the width of marks, and enters its own tag
+unfoldable pub enter-all : (wide : Bool) → List ℕ → (i : ℕ) → List Field → List ℕ
+enter-all wide l i [] = l
+enter-all wide l i (f ∷ fs) = enter-all wide (set (note-all l i (kids-of wide f)) i (f .tag)) (suc i) fs
 
 -- b is a with other words below n alone
 pub record Beyond (n : ℕ) (a b : List ℕ) : Type 0 where
@@ -56,18 +56,27 @@ pub record Beyond (n : ℕ) (a b : List ℕ) : Type 0 where
   pub rest : drop n b ≡ drop n a
 
 -- the words as after all nodes, whatever they were before
-pub record Entered (fs : List Field) (l : List ℕ) : Type 0 where
+pub record Entered (wide : Bool) (fs : List Field) (l : List ℕ) : Type 0 where
   pub before : List ℕ
   pub size : length l ≡ length before
-  pub all : l ≡ enter-all before 0 fs
+  pub all : l ≡ enter-all wide before 0 fs
 
--- what one walk over a file finds, and leaves in the scratch: the whole fields, the bytes after them, and, where refusals 1 and 2 are passed, the lowest wrong shape
-pub record Found (tree l : List ℕ) (count after wrong : ℕ) : Type 0 where
+-- the shape of node i is right, judged by marks of a width; `shape-at` is that of the tree's own width
+unfoldable pub shape-by : (wide : Bool) → List Field → ℕ → Bool
+shape-by wide fs i = fits (lawful (tags-of fs) i) (items-for wide (field-at fs i .tag) (eqb (i + 1) (length fs))) (field-at fs i .payload)
+
+-- the tag of the last field, 0 where there is none
+abbrev pub last-tag : List Field → ℕ
+last-tag fs = field-at fs (length fs - 1) .tag
+
+-- what one walk over a file that judges by a width finds, and leaves in the scratch: the whole fields, the bytes after them, and, where refusals 1
+-- and 2 are passed, the lowest wrong shape
+pub record Found (wide : Bool) (tree l : List ℕ) (count after wrong : ℕ) : Type 0 where
   pub whole-fields : count ≡ length (fields tree)
   pub bytes-after : after ≡ length (left tree)
   pub room : few count ≤ length l
-  pub misshapen : after ≡ 0 → count ≤ 32768 → wrong < count → wrong ≡ lowest (shape-at (fields tree)) count
-  pub shapely : after ≡ 0 → count ≤ 32768 → count ≤ wrong → (count ≡ lowest (shape-at (fields tree)) count) × Entered (fields tree) l
+  pub misshapen : after ≡ 0 → count ≤ 32768 → wrong < count → wrong ≡ lowest (shape-by wide (fields tree)) count
+  pub shapely : after ≡ 0 → count ≤ 32768 → count ≤ wrong → (count ≡ lowest (shape-by wide (fields tree)) count) × Entered wide (fields tree) l
 
 -- the word says that its node is a child exactly once, and of which
 unfoldable pub once : ℕ → Bool

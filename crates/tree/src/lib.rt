@@ -1,4 +1,4 @@
-// Tree files: fields, shapes, owners, and refusals 1 to 6 (document 01, "Tree file" and "Outcome"); then 21 and 27 (document 02, E2 and E11).
+// Tree files: fields, shapes, owners, and refusals 1 to 6 (01, "Tree file" and "Outcome", and 02, E5); then 21 and 27 (02, E2 and E11).
 mod owners;
 mod retired;
 mod rows;
@@ -11,6 +11,7 @@ ghost use mathlib.Core.Path.{_≡_};
 ghost use Prim.Native.Nat.{_≤_};
 ghost use lib.ListN.{length};
 ghost use Rattle.meaning.specs.Fields.{fields};
+ghost use Rattle.meaning.specs.Grammar.{wide-marks};
 ghost use Rattle.meaning.specs.Check.{checked-tree, checked};
 ghost use Rattle.tree.specs.Used.{few, zeroed, scratch-after};
 ghost use Rattle.tree.specs.Scratch.{Beyond, Found};
@@ -27,7 +28,7 @@ fn few(n: usize) -> usize
 
 // Refusals 1 to 6, in that order, or the number of nodes, as in mode 0, from what a walk found and left in the scratch. The contract alone reads the tree.
 fn judged(tree: &[u8], scratch: &mut [u32], walked: Walked, work_len: usize) -> Outcome
-    requires { ⌜ Found (now tree) (now scratch) (walked .count) (walked .after) (walked .wrong) ⌝ }
+    requires { ⌜ Found (wide-marks (fields (now tree))) (now tree) (now scratch) (walked .count) (walked .after) (walked .wrong) ⌝ }
     ensures outcome { λ r. ⌜ r ≡ checked-tree 0 (now (tree .entry)) «work_len» ⌝ }
     ensures beyond { λ _. ⌜ Beyond (few (walked .count)) (now (scratch .entry)) (now (scratch .exit)) ⌝ }
 {

@@ -1,10 +1,10 @@
-// The payloads of all tags as a table: a row for each place in a payload. A row is one number:
+// The payloads of all tags as a table: a row for each place in a payload, and further ones where wide marks make another. A row is one number:
 //     its kind, what the word there is, in the lowest four bits
 //     NEXT      times the row of the word after it
 //     COUNTS    the word is a count of groups; CLOSES: it is the last of its group. Where no group is left to come,
 //     DONE      times the row of the word after it
 //     ENDS      the payload may end before this word
-// specs/Rows.antt has the same table, and proofs/Table.antt proves that it says what 01's grammar says.
+// specs/Rows.antt has the same table, and proofs/Table.antt proves that it says what the grammar of 01 and of 02, E5, says.
 use fields::wide;
 ghost use mathlib.Core.Path.{_≡_};
 ghost use Prim.Native.Nat.{_-_, _<_};
@@ -39,15 +39,15 @@ const INIT: u32 = 11;
 
 const NEXT: u32 = 16;
 
-const DONE: u32 = 2048;
+const DONE: u32 = 4096;
 
-const COUNTS: u32 = 262144;
+const COUNTS: u32 = 1048576;
 
-const CLOSES: u32 = 524288;
+const CLOSES: u32 = 2097152;
 
-const ENDS: u32 = 1048576;
+const ENDS: u32 = 4194304;
 
-pub(crate) const ROWS: [u32; 78] = [
+pub(crate) const ROWS: [u32; 163] = [
     // 0: no tag: nothing fits
     NONE + 1 * NEXT,
     // 1: the end of a payload of fixed length
@@ -152,10 +152,112 @@ pub(crate) const ROWS: [u32; 78] = [
     METHOD + 76 * NEXT + ENDS,
     // 77: 1E program
     STMT + 77 * NEXT + ENDS,
+    // 78: 04 variable, wide
+    NAME + 79 * NEXT,
+    ANY + 80 * NEXT,
+    ANY + 1 * NEXT,
+    // 81: 05 unary, wide
+    OP + 82 * NEXT,
+    ANY + 83 * NEXT,
+    ANY + 84 * NEXT,
+    EXPR + 1 * NEXT,
+    // 85: 06 binary, wide
+    OP12 + 86 * NEXT,
+    ANY + 87 * NEXT,
+    ANY + 88 * NEXT,
+    EXPR + 89 * NEXT,
+    EXPR + 1 * NEXT,
+    // 90: 07 logical, wide
+    OP + 91 * NEXT,
+    ANY + 92 * NEXT,
+    ANY + 93 * NEXT,
+    EXPR + 94 * NEXT,
+    EXPR + 1 * NEXT,
+    // 95: 08 call, wide
+    EXPR + 96 * NEXT,
+    ANY + 97 * NEXT,
+    ANY + 98 * NEXT,
+    EXPR + 98 * NEXT + ENDS,
+    // 99: 09 function, wide
+    COUNT + 100 * NEXT + 103 * DONE + COUNTS,
+    NAME + 101 * NEXT,
+    ANY + 102 * NEXT,
+    ANY + 100 * NEXT + 103 * DONE + CLOSES,
+    STMT + 103 * NEXT + ENDS,
+    // 104: 11 let, wide
+    NAME + 105 * NEXT,
+    ANY + 106 * NEXT,
+    ANY + 107 * NEXT,
+    EXPR + 1 * NEXT + ENDS,
+    // 108: 13 while, wide
+    ANY + 109 * NEXT,
+    ANY + 110 * NEXT,
+    EXPR + 111 * NEXT,
+    STMT + 1 * NEXT,
+    // 112: 14 for, wide
+    ANY + 113 * NEXT,
+    ANY + 114 * NEXT,
+    INIT + 115 * NEXT,
+    EXPR + 116 * NEXT,
+    EXPR + 117 * NEXT,
+    STMT + 1 * NEXT,
+    // 118: 15 for-in, wide
+    ANY + 119 * NEXT,
+    ANY + 120 * NEXT,
+    EXPR + 121 * NEXT,
+    STMT + 122 * NEXT,
+    NAME + 123 * NEXT,
+    ANY + 124 * NEXT,
+    ANY + 125 * NEXT,
+    NAME + 126 * NEXT + ENDS,
+    ANY + 127 * NEXT,
+    ANY + 125 * NEXT,
+    // 128: 16 break, wide
+    ANY + 129 * NEXT,
+    ANY + 1 * NEXT,
+    // 130: 17 continue, wide
+    ANY + 131 * NEXT,
+    ANY + 1 * NEXT,
+    // 132: 18 return, wide
+    ANY + 133 * NEXT,
+    ANY + 134 * NEXT,
+    EXPR + 1 * NEXT + ENDS,
+    // 135: 19 if, wide
+    ANY + 136 * NEXT,
+    ANY + 137 * NEXT,
+    EXPR + 138 * NEXT,
+    COUNT + 139 * NEXT + 140 * DONE + COUNTS,
+    STMT + 139 * NEXT + 140 * DONE + CLOSES,
+    COUNT + 141 * NEXT + 142 * DONE + COUNTS,
+    ELIF + 141 * NEXT + 142 * DONE + CLOSES,
+    STMT + 142 * NEXT + ENDS,
+    // 143: 1B try, wide
+    STMT + 144 * NEXT,
+    NAME + 145 * NEXT,
+    ANY + 146 * NEXT,
+    ANY + 147 * NEXT,
+    STMT + 1 * NEXT,
+    // 148: 1C function statement, wide
+    NAME + 149 * NEXT,
+    ANY + 150 * NEXT,
+    ANY + 151 * NEXT,
+    COUNT + 152 * NEXT + 155 * DONE + COUNTS,
+    NAME + 153 * NEXT,
+    ANY + 154 * NEXT,
+    ANY + 152 * NEXT + 155 * DONE + CLOSES,
+    STMT + 155 * NEXT + ENDS,
+    // 156: 1D class, wide
+    NAME + 157 * NEXT,
+    ANY + 158 * NEXT,
+    ANY + 159 * NEXT,
+    SUPER + 160 * NEXT,
+    COUNT + 161 * NEXT + 162 * DONE + COUNTS,
+    METHOD + 161 * NEXT + 162 * DONE + CLOSES,
+    METHOD + 162 * NEXT + ENDS,
 ];
 
-// The first row of each tag, from 00 on; 0 for a number that is no tag.
-pub(crate) const STARTS: [u8; 31] = [
+// The first row of each tag but a program's, from 00 on; 0 for a number that is no tag.
+pub(crate) const STARTS: [u8; 30] = [
     0,
     2,
     6,
@@ -186,7 +288,40 @@ pub(crate) const STARTS: [u8; 31] = [
     61,
     65,
     71,
-    77,
+];
+
+// The same in a tree of wide marks: tags that have no mark share their rows.
+pub(crate) const WIDE_STARTS: [u8; 30] = [
+    0,
+    2,
+    6,
+    7,
+    78,
+    81,
+    85,
+    90,
+    95,
+    99,
+    0,
+    0,
+    0,
+    0,
+    0,
+    0,
+    28,
+    104,
+    32,
+    108,
+    112,
+    118,
+    128,
+    130,
+    132,
+    135,
+    59,
+    143,
+    148,
+    156,
 ];
 
 // Of each kind the lowest, the highest and one more that is not lawful: of the word, and from EXPR on of the child's tag.
@@ -271,39 +406,39 @@ pub(crate) fn place_after(row: usize, left: usize, w: usize) -> Place
     ensures { λ r. ⌜ (r .left ≡ next-left row left w) × (r .at ≡ next-row row (r .left)) ⌝ }
 {
     // most rows have nothing but a kind and the next row
-    if row < 2048 {
+    if row < 4096 {
         return Place {
             at: row / 16,
             left: left,
         };
     }
-    let flow = row / 262144 % 4;
+    let flow = row / 1048576 % 4;
     if flow == 0 {
         return Place {
-            at: row / 16 % 128,
+            at: row / 16 % 256,
             left: left,
         };
     }
     let more = left_after(flow, left, w);
     if more == 0 {
         return Place {
-            at: row / 2048 % 128,
+            at: row / 4096 % 256,
             left: 0,
         };
     }
     Place {
-        at: row / 16 % 128,
+        at: row / 16 % 256,
         left: more,
     }
 }
 
-// The first row of a node: the last node is a program, and no other is.
-pub(crate) fn start_of(starts: &[u8; 31], tag: u8, last: bool) -> usize
-    requires { ⌜ now starts ≡ first-rows ⌝ }
-    ensures { λ r. ⌜ (r ≡ start-of tag last) × (r < 78) ⌝ }
+// The first row of a node: the last node is a program, and no other is. The contract alone reads whether marks have four bytes, as the starts say.
+pub(crate) fn start_of(starts: &[u8; 30], four: bool, tag: u8, last: bool) -> usize
+    requires { ⌜ now starts ≡ first-rows four ⌝ }
+    ensures { λ r. ⌜ (r ≡ start-of four tag last) × (r < 163) ⌝ }
 {
     if last {
-        if tag == 0x1E {
+        if (tag == 0x1E) | (tag == 0x3E) {
             return 77;
         }
         return 0;
@@ -337,6 +472,7 @@ pub(crate) fn is_inside(limits: &[u32; 36], kind: usize, v: usize) -> bool
 
 // The word names a child.
 pub(crate) fn is_child(kind: usize, w: usize) -> bool
+    requires { ⌜ kind < 12 ⌝ }
     ensures { λ r. ⌜ r ≡ names kind w ⌝ }
 {
     if kind < 6 {

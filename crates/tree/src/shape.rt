@@ -1,8 +1,10 @@
-// One walk over the fields: how many there are, refusal 3, and on the way who has whom as a child. The scratch has a word for each node below the one in hand: its tag, and 256 times the
-// node that has it as a child plus one, 0 where none has, 65,535 where it is a child more than once.
+// One walk over the fields: how many there are, refusal 3, and on the way who has whom as a child; another where the last tag says that marks have
+// four bytes. The scratch has a word for each node below the one in hand: its tag, and 256 times the node that has it as a child plus one, 0 where none
+// has, 65,535 where it is a child more than once.
 use crate::rows::LIMITS;
 use crate::rows::ROWS;
 use crate::rows::STARTS;
+use crate::rows::WIDE_STARTS;
 use crate::rows::is_child;
 use crate::rows::is_inside;
 use crate::rows::place_after;
@@ -17,9 +19,9 @@ ghost use mathlib.Core.Bool.{cond};
 ghost use Prim.Native.Nat.{_<_, _≤_};
 ghost use lib.ListN.{length};
 ghost use Rattle.meaning.specs.Fields.{fields};
-ghost use Rattle.meaning.specs.Grammar.{bounds, lawful};
+ghost use Rattle.meaning.specs.Grammar.{bounds, lawful, wide-marks};
 ghost use Rattle.tree.specs.Rows.{row-list, first-rows, fits-row};
-ghost use Rattle.tree.specs.Scratch.{tags-in, note, note-word, note-row, Beyond, Found};
+ghost use Rattle.tree.specs.Scratch.{tags-in, note, note-word, note-row, last-tag, Beyond, Found};
 ghost use Rattle.tree.specs.Used.{few};
 
 // Notes that node i has w as a child.
@@ -59,13 +61,13 @@ fn admit(scratch: &mut [u32], limits: &[u32; 36], i: usize, kind: usize, w: usiz
 // The payload p of node i fits from a row on.
 fn fits_from(
     scratch: &mut [u32],
-    rows: &[u32; 78],
+    rows: &[u32; 163],
     limits: &[u32; 36],
     i: usize,
     first: usize,
     p: &[u8],
 ) -> bool
-    requires { ⌜ (i < 32768) × (i ≤ length (now scratch)) × (first < 78) × (now rows ≡ row-list) × (now limits ≡ bounds) ⌝ }
+    requires { ⌜ (i < 32768) × (i ≤ length (now scratch)) × (first < 163) × (now rows ≡ row-list) × (now limits ≡ bounds) ⌝ }
     ensures fits { λ r. ⌜ r ≡ fits-row (lawful (tags-in (now (scratch .entry))) i) first 0 (now (p .entry)) ⌝ }
     ensures noted { λ r. ⌜ now (scratch .exit) ≡ note-row (lawful (tags-in (now (scratch .entry))) i) (now (scratch .entry)) i first 0 (now (p .entry)) ⌝ }
 {
@@ -87,58 +89,71 @@ fn fits_from(
     if q.len() == 1 {
         return false;
     }
-    wide32(rows[at]) / 1048576 == 1
+    wide32(rows[at]) / 4194304 == 1
 }
 
-// What a walk over the fields finds: how many whole ones there are, how many bytes stand after them, and the lowest one with a wrong shape, or 32,768.
+// What a walk over the fields finds: how many whole ones there are, the last one's tag, how many bytes stand after them, and the lowest one with a
+// wrong shape, or 32,768.
 pub(crate) struct Walked {
     pub(crate) count: usize,
+    pub(crate) last: u8,
     pub(crate) after: usize,
     pub(crate) wrong: usize,
 }
 
-// One walk over the file, by the tables that are lent.
+// One walk over the file, by the tables that are lent. The contract alone reads whether marks have four bytes, as the starts say.
 fn walk_by(
     scratch: &mut [u32],
     tree: &[u8],
-    rows: &[u32; 78],
-    starts: &[u8; 31],
+    four: bool,
+    rows: &[u32; 163],
+    starts: &[u8; 30],
     limits: &[u32; 36],
 ) -> Walked
-    requires { ⌜ (few (length (fields (now tree))) ≤ length (now scratch)) × (now rows ≡ row-list) × (now starts ≡ first-rows) × (now limits ≡ bounds) ⌝ }
-    ensures found { λ r. ⌜ Found (now (tree .entry)) (now (scratch .exit)) (r .count) (r .after) (r .wrong) ⌝ }
+    requires { ⌜ (few (length (fields (now tree))) ≤ length (now scratch)) × (now rows ≡ row-list) × (now starts ≡ first-rows four) × (now limits ≡ bounds) ⌝ }
+    ensures found { λ r. ⌜ Found four (now (tree .entry)) (now (scratch .exit)) (r .count) (r .after) (r .wrong) ⌝ }
+    ensures last { λ r. ⌜ r .last ≡ last-tag (fields (now (tree .entry))) ⌝ }
     ensures beyond { λ r. ⌜ Beyond (few (r .count)) (now (scratch .entry)) (now (scratch .exit)) ⌝ }
 {
     let mut t = tree;
     let mut wrong: usize = 32768;
     let mut i: usize = 0;
+    let mut last: u8 = 0;
     while is_whole(t) {
         let k = span_of(t);
+        last = t[0];
         // from a wrong node on, and behind as many nodes as a tree may have, fields are only counted
         if i < wrong {
-            let tag = t[0];
             // the last field is the one that ends the file
-            let first = start_of(starts, tag, k == t.len());
+            let first = start_of(starts, four, last, k == t.len());
             if !fits_from(scratch, rows, limits, i, first, payload(t)) {
                 wrong = i;
             }
-            scratch[i] = tag as u32;
+            scratch[i] = last as u32;
         }
         t = &t[k..];
         i = i + 1;
     }
     Walked {
         count: i,
+        last: last,
         after: t.len(),
         wrong: wrong,
     }
 }
 
-// The same. The tables are copied here once: a constant that a function indexes is copied at each of its calls.
+// The same, marks having as many bytes as the tree says: its last tag is known after a walk, and where it is 3E the file is walked again. The tables
+// are copied here once: a constant that a function indexes is copied at each of its calls.
 pub(crate) fn walk(scratch: &mut [u32], tree: &[u8]) -> Walked
     requires { ⌜ few (length (fields (now tree))) ≤ length (now scratch) ⌝ }
-    ensures found { λ r. ⌜ Found (now (tree .entry)) (now (scratch .exit)) (r .count) (r .after) (r .wrong) ⌝ }
+    ensures found { λ r. ⌜ Found (wide-marks (fields (now (tree .entry)))) (now (tree .entry)) (now (scratch .exit)) (r .count) (r .after) (r .wrong) ⌝ }
     ensures beyond { λ r. ⌜ Beyond (few (r .count)) (now (scratch .entry)) (now (scratch .exit)) ⌝ }
 {
-    walk_by(scratch, tree, &ROWS, &STARTS, &LIMITS)
+    let rows = ROWS;
+    let limits = LIMITS;
+    let narrow = walk_by(scratch, tree, false, &rows, &STARTS, &limits);
+    if narrow.last != 0x3E {
+        return narrow;
+    }
+    walk_by(scratch, tree, true, &rows, &WIDE_STARTS, &limits)
 }

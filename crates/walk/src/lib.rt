@@ -15,7 +15,7 @@ ghost use lib.ListN.{length, replicate};
 ghost use Rattle.meaning.specs.Fields.{fields};
 ghost use Rattle.meaning.specs.Answer.{cause-number};
 ghost use Rattle.meaning.specs.Images.{image-of};
-ghost use Rattle.meaning.specs.Reader.{broken};
+ghost use Rattle.meaning.specs.Reader.{broken, image-tag};
 ghost use Rattle.meaning.specs.Walker.{asked, walk-in, walk-image, ending-number, walk-answer, lent-bytes};
 ghost use Rattle.reader.specs.Laid.{Ordered};
 
@@ -102,22 +102,18 @@ pub fn walk(
     budget: u64,
     visited: &mut [u8],
 ) -> WalkAnswer
-    ensures answer { λ r. ⌜ r ≡ walk-answer (walk-image 0x43 (now (image .entry)) «prototype» (now (decisions .entry)) (now (strikes .entry)) «budget» (length (now (visited .entry)))) ⌝ }
-    ensures visited { λ r. ⌜ now (visited .exit) ≡ lent-bytes (walk-image 0x43 (now (image .entry)) «prototype» (now (decisions .entry)) (now (strikes .entry)) «budget» (length (now (visited .entry)))) (length (now (visited .entry))) ⌝ }
+    ensures answer { λ r. ⌜ r ≡ walk-answer (walk-image (image-tag (now (image .entry))) (now (image .entry)) «prototype» (now (decisions .entry)) (now (strikes .entry)) «budget» (length (now (visited .entry)))) ⌝ }
+    ensures visited { λ r. ⌜ now (visited .exit) ≡ lent-bytes (walk-image (image-tag (now (image .entry))) (now (image .entry)) «prototype» (now (decisions .entry)) (now (strikes .entry)) «budget» (length (now (visited .entry)))) (length (now (visited .entry))) ⌝ }
     ensures within { λ r. ⌜ r .steps ≤ «budget» ⌝ }
 {
     lent::clear(visited);
     let outcome = reader::read(image);
     match outcome {
         Outcome::Refused(cause, place) => refusal(cause, place),
-        Outcome::Accepted(_) => walk_taken(
-            image,
-            0x43,
-            prototype as usize,
-            decisions,
-            strikes,
-            budget,
-            visited,
-        ),
+        Outcome::Accepted(_) => {
+            let tag = reader::image_tag(image);
+            let q = prototype as usize;
+            walk_taken(image, tag, q, decisions, strikes, budget, visited)
+        }
     }
 }

@@ -41,8 +41,8 @@ fn never() -> bool {
     libc::getpid() == 0
 }
 
-// The compiler takes 2 GiB of locals in a function at most. An image that is taken has 234,892,032 bytes at most, so there is room for more than
-// 1,900,000,000 bytes of decisions and strikes.
+// The compiler takes 2 GiB of locals in a function at most. An image that is taken has 268,445,952 bytes at most, so there is room for more than
+// 1,870,000,000 bytes of decisions and strikes.
 fn large(read: &[u8], turns: usize, asked: Asked) {
     if never() && 0 < turns {
         large(read, turns - 1, asked);
@@ -173,7 +173,7 @@ fn shown(image: &[u8], q: usize, visited: &mut [u8]) {
     let Outcome::Accepted(_) = reader::read(image) else {
         return;
     };
-    let part = reader::prototype(image, 0x43, q);
+    let part = reader::prototype(image, reader::image_tag(image), q);
     if part.len() < 13 {
         return;
     }

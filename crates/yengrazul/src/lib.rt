@@ -3,7 +3,7 @@ ghost use mathlib.Core.Path.{_≡_};
 ghost use lib.ListN.{length, take};
 ghost use Rattle.meaning.specs.Fields.{fields};
 ghost use Rattle.meaning.specs.Check.{checked};
-ghost use Rattle.meaning.specs.Reader.{read-as, read-outcome};
+ghost use Rattle.meaning.specs.Reader.{image-tag, read-image, read-outcome};
 ghost use Rattle.meaning.specs.Answer.{finished, answer as answer-to, reply, output, work-area};
 ghost use Rattle.meaning.specs.Walker.{walk-image, walk-answer, lent-bytes};
 ghost use Rattle.meaning.specs.Mend.{mend-as, mend-answer, mend-output, mend-list};
@@ -43,7 +43,7 @@ pub extern "C" fn yengrazul_check(tree: &[u8], work_len: usize, mode: u64, answe
 // `reader::read`: number and place.
 #[no_mangle]
 pub extern "C" fn yengrazul_read(image: &[u8], answer: &mut [u64; 2])
-    ensures { λ _. ⌜ now (answer .exit) ≡ take 2 (told (answer-to (read-outcome (length (fields (now (image .entry)))) (read-as 0x43 (now (image .entry)))))) ⌝ }
+    ensures { λ _. ⌜ now (answer .exit) ≡ take 2 (told (answer-to (read-outcome (length (fields (now (image .entry)))) (read-image (now (image .entry)))))) ⌝ }
 {
     let read = values::answer_of(reader::read(image));
     *answer = [read.number, read.place];
@@ -60,8 +60,8 @@ pub extern "C" fn yengrazul_walk(
     visited: &mut [u8],
     answer: &mut [u64; 5],
 )
-    ensures answered { λ _. ⌜ now (answer .exit) ≡ walk-told (walk-answer (walk-image 0x43 (now (image .entry)) «prototype» (now (decisions .entry)) (now (strikes .entry)) «budget» (length (now (visited .entry))))) ⌝ }
-    ensures visited { λ _. ⌜ now (visited .exit) ≡ lent-bytes (walk-image 0x43 (now (image .entry)) «prototype» (now (decisions .entry)) (now (strikes .entry)) «budget» (length (now (visited .entry)))) (length (now (visited .entry))) ⌝ }
+    ensures answered { λ _. ⌜ now (answer .exit) ≡ walk-told (walk-answer (walk-image (image-tag (now (image .entry))) (now (image .entry)) «prototype» (now (decisions .entry)) (now (strikes .entry)) «budget» (length (now (visited .entry))))) ⌝ }
+    ensures visited { λ _. ⌜ now (visited .exit) ≡ lent-bytes (walk-image (image-tag (now (image .entry))) (now (image .entry)) «prototype» (now (decisions .entry)) (now (strikes .entry)) «budget» (length (now (visited .entry)))) (length (now (visited .entry))) ⌝ }
 {
     let walked = walk::walk(image, prototype, decisions, strikes, budget, visited);
     *answer = [
@@ -81,9 +81,9 @@ pub extern "C" fn yengrazul_mend(
     list: &mut [u8],
     answer: &mut [u64; 4],
 )
-    ensures answered { λ _. ⌜ now (answer .exit) ≡ mend-told (mend-answer (mend-as 0x43 (now (image .entry)) (length (now (out .entry))) (length (now (list .entry))))) ⌝ }
-    ensures written { λ _. ⌜ now (out .exit) ≡ mend-output (length (now (out .entry))) (mend-as 0x43 (now (image .entry)) (length (now (out .entry))) (length (now (list .entry)))) ⌝ }
-    ensures listed { λ _. ⌜ now (list .exit) ≡ mend-list (length (now (list .entry))) (mend-as 0x43 (now (image .entry)) (length (now (out .entry))) (length (now (list .entry)))) ⌝ }
+    ensures answered { λ _. ⌜ now (answer .exit) ≡ mend-told (mend-answer (mend-as (image-tag (now (image .entry))) (now (image .entry)) (length (now (out .entry))) (length (now (list .entry))))) ⌝ }
+    ensures written { λ _. ⌜ now (out .exit) ≡ mend-output (length (now (out .entry))) (mend-as (image-tag (now (image .entry))) (now (image .entry)) (length (now (out .entry))) (length (now (list .entry)))) ⌝ }
+    ensures listed { λ _. ⌜ now (list .exit) ≡ mend-list (length (now (list .entry))) (mend-as (image-tag (now (image .entry))) (now (image .entry)) (length (now (out .entry))) (length (now (list .entry)))) ⌝ }
 {
     let mended = mend::mend(image, out, list);
     *answer = [mended.number, mended.place, mended.length, mended.entries];

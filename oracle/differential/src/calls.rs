@@ -1,12 +1,13 @@
 //! One call of each function, with everything that must hold afterwards.
 use crate::lent::Lent;
-use files::tree::fields;
+use files::tree::{fields, is_wide};
 use oracle::facts;
 use oracle::judge::Refusal;
 use oracle::limits::{ask_in, Asked, Room, Work};
 use oracle::modes;
 use oracle::reading;
 use oracle::rng::Rng;
+use oracle::trees::width;
 use oracle::visits;
 
 /// `yengrazul_lower`: tree, work area, output, the mode, and the answer's four numbers.
@@ -73,6 +74,27 @@ pub fn both_modes(function: Lower, asked: &Asked, rng: &mut Rng) -> Result<(), F
     let marked = image_of(&remarked, asked.mode)?;
     let (zero, one) = if asked.mode == 0 { (&asked.image, &other) } else { (&other, &asked.image) };
     modes::shared(zero, one, &marked).map(|_| ())
+}
+
+/// What a wide tree shares with the one whose marks are narrowed, of a question that `lower` has found nothing wrong with: number, place and
+/// visits, where the output is large enough, and the image but for its marks. Of a tree that 1 to 3 refuse nothing is asked.
+pub fn both_widths(function: Lower, asked: &Asked) -> Result<(), Fault> {
+    let wide = fields(&asked.tree).is_ok_and(|nodes| is_wide(&nodes));
+    if !wide || matches!(asked.answer.number, 1..=3 | 18 | 21) {
+        return Ok(());
+    }
+    let tree = width::narrowed(&asked.tree, width::folded).expect("a shorter file");
+    let (mut work, mut answer) = (vec![0; asked.work as usize], [0; 4]);
+    let mut out = vec![0; asked.image.len()];
+    unsafe { call(function, &tree, &mut work, &mut out, asked.mode, &mut answer) };
+    let [number, place, length, visits] = answer;
+    let due = asked.answer.numbers();
+    same_numbers(&[number, place, visits], [due[0], due[1], due[3]])
+        .map_err(|fault| format!("its marks narrowed: {fault}"))?;
+    match number {
+        0 => width::same_but_for_marks(&asked.image, out.get(..length as usize).unwrap_or(&[])),
+        _ => Ok(()),
+    }
 }
 
 /// Refusals 21, 1 to 6 and 27 alone; an accepted tree has 0, 0 and its number of nodes.

@@ -26,6 +26,7 @@ fn plan(words: &[String]) -> Result<Plan, String> {
         meeting: 4_000,
         minuses: 400,
         classes: 4_000,
+        wide: 30_000,
         no_modes: 4_000,
         images: 150_000,
         fixed: true,
@@ -51,6 +52,7 @@ fn plan(words: &[String]) -> Result<Plan, String> {
             ("--meeting", _) => plan.meeting = number()?,
             ("--minuses", _) => plan.minuses = number()?,
             ("--classes", _) => plan.classes = number()?,
+            ("--wide", _) => plan.wide = number()?,
             ("--no-modes", _) => plan.no_modes = number()?,
             ("--mode", "0") => plan.modes = &[0],
             ("--mode", "1") => plan.modes = &[1],
@@ -86,9 +88,9 @@ fn report(plan: &Plan) -> ExitCode {
     let names: Vec<&str> = names.iter().filter(|(_, is)| *is).map(|(name, _)| *name).collect();
     println!("seed {}, against {}", plan.seed, names.join(" and "));
     if plan.lower.is_some() || plan.check.is_some() {
-        let Plan { random, damaged, meeting, minuses, classes, .. } = plan;
+        let Plan { random, damaged, meeting, minuses, classes, wide, .. } = plan;
         println!("{random} random and {damaged} damaged trees, {meeting} where limits meet, {minuses} of Minuses,");
-        println!("{classes} of classes, limits and shapes,");
+        println!("{classes} of classes, {wide} wide ones of all these, limits and shapes of both widths,");
         println!("each in modes {:?}, and {} calls in modes that are none", plan.modes, plan.no_modes);
     }
     if plan.read.is_some() && plan.images > 0 {

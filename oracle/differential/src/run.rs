@@ -25,6 +25,8 @@ pub struct Plan {
     pub minuses: u64,
     /// In each mode, the same trees.
     pub classes: u64,
+    /// In each mode: wide trees of all these kinds, damaged and mixed ones among them.
+    pub wide: u64,
     /// Calls in modes that are none.
     pub no_modes: u64,
     /// Random and damaged images for the reader; where there are none, the fixed ones are not asked either.
@@ -59,6 +61,7 @@ impl Plan {
             meeting: 0,
             minuses: 0,
             classes: 0,
+            wide: 0,
             no_modes: 0,
             images: 0,
             fixed: false,
@@ -144,6 +147,7 @@ fn turn(rows: &[Row], mut n: u64) -> Turn {
 #[derive(Default)]
 struct Fixed {
     limits: Vec<Question>,
+    wide_limits: Vec<Question>,
     shapes: Vec<Question>,
     images: Vec<Vec<u8>>,
     walks: Vec<walks::Question>,
@@ -163,6 +167,7 @@ impl Fixed {
         let (trees, images) = (plan.fixed && plan.asks_trees(), plan.fixed && plan.asks_images());
         Fixed {
             limits: if trees { questions::limits() } else { vec![] },
+            wide_limits: if trees { questions::wide_limits() } else { vec![] },
             shapes: if trees { questions::shapes() } else { vec![] },
             images: if images { images::fixed() } else { vec![] },
             walks: if plan.fixed && plan.asks_walks() { walks::fixed() } else { vec![] },
@@ -173,12 +178,14 @@ impl Fixed {
     fn asks(&self, plan: &Plan, t: &Turn) -> Asks {
         Asks::Tree(match t.kind {
             "limits" => self.limits[t.k as usize].clone().in_mode(t.mode),
+            "wide limits" => self.wide_limits[t.k as usize].clone().in_mode(t.mode),
             "shapes" => self.shapes[t.k as usize].clone().in_mode(t.mode),
             "modes" => questions::no_mode(plan.seed, t.k),
             "damaged" => questions::damaged(plan.seed, t.k, t.mode),
             "meeting" => questions::meeting(plan.seed, t.k, t.mode),
             "minuses" => questions::minuses(plan.seed, t.k, t.mode),
             "classes" => questions::classes(plan.seed, t.k, t.mode),
+            "wide" => questions::wide(plan.seed, t.k, t.mode),
             "random" => questions::random(plan.seed, t.k, t.mode),
             "fixed images" => return Asks::Image(self.images[t.k as usize].clone()),
             "images" => return Asks::Image(images::random::any(plan.seed, t.k)),
@@ -217,6 +224,7 @@ impl Plan {
         let mends = if self.asks_mends() { self.mends } else { 0 };
         vec![
             Row { kind: "limits", modes, count: fixed.limits.len() as u64 },
+            Row { kind: "wide limits", modes, count: fixed.wide_limits.len() as u64 },
             Row { kind: "shapes", modes, count: fixed.shapes.len() as u64 },
             Row { kind: "modes", modes: &[0], count: no_modes },
             Row { kind: "damaged", modes, count: self.damaged },
@@ -224,6 +232,7 @@ impl Plan {
             Row { kind: "minuses", modes, count: self.minuses },
             Row { kind: "classes", modes, count: self.classes },
             Row { kind: "random", modes, count: self.random },
+            Row { kind: "wide", modes, count: self.wide },
             Row { kind: "fixed images", modes: &[0], count: fixed.images.len() as u64 },
             Row { kind: "images", modes: &[0], count: images },
             Row { kind: "fixed walks", modes: &[0], count: fixed.walks.len() as u64 },
@@ -285,8 +294,11 @@ fn ask(plan: &Plan, turn: &Turn, question: Question, rng: &mut Rng, report: &mut
         let asked = question.ask();
         number = Some(asked.answer.number);
         let mut right = calls::lower(function, &asked, rng);
-        if turn.kind == "random" || turn.kind == "minuses" {
+        if turn.kind == "random" || turn.kind == "minuses" || turn.kind == "wide" {
             right = right.and_then(|()| calls::both_modes(function, &asked, rng));
+        }
+        if turn.kind == "wide" {
+            right = right.and_then(|()| calls::both_widths(function, &asked));
         }
         if let Some(read) = plan.read.filter(|_| asked.answer.number == 0) {
             right = right.and_then(|()| calls::read_back(read, &asked.image, rng));

@@ -1,8 +1,11 @@
 //! Image files: prototypes by index, the main one last, then constants.
 use crate::tree::{fields, push_field, Field};
+use crate::NONE;
 
 #[derive(Clone, Debug, Default, PartialEq)]
 pub struct Image {
+    /// Whether every mark has four bytes: each instruction's tag is 47 then, and not 43.
+    pub wide: bool,
     pub prototypes: Vec<Prototype>,
     pub constants: Vec<Constant>,
 }
@@ -28,7 +31,8 @@ pub struct Instruction {
     pub a: u8,
     pub b: u8,
     pub c: u8,
-    pub mark: u16,
+    /// None is 65,535 in two bytes, and 4,294,967,295 in four.
+    pub mark: Option<u32>,
 }
 
 impl Instruction {
@@ -40,6 +44,18 @@ impl Instruction {
     /// b and c as one signed number.
     pub fn sbx(&self) -> isize {
         i16::from_be_bytes([self.b, self.c]) as isize
+    }
+}
+
+impl Instruction {
+    fn write(&self, wide: bool, file: &mut Vec<u8>) {
+        let code = [self.opcode, self.a, self.b, self.c];
+        if wide {
+            push_field(file, 0x47, &[code, self.mark.unwrap_or(u32::MAX).to_be_bytes()].concat());
+        } else {
+            let mark = self.mark.map_or(NONE, |mark| mark.try_into().expect("a narrow mark is a word"));
+            push_field(file, 0x43, &[&code[..], &mark.to_be_bytes()].concat());
+        }
     }
 }
 
@@ -55,7 +71,7 @@ impl Image {
     pub fn to_bytes(&self) -> Vec<u8> {
         let mut file = vec![];
         for p in &self.prototypes {
-            p.write(&mut file);
+            p.write(self.wide, &mut file);
         }
         for c in &self.constants {
             match c {
@@ -71,9 +87,9 @@ impl Image {
     pub fn from_bytes(bytes: &[u8]) -> Result<Image, String> {
         let fields = fields(bytes).map_err(|n| format!("field {n} is cut"))?;
         let mut rest = &fields[..];
-        let mut image = Image::default();
+        let mut image = Image { wide: is_wide(&fields), ..Image::default() };
         while let Some(head) = rest.first().filter(|f| f.tag == 0x41) {
-            image.prototypes.push(Prototype::read(head, &mut rest)?);
+            image.prototypes.push(Prototype::read(head, image.wide, &mut rest)?);
         }
         for f in rest {
             image.constants.push(constant(f)?);
@@ -83,7 +99,7 @@ impl Image {
 }
 
 impl Prototype {
-    fn write(&self, file: &mut Vec<u8>) {
+    fn write(&self, wide: bool, file: &mut Vec<u8>) {
         let counts =
             [self.name, self.parameters, self.registers, count(self.captures.len()), count(self.instructions.len())];
         push_field(file, 0x41, &counts.map(u16::to_be_bytes).concat());
@@ -91,19 +107,23 @@ impl Prototype {
             push_field(file, 0x42, &[u8::from(c.local), c.index]);
         }
         for i in &self.instructions {
-            let [high, low] = i.mark.to_be_bytes();
-            push_field(file, 0x43, &[i.opcode, i.a, i.b, i.c, high, low]);
+            i.write(wide, file);
         }
     }
 
-    fn read(head: &Field, rest: &mut &[Field]) -> Result<Prototype, String> {
+    fn read(head: &Field, wide: bool, rest: &mut &[Field]) -> Result<Prototype, String> {
         sized(head, 0x41, 10)?;
         let [name, parameters, registers, captures, instructions] = [0, 1, 2, 3, 4].map(|k| head.word(k));
         *rest = &rest[1..];
         let captures = take(rest, captures)?.iter().map(capture).collect::<Result<_, _>>()?;
-        let instructions = take(rest, instructions)?.iter().map(instruction).collect::<Result<_, _>>()?;
+        let instructions = take(rest, instructions)?.iter().map(|f| instruction(f, wide)).collect::<Result<_, _>>()?;
         Ok(Prototype { name, parameters, registers, captures, instructions })
     }
+}
+
+/// The first instruction decides.
+fn is_wide(fields: &[Field]) -> bool {
+    fields.iter().find(|f| matches!(f.tag, 0x43 | 0x47)).is_some_and(|f| f.tag == 0x47)
 }
 
 fn count(n: usize) -> u16 {
@@ -130,9 +150,18 @@ fn capture(f: &Field) -> Result<Capture, String> {
     }
 }
 
-fn instruction(f: &Field) -> Result<Instruction, String> {
-    let p = sized(f, 0x43, 6)?;
-    Ok(Instruction { opcode: p[0], a: p[1], b: p[2], c: p[3], mark: f.word(2) })
+fn instruction(f: &Field, wide: bool) -> Result<Instruction, String> {
+    let p = if wide { sized(f, 0x47, 8)? } else { sized(f, 0x43, 6)? };
+    Ok(Instruction { opcode: p[0], a: p[1], b: p[2], c: p[3], mark: mark(&p[4..]) })
+}
+
+/// The mark of two or four bytes that end an instruction's payload.
+pub fn mark(bytes: &[u8]) -> Option<u32> {
+    match *bytes {
+        [a, b] => Some(u16::from_be_bytes([a, b])).filter(|m| *m != NONE).map(u32::from),
+        [a, b, c, d] => Some(u32::from_be_bytes([a, b, c, d])).filter(|m| *m != u32::MAX),
+        _ => None,
+    }
 }
 
 fn constant(f: &Field) -> Result<Constant, String> {

@@ -3,5 +3,5 @@ pub mod image;
 pub mod listing;
 pub mod tree;
 
-/// 65,535: the empty text, no mark, an absent child.
+/// 65,535: the empty text, an absent child, and no mark where marks have two bytes.
 pub const NONE: u16 = 65_535;

@@ -77,7 +77,7 @@ pub fn listing(image: &Image) -> String {
             text += &format!("  captures {} {}\n", if c.local { "register" } else { "capture" }, c.index);
         }
         for (at, i) in p.instructions.iter().enumerate() {
-            text += &format!("  {at:5} {}  mark {}\n", line(i), word(i.mark));
+            text += &format!("  {at:5} {}  mark {}\n", line(i), i.mark.map_or("none".into(), |mark| mark.to_string()));
         }
     }
     for (k, c) in image.constants.iter().enumerate() {

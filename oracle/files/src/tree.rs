@@ -1,5 +1,13 @@
 //! Tree files: fields of a one-byte tag, a two-byte length and a payload.
 
+/// The tag of a program whose tree has four bytes in every mark (02, E5).
+pub const WIDE: u8 = 0x3E;
+
+/// Whether every mark of a tree has four bytes: its last field alone says so.
+pub fn is_wide(fields: &[Field]) -> bool {
+    fields.last().is_some_and(|last| last.tag == WIDE)
+}
+
 /// One field; its payload is a part of the file.
 #[derive(Clone, Copy, Debug, PartialEq)]
 pub struct Field<'t> {

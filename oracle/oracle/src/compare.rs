@@ -2,7 +2,7 @@
 use crate::judge;
 use files::image::Image;
 use files::listing::opcode;
-use files::tree::Field;
+use files::tree::{is_wide, Field};
 
 /// What the unchanged source does in a process of its own.
 #[derive(Debug, PartialEq)]
@@ -11,7 +11,7 @@ pub enum Outcome {
     Panicked(String),
     /// It printed this and ended the process.
     Exited {
-        line: u16,
+        line: i32,
         message: String,
         lexeme: String,
     },
@@ -105,7 +105,10 @@ pub fn fits(nodes: &[Field], due: &End, did: &Outcome) -> bool {
         (Err(due), Outcome::Exited { line, message, lexeme }) if matches!(due.number, 9 | 10) => {
             let words = if due.number == 9 { "Undefined variable" } else { "Global already defined" };
             let node = &nodes[due.node];
-            message == words && *line == node.word(1) && *lexeme == unchanged::names::name_text(node.word(0))
+            // a let or a variable: name and mark; the source prints the mark as a number with a sign
+            let high = if is_wide(nodes) { node.word(1) } else { 0 };
+            let mark = u32::from(high) << 16 | u32::from(node.word(1 + usize::from(is_wide(nodes))));
+            message == words && *line == mark as i32 && *lexeme == unchanged::names::name_text(node.word(0))
         }
         (Err(due), Outcome::Panicked(panic)) if !matches!(due.number, 9 | 10) => panic.contains(panic_due(due.number)),
         _ => false,
@@ -117,7 +120,7 @@ pub fn in_child(tree: &[u8]) -> Outcome {
     let nodes = judge::check(tree, 0, u64::MAX).expect("a checked tree");
     match unchanged::attempt_or_exit(&nodes) {
         Err(panic) => Outcome::Panicked(panic),
-        Ok(compiler) => Outcome::Finished(Made::of(&unchanged::write::image(&compiler))),
+        Ok(compiler) => Outcome::Finished(Made::of(&unchanged::write::image(&compiler, is_wide(&nodes)))),
     }
 }
 

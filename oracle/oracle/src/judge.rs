@@ -1,5 +1,5 @@
-//! Refusals 1 to 6 of document 01 and 21 and 27 of document 02, read straight from their words.
-use files::tree::{fields, Field};
+//! Refusals 1 to 6 of document 01 and 21 and 27 of document 02, read straight from their words, for both widths of marks.
+use files::tree::{fields, is_wide, Field, WIDE};
 use files::NONE;
 
 pub const MOST_FIELDS: usize = 32_768;
@@ -56,11 +56,11 @@ fn many(nodes: &[Field]) -> Result<(), Refusal> {
 
 /// 3: the lowest node that breaks a rule; else the children of each node, absent ones left out.
 fn shape(nodes: &[Field]) -> Result<Vec<Vec<usize>>, Refusal> {
-    let mut all = vec![];
+    let (mut all, wide) = (vec![], is_wide(nodes));
     for (i, node) in nodes.iter().enumerate() {
         let is_last = i + 1 == nodes.len();
-        let is_program = node.tag == 0x1E;
-        match children(node) {
+        let is_program = node.tag == 0x1E || node.tag == WIDE;
+        match children(node, wide) {
             Some(children) if is_last == is_program && children.iter().all(|c| c.is_right(i, nodes)) => {
                 all.push(children.iter().filter(|c| !c.is_absent()).map(|c| c.node.into()).collect());
             }
@@ -172,14 +172,15 @@ impl Role {
     }
 }
 
-/// The children that a node names, or nothing where its payload does not fit its tag or an op or name is unlawful.
-fn children(node: &Field) -> Option<Vec<Child>> {
+/// The children that a node names, or nothing where its payload does not fit its tag or an op or name is unlawful. In a wide tree every mark
+/// has two words, whatever the payload looks like.
+fn children(node: &Field, wide: bool) -> Option<Vec<Child>> {
     use Role::*;
     if node.payload.len() % 2 == 1 {
         return None;
     }
     let words = node.words();
-    let mut p = Payload { words: &words, children: vec![] };
+    let mut p = Payload { words: &words, wide, children: vec![] };
     match node.tag {
         0x01 => p.any(4)?,
         0x02 | 0x03 => p.any(1)?,
@@ -206,7 +207,7 @@ fn children(node: &Field) -> Option<Vec<Child>> {
             p.name_and_mark()?;
             p.perhaps_child(Expression)?;
         }
-        0x12 | 0x1E => p.children_to_the_end(Statement),
+        0x12 | 0x1E | WIDE => p.children_to_the_end(Statement),
         0x13 => {
             p.mark()?;
             p.child(Expression)?;
@@ -267,6 +268,7 @@ fn children(node: &Field) -> Option<Vec<Child>> {
 /// The words that are still to be read, and the children met so far. Nothing is answered where the payload does not fit.
 struct Payload<'w> {
     words: &'w [u16],
+    wide: bool,
     children: Vec<Child>,
 }
 
@@ -278,12 +280,12 @@ impl Payload<'_> {
     }
 
     fn any(&mut self, words: usize) -> Option<()> {
-        (0..words).try_for_each(|_| self.mark())
+        (0..words).try_for_each(|_| self.word().map(|_| ()))
     }
 
     /// Any mark is lawful.
     fn mark(&mut self) -> Option<()> {
-        self.word().map(|_| ())
+        self.any(if self.wide { 2 } else { 1 })
     }
 
     fn op(&mut self, most: u16) -> Option<()> {

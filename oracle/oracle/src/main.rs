@@ -126,11 +126,13 @@ fn generate(kind: &str, o: &Options) -> Done {
         "meeting" => of_seed(questions::meeting),
         "minuses" => of_seed(questions::minuses),
         "classes" => of_seed(questions::classes),
+        "wide" => of_seed(questions::wide),
+        "wide-limits" => in_mode(questions::wide_limits()),
         "limits" => in_mode(questions::limits()),
         "shapes" => in_mode(questions::shapes()),
         "modes" if o.mode.is_none() => (0..o.count).map(|k| questions::no_mode(o.seed, k)).collect(),
         other => {
-            let kinds = "random, small, damaged, meeting, minuses, classes, limits, shapes, or modes without --mode";
+            let kinds = "random, small, damaged, meeting, minuses, classes, wide, limits, wide-limits, shapes, or modes without --mode";
             return Err(format!("no kind {other}: {kinds}"));
         }
     };

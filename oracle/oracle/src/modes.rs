@@ -44,15 +44,16 @@ pub fn shared(zero: &[u8], one: &[u8], marked: &[u8]) -> Result<usize, String> {
 
 /// Two fields that differ are one continue's Jmp: back in mode 0, ahead in mode 1, and the same but for its distance.
 fn continues(zero: &Field, one: &Field, marked: &Field) -> Result<(), String> {
-    let parts = |f: &Field| (f.tag, f.payload[0], f.payload[1], f.word(2));
+    let mark = |f: &Field| f.payload[4..].to_vec();
+    let parts = |f: &Field| (f.tag, f.payload[0], f.payload[1], mark(f));
     let distance = |f: &Field| i16::from_be_bytes([f.payload[2], f.payload[3]]);
     match () {
-        _ if zero.tag != 0x43 || zero.payload.len() != one.payload.len() => {
+        _ if !matches!(zero.tag, 0x43 | 0x47) || zero.payload.len() != one.payload.len() => {
             Err("the modes differ, and it is no instruction")
         }
         _ if parts(zero) != parts(one) => Err("the modes differ in more than b and c"),
         _ if zero.payload[0] != opcode("Jmp") => Err("the modes differ, and it is no Jmp"),
-        _ if zero.word(2) == marked.word(2) => Err("the modes differ, and it is no continue's"),
+        _ if mark(zero) == mark(marked) => Err("the modes differ, and it is no continue's"),
         _ if distance(zero) >= 0 || distance(one) <= 0 => Err("a continue goes back in mode 0 and ahead in mode 1"),
         _ => Ok(()),
     }

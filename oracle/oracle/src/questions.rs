@@ -3,7 +3,8 @@ use crate::limits::{self, ask_in, Asked, Room, Work};
 use crate::rng::Rng;
 use crate::trees::build::Node;
 use crate::trees::order::{file, Order};
-use crate::trees::{classes, crowd, damage, meet, minuses, random};
+use crate::trees::{classes, crowd, damage, meet, minuses, random, values, width};
+use files::tree::fields;
 
 /// A mode and a file, and what is lent with it.
 #[derive(Clone)]
@@ -74,6 +75,33 @@ pub fn damaged(seed: u64, k: u64, mode: u64) -> Question {
     lent(&mut rng, tree).in_mode(mode)
 }
 
+/// A question of any other kind, more often of those that cost less, with its tree made wide and marks of every kind; some are damaged then, or
+/// mix the widths.
+pub fn wide(seed: u64, k: u64, mode: u64) -> Question {
+    let of = match k % 100 {
+        0 => minuses,
+        1..=4 => meeting,
+        5..=14 => classes,
+        15..=24 => damaged,
+        25..=39 => small,
+        _ => random,
+    };
+    let narrow = of(seed, k, mode);
+    let mut rng = Rng::for_case(seed ^ 0x7769_6465, k);
+    let whole = fields(&narrow.tree).is_ok_and(|all| !all.is_empty());
+    let tree = match rng.below(10) {
+        0 if whole => width::mixed(&mut rng, &narrow.tree),
+        _ => made_wide(&mut rng, &narrow.tree),
+    };
+    let tree = if whole && rng.chance(60) { damage::damaged(&mut rng, &tree) } else { tree };
+    Question { tree, ..narrow }
+}
+
+/// The tree with marks of four bytes, of every kind; as it was where a payload would grow too long.
+pub fn made_wide(rng: &mut Rng, tree: &[u8]) -> Vec<u8> {
+    width::widened(tree, |_| values::wide_mark(rng)).unwrap_or_else(|| tree.to_vec())
+}
+
 /// Any file in a mode that is none, with any work area and output: 21 comes before everything.
 pub fn no_mode(seed: u64, k: u64) -> Question {
     let mut rng = Rng::for_case(seed, k);
@@ -108,7 +136,13 @@ pub fn limits() -> Vec<Question> {
 /// Every small edit of a tree with every tag, the same in every run.
 pub fn shapes() -> Vec<Question> {
     let of = |tree| Question { mode: 0, tree, work: Work::Exact, room: Room::Exact };
-    limits::edited_shapes().into_iter().map(of).collect()
+    limits::edited_shapes().into_iter().chain(limits::edited_wide_shapes()).map(of).collect()
+}
+
+/// The limits of 01 in wide trees, whose number and place are the same, and the edges of the width itself.
+pub fn wide_limits() -> Vec<Question> {
+    let of = |c: limits::Case| Question { mode: 0, tree: c.rule.expand(), work: c.work, room: c.room };
+    limits::wide_cases().into_iter().map(of).collect()
 }
 
 fn small_tree(rng: &mut Rng, size: usize, mode_1: bool) -> Vec<u8> {

@@ -2,7 +2,7 @@
 //! order of its fields from the left, the facts of its instructions.
 use crate::facts::{targets, Here};
 use crate::judge::Refusal;
-use files::image::{Capture, Constant, Image, Instruction, Prototype};
+use files::image::{mark, Capture, Constant, Image, Instruction, Prototype};
 use files::listing::opcode;
 use files::tree::{fields, Field};
 
@@ -64,14 +64,18 @@ impl Reading {
             self.captures_due -= 1;
             self.image.prototypes.last_mut()?.captures.push(Capture { local: local == 1, index });
         } else if self.instructions_due > 0 {
-            let payload = sized(field, 0x43, 6)?;
+            // the first instruction of the image decides on the width of all
+            if self.firsts.is_empty() {
+                self.image.wide = field.tag == 0x47;
+            }
+            let payload = if self.image.wide { sized(field, 0x47, 8)? } else { sized(field, 0x43, 6)? };
             let [opcode, a, b, c] = payload[..4] else { return None };
             let code = &mut self.image.prototypes.last_mut()?.instructions;
             if code.is_empty() {
                 self.firsts.push(place);
             }
             self.instructions_due -= 1;
-            code.push(Instruction { opcode, a, b, c, mark: field.word(2) });
+            code.push(Instruction { opcode, a, b, c, mark: mark(&payload[4..]) });
         } else if field.tag == 0x41 {
             self.header(field)?;
         } else {

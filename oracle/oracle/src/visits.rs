@@ -12,7 +12,7 @@ pub fn by_rule(nodes: &[Field]) -> u64 {
     let mut counts: Vec<u64> = vec![];
     for (children, node) in judge::children_of(nodes).iter().zip(nodes) {
         let all: u64 = children.iter().map(|child| counts[*child]).sum();
-        counts.push(match twice_or_nothing(nodes, node) {
+        counts.push(match twice_or_nothing(nodes, node, children) {
             Some((Side::Twice, child)) => 1 + all + counts[child],
             Some((Side::Nothing, child)) => 1 + all - counts[child],
             None => 1 + all,
@@ -23,7 +23,9 @@ pub fn by_rule(nodes: &[Field]) -> u64 {
 
 /// What is due of the visits of any accepted tree: no more than its nodes where no numeral-left Minus has the test, else 1,025 times these.
 pub fn bounded(nodes: &[Field], visits: u64) -> Result<(), String> {
-    let doubled = nodes.iter().any(|node| matches!(twice_or_nothing(nodes, node), Some((Side::Twice, _))));
+    let twice =
+        |(node, own): (&Field, &Vec<usize>)| matches!(twice_or_nothing(nodes, node, own), Some((Side::Twice, _)));
+    let doubled = nodes.iter().zip(&judge::children_of(nodes)).any(twice);
     let most = nodes.len() as u64 * if doubled { MOST_A_NODE } else { 1 };
     match visits {
         0 => Err("no visits, and the program is one".into()),
@@ -38,12 +40,10 @@ enum Side {
 }
 
 /// A child on the right that does not count once.
-fn twice_or_nothing(nodes: &[Field], node: &Field) -> Option<(Side, usize)> {
-    if node.tag != 0x06 {
-        return None;
-    }
-    let [op, left, right] = [0, 2, 3].map(|k| usize::from(node.word(k)));
-    match op {
+fn twice_or_nothing(nodes: &[Field], node: &Field, children: &[usize]) -> Option<(Side, usize)> {
+    let &[left, right] = children else { return None };
+    match node.word(0) {
+        _ if node.tag != 0x06 => None,
         1 if is_small(&nodes[right]) => Some((Side::Nothing, right)),
         8 if is_small(&nodes[left]) => Some((Side::Twice, right)),
         _ => None,

@@ -32,7 +32,7 @@ fn changed_bytes_are_often_refused() {
 }
 
 fn i(name: &str, a: u8, b: u8, c: u8) -> Instruction {
-    Instruction { opcode: opcode(name), a, b, c, mark: 65_535 }
+    Instruction { opcode: opcode(name), a, b, c, mark: None }
 }
 
 fn prototype(registers: u16, captures: Vec<Capture>, mut instructions: Vec<Instruction>) -> Prototype {
@@ -44,6 +44,7 @@ fn prototype(registers: u16, captures: Vec<Capture>, mut instructions: Vec<Instr
 fn image(main: Vec<Instruction>) -> Image {
     let captures = vec![Capture { local: true, index: 2 }];
     Image {
+        wide: false,
         prototypes: vec![prototype(1, captures, vec![i("GetUpval", 0, 0, 0)]), prototype(3, vec![], main)],
         constants: vec![Constant::Text(9), Constant::Number(0)],
     }
@@ -96,7 +97,7 @@ fn broken_by_hand() {
         ("a capture that main lacks", vec![i("GetUpval", 0, 0, 0)]),
         ("a closure of itself", vec![i("Closure", 0, 0, 1)]),
         ("a closure of none", vec![i("Closure", 0, 1, 0)]),
-        ("no opcode", vec![Instruction { opcode: 51, a: 0, b: 0, c: 0, mark: 0 }]),
+        ("no opcode", vec![Instruction { opcode: 51, a: 0, b: 0, c: 0, mark: Some(0) }]),
     ];
     for (name, code) in broken {
         assert!(check(&image(code)).is_err(), "{name}");

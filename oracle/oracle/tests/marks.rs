@@ -14,7 +14,7 @@ fn image(statements: Vec<Node>) -> Image {
 
 /// Instructions of prototype k with their marks, `-` for none, without the last Return.
 fn marked(image: &Image, k: usize) -> Vec<String> {
-    let mark = |m: u16| if m == NONE { "-".into() } else { m.to_string() };
+    let mark = |m: Option<u32>| m.map_or("-".into(), |m| m.to_string());
     let mut lines: Vec<String> =
         image.prototypes[k].instructions.iter().map(|i| format!("{} @{}", line(i), mark(i.mark))).collect();
     assert_eq!(lines.pop().unwrap(), "Return 0 0 0 @-");

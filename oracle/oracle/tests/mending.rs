@@ -31,7 +31,7 @@ fn only_listed_moved(image: &[u8], out: &[u8], list: &[u8]) {
         let old = &image[at..at + 3 + field.payload.len()];
         match field.tag {
             0x41 => (own, index) = (own + 1, 0),
-            0x43 => {
+            0x43 | 0x47 => {
                 if new != old {
                     let entry = [&(own as u16).to_be_bytes(), &index.to_be_bytes(), &old[3..5], &old[5..7]].concat();
                     assert_eq!(entries.next(), Some(&entry[..]));

@@ -1,7 +1,6 @@
 //! Mode 1 by listings written by hand; refusal 21; what both modes share, on random trees.
 use files::image::Image;
 use files::listing::line;
-use files::NONE;
 use oracle::answer::answer;
 use oracle::limits::{ask_in, cases, Room, Work};
 use oracle::rng::Rng;
@@ -26,7 +25,7 @@ fn code(mode: u64, statement: Node) -> Vec<String> {
     let asked = ask_in(mode, tree, Work::Exact, Room::Exact);
     assert_eq!(asked.answer.number, 0);
     let image = Image::from_bytes(&asked.image).unwrap();
-    let mark = |m: u16| if m == NONE { "-".into() } else { m.to_string() };
+    let mark = |m: Option<u32>| m.map_or("-".into(), |m| m.to_string());
     let mut lines: Vec<String> = image
         .prototypes
         .last()

@@ -1,13 +1,13 @@
 //! The second reader against numbers and places that were written down by hand, and what the kinds of images reach.
 use files::image::Image;
 use oracle::images::build::Edge;
-use oracle::images::{counts, edges, edits, fixed, random};
+use oracle::images::{by_hand, edits, fixed, random};
 use oracle::reading::{is_written, numbers, read};
 use oracle::{answer, questions};
 
 #[test]
 fn edges_by_hand() {
-    let all: Vec<Edge> = edges::all().into_iter().chain(counts::all()).collect();
+    let all: Vec<Edge> = by_hand();
     let wrong: Vec<String> = all
         .iter()
         .filter(|edge| numbers(&edge.image) != edge.due)

@@ -9,7 +9,8 @@ fn a_rule_expands_to_its_file() {
     let shapes = edited_shapes().into_iter().step_by(7);
     let random = (0..1500).map(|k| questions::random(3, k, k % 2).tree);
     let damaged = (0..1500).map(|k| questions::damaged(3, k, 0).tree);
-    for file in limits.chain(shapes).chain(random).chain(damaged) {
+    let wide = (0..1500).map(|k| questions::wide(3, k, 0).tree);
+    for file in limits.chain(shapes).chain(random).chain(damaged).chain(wide) {
         assert!(rule_of(&file).expand() == file);
     }
 }

@@ -12,7 +12,8 @@ fn committed() -> Vec<u8> {
 #[test]
 fn the_sample_is_made_again() {
     assert!(write(&sample(SEED)) == committed(), "oracle sample crates/lower_replay/stdin makes another file");
-    assert!(committed().len() < 2_000_000);
+    // the room of the program that replays it
+    assert!(committed().len() < 1_000_000);
 }
 
 #[test]
@@ -29,7 +30,7 @@ fn the_sample_is_of_every_kind() {
     let [other, one] = numbers;
     assert!((0..=18).chain([21]).all(|n| other[n] > 0) && one[27] > 3, "by number {other:?}");
     assert!(one[0] > 100 && one[21] == 0 && other[21] == 40, "by number in mode 1 {one:?}");
-    let listed = (0x01..=0x09).chain(0x10..=0x1E);
+    let listed = (0x01..=0x09).chain(0x10..=0x1E).chain([0x3E]);
     assert!(listed.clone().all(|tag| tags[tag] > 0), "by tag {tags:?}");
 }
 

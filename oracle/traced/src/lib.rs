@@ -25,7 +25,7 @@ pub mod write;
 
 use compiler::Compiler;
 use files::image::Image;
-use files::tree::Field;
+use files::tree::{is_wide, Field};
 use std::panic::{catch_unwind, resume_unwind, AssertUnwindSafe};
 pub use trace::Refusal;
 
@@ -49,7 +49,7 @@ pub fn counted(fields: &[Field], mode: u64) -> Result<(Image, usize), Refusal> {
         };
         compiler.compile(program);
         compiler.leave_function(0);
-        (write::image(&compiler), trace::visits())
+        (write::image(&compiler, is_wide(fields)), trace::visits())
     };
     catch_unwind(AssertUnwindSafe(run)).map_err(|panic| match panic.downcast::<Refusal>() {
         Ok(refusal) => *refusal,

@@ -26,7 +26,7 @@ pub mod write;
 
 use compiler::Compiler;
 use files::image::Image;
-use files::tree::Field;
+use files::tree::{is_wide, Field};
 
 /// The compiler after the whole program. Panics and ends the process where the source does.
 pub fn compile(program: Vec<stmt::Stmt>) -> Compiler {
@@ -39,7 +39,7 @@ pub fn compile(program: Vec<stmt::Stmt>) -> Compiler {
 
 /// The image of a checked tree. Panics and ends the process where the source does.
 pub fn lower(fields: &[Field]) -> Image {
-    write::image(&compile(read::program(fields)))
+    write::image(&compile(read::program(fields)), is_wide(fields))
 }
 
 /// The same with a panic as an error in its own words. An exit of the source here ends the process as a failure.

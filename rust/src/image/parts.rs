@@ -56,7 +56,7 @@ const NAMES: [&str; 51] = [
     "GetExcept",
 ];
 
-/// 65,535 is no name, no mark, the empty text.
+/// 65,535 is no name and the empty text.
 fn some(word: u16) -> Option<u16> {
     (word != u16::MAX).then_some(word)
 }
@@ -74,6 +74,22 @@ fn take<const SIZE: usize>(bytes: &mut &[u8], tag: u8) -> Option<[u8; SIZE]> {
     let payload = payload.try_into().ok().filter(|_| found == tag)?;
     *bytes = rest;
     Some(payload)
+}
+
+/// The tags of an instruction whose mark has two bytes, and of one whose mark has four.
+const NARROW: u8 = 0x43;
+const WIDE: u8 = 0x47;
+
+/// Whether the first instruction has a mark of four bytes, as all have then.
+pub(super) fn is_wide(mut fields: &[u8]) -> bool {
+    while let Some((tag, _, rest)) = first_field(fields) {
+        match tag {
+            NARROW => return false,
+            WIDE => return true,
+            _ => fields = rest,
+        }
+    }
+    false
 }
 
 /// A prototype: a function's header, with the fields behind it.
@@ -124,8 +140,9 @@ pub struct Instruction {
     pub b: u8,
     /// The third operand.
     pub c: u8,
-    /// The mark: where in the script it comes from.
-    pub mark: Option<u16>,
+    /// The mark: where in the script it comes from, or none. In a wide image any number of 32 bits but 4,294,967,295
+    /// ([`line_and_column`] takes one apart), in a narrow one the line, below 65,535.
+    pub mark: Option<u32>,
 }
 
 impl Instruction {
@@ -143,6 +160,16 @@ impl Instruction {
     pub fn sbx(&self) -> i16 {
         i16::from_be_bytes([self.b, self.c])
     }
+}
+
+/// Line and column of a wide mark, as the text form of trees and the commands have them: the line in the high half, the column in the low half,
+/// where 0 is no column. A generator may mean something else by its marks.
+///
+/// ```
+/// assert_eq!(yengrazul::line_and_column(0x000C_0005), (12, 5));
+/// ```
+pub fn line_and_column(mark: u32) -> (u16, u16) {
+    ((mark >> 16) as u16, mark as u16)
 }
 
 /// As in `LoadK 0 0 1`.
@@ -226,8 +253,18 @@ impl Iterator for Instructions<'_> {
 
     fn next(&mut self) -> Option<Instruction> {
         self.left = self.left.checked_sub(1)?;
-        let [opcode, a, b, c, high, low] = take(&mut self.fields, 0x43)?;
-        Some(Instruction { opcode, a, b, c, mark: some(u16::from_be_bytes([high, low])) })
+        let (code, mark) = match first_field(self.fields)? {
+            (NARROW, ..) => {
+                let [opcode, a, b, c, mark @ ..]: [u8; 6] = take(&mut self.fields, NARROW)?;
+                ([opcode, a, b, c], some(u16::from_be_bytes(mark)).map(u32::from))
+            }
+            _ => {
+                let [opcode, a, b, c, mark @ ..]: [u8; 8] = take(&mut self.fields, WIDE)?;
+                ([opcode, a, b, c], Some(u32::from_be_bytes(mark)).filter(|mark| *mark != u32::MAX))
+            }
+        };
+        let [opcode, a, b, c] = code;
+        Some(Instruction { opcode, a, b, c, mark })
     }
 }
 

@@ -10,14 +10,14 @@ use Rattle.list_main.proofs.listed.Statement.{statement}
 use Rattle.list_main.proofs.listed.Tie as tie
 
 abbrev Inv-loop : tie.InvT-loop
-Inv-loop image text₀ q₀ text q = length text ≡ length text₀
+Inv-loop image tag text₀ q₀ text q = length text ≡ length text₀
 
 abbrev μ-loop : tie.MeasureT-loop
-μ-loop image text₀ q₀ text q = 256 - q
+μ-loop image tag text₀ q₀ text q = 256 - q
 
 lines-requires : tie.Need-lines-requires Inv-loop μ-loop
 lines-requires c κs = let h = c .before .before .begins .ensures (not-false _ (c .before .if1 .left)) in
-    (room _ _ _ (c .before .before .before .prototype .ensures .0) (h .0) (h .1), omega arith)
+    (room _ _ _ _ (c .before .before .before .prototype .ensures .0) (h .0) (h .1), omega arith)
 
 pub listed-spec : {M : Type 1} → statement M
 listed-spec =

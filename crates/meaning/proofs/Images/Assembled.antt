@@ -10,6 +10,7 @@ use lib.ListN.{length, getD}
 use lib.Dec.{eqb, ltb}
 use borrow.Author.Tests.{eqb-true, eq-eqb, ne-eqb, ltb-true, leb-true, lt-ltb, le-ltb}
 use Rattle.meaning.specs.Fields.{Field, word-at}
+use Rattle.meaning.specs.Grammar.{short-mark}
 use Rattle.meaning.specs.Constant.{number, text, other}
 use Rattle.meaning.specs.State.{Capture, Proto}
 use Rattle.meaning.specs.Image.{word, flag, number-bytes}
@@ -20,7 +21,7 @@ use Rattle.meaning.specs.Images.{capture-of, inst-of, bits-of, constant-
 use Rattle.meaning.proofs.Images.Listed.{header-field, capture-field, inst-field, constant-field, proto-fields, image-fields}
 use Rattle.meaning.specs.Follow.{due, at-first, sized, is-capture, is-inst, is-header, is-constant, follows-whole, follows, due-after, may-end, further, stray}
 use Rattle.meaning.specs.Safety.{All}
-use Rattle.meaning.proofs.Ranges.Fits.{ConstantFits}
+use Rattle.meaning.proofs.Ranges.Fits.{ConstantFits, MarkIn, short-in, long-in}
 use Rattle.meaning.proofs.Images.Fielded.{Bytes, bytes-at, word-back, spell, spelled, Payloads, and-more}
 
 -- ---- one field and what it stands for
@@ -72,12 +73,20 @@ low a b c p q = ap₂ (λ (x y : ℕ). x ∷ y ∷ []) (let e : (a * 65536 + (b 
 abbrev pub Tagged : ℕ → Type 0
 Tagged tag = (tag ≡ 0x43) ⊎ (tag ≡ 0x47)
 
+-- a mark of two bytes: 65,535 is written as it was read, though it stands for none
+short-back : (a b : ℕ) → word (short-mark (a * 256 + b)) ≡ word (a * 256 + b)
+short-back a b = go (eqb (a * 256 + b) 65535) refl
+  where
+    go : (c : Bool) → eqb (a * 256 + b) 65535 ≡ c → word (cond c 4294967295 (a * 256 + b)) ≡ word (a * 256 + b)
+    go true e = ap word (sym (eqb-true (a * 256 + b) 65535 e))
+    go false e = refl
+
 inst-43 : (f : Field) → Bytes (f .payload) → is-inst 0x43 f ≡ true → inst-field 0x43 (inst-of 0x43 (f .payload)) ≡ f
 unfolding is-inst spell
 inst-43 f b e =
     let p = f .payload in
     field-is f 0x43 _ (eqb-true _ _ (and-left _ _ e))
-    (at-length p 6 (eqb-true _ _ (and-right (eqb (f .tag) 0x43) _ e)) ∙ ap (λ (l : List ℕ). getD p 0 0 ∷ getD p 1 0 ∷ getD p 2 0 ∷ getD p 3 0 ∷ l) (sym (two p b 4)))
+    (at-length p 6 (eqb-true _ _ (and-right (eqb (f .tag) 0x43) _ e)) ∙ ap (λ (l : List ℕ). getD p 0 0 ∷ getD p 1 0 ∷ getD p 2 0 ∷ getD p 3 0 ∷ l) (sym (short-back _ _ ∙ two p b 4)))
 
 inst-47 : (f : Field) → Bytes (f .payload) → is-inst 0x47 f ≡ true → inst-field 0x47 (inst-of 0x47 (f .payload)) ≡ f
 unfolding is-inst spell
@@ -164,7 +173,7 @@ stray-head tag d f fs e = go (follows tag d f) refl (stray tag (due-after d f) f
 
 -- a mark, by the width
 abbrev pub MarkFits : (tag : ℕ) → Instruction → Type 0
-MarkFits tag x = x .mark < cond (eqb tag 0x47) 4294967296 65536
+MarkFits tag x = MarkIn tag (x .mark)
 
 pub record HeaderFits (tag : ℕ) (p : Proto) : Type 0 where
   pub name : p .name < 65536
@@ -178,12 +187,9 @@ pub record HeaderFits (tag : ℕ) (p : Proto) : Type 0 where
 word-below : (p : List ℕ) → Bytes p → (k : ℕ) → word-at p k < 65536
 word-below p b k = omega (arith, bytes-at p b k, bytes-at p b (k + 1))
 
-mark-fits : (tag : ℕ) → Tagged tag → (p : List ℕ) → Bytes p → MarkFits tag (inst-of tag p)
-mark-fits tag (inl e) p b = subst (λ (t : ℕ). MarkFits t (inst-of t p)) (sym e) (word-below p b 4)
-mark-fits tag (inr e) p b = subst (λ (t : ℕ). MarkFits t (inst-of t p)) (sym e) (four (word-at p 4) (word-at p 6) (word-below p b 4) (word-below p b 6))
-  where
-    four : (x y : ℕ) → x < 65536 → y < 65536 → x * 65536 + y < 4294967296
-    four x y h k = omega arith
+mark-in : (tag : ℕ) → Tagged tag → (p : List ℕ) → Bytes p → MarkFits tag (inst-of tag p)
+mark-in tag (inl e) p b = subst (λ (t : ℕ). MarkFits t (inst-of t p)) (sym e) (short-in (word-at p 4) (word-below p b 4))
+mark-in tag (inr e) p b = subst (λ (t : ℕ). MarkFits t (inst-of t p)) (sym e) (long-in (word-at p 4) (word-at p 6) (word-below p b 4) (word-below p b 6))
 
 header-fits : (tag : ℕ) (f : Field) → Bytes (f .payload) → is-header f ≡ true → (cs : List Capture) (xs : List Instruction)
     → length cs ≡ word-at (f .payload) 6 → length xs ≡ word-at (f .payload) 8 → All (MarkFits tag) xs → HeaderFits tag (proto-of (f .payload) cs xs)
@@ -254,7 +260,7 @@ module _ (tag : ℕ) (ok : Tagged tag) where
         let t = tag-of f tag _ e in
         let none = empty (r .captures) (omega (arith, a .captures)) in
         rw (other-tag f tag 0x41 t (λ q. not-tag 0x41 (λ v. omega arith) (λ v. omega arith) (sym q)), other-tag f tag 0x42 t (λ q. not-tag 0x42 (λ v. omega arith) (λ v. omega arith) (sym q)), same-tag f tag t)
-        record { captures = omega (arith, a .captures); code = omega (arith, a .code); late = λ p q s. absurd (omega arith); some = a .some; few = a .few; few-constants = a .few-constants; marks = (mark-fits tag ok (f .payload) b, a .marks); numbers = a .numbers; values = a .values; fields = rw none (cons (inst-back tag f ok b e) (rw none at (a .fields))) }
+        record { captures = omega (arith, a .captures); code = omega (arith, a .code); late = λ p q s. absurd (omega arith); some = a .some; few = a .few; few-constants = a .few-constants; marks = (mark-in tag ok (f .payload) b, a .marks); numbers = a .numbers; values = a .values; fields = rw none (cons (inst-back tag f ok b e) (rw none at (a .fields))) }
 
     -- where a header is
     with-header : is-header f ≡ true → d .captures ≡ 0 → d .code ≡ 0 → d .prototypes < 256 → d .constants ≡ 0 → Made tag (due (word-at (f .payload) 6) (word-at (f .payload) 8) (d .prototypes + 1) 0) r fs → Made tag d (add-field tag f r) (f ∷ fs)

@@ -1,6 +1,6 @@
 -- What is written is read: the fields of written fields, and the image of an image's fields.
 use mathlib.Core.Path.{_≡_, refl, sym, ap, ap₂, _∙_, subst}
-use mathlib.Core.Bool.{Bool, true, false}
+use mathlib.Core.Bool.{Bool, true, false, _||_}
 use mathlib.Core.Option.{none, some}
 use mathlib.Core.Logic.{inl, inr, ⊎-elim}
 use mathlib.Core.List.{List, [], _∷_, _++_, map, append-assoc}
@@ -9,8 +9,8 @@ use native.Mathlib.Nat.{le-refl}
 use native.Mathlib.Omega.{arith}
 use lib.ListN.{length, drop, length-append}
 use lib.Seq.{take-at, drop-at, drop-drop}
-use lib.Dec.{eqb, leb}
-use borrow.Author.Tests.{eq-eqb, ne-eqb, lt-ltb, le-leb}
+use lib.Dec.{eqb, leb, ltb}
+use borrow.Author.Tests.{eqb-true, ltb-true, eq-eqb, ne-eqb, lt-ltb, le-leb}
 use Rattle.meaning.specs.Fields.{Field, word-at, span, whole, front, rest, fields, left}
 use Rattle.meaning.specs.Check.{framed}
 use Rattle.meaning.specs.Constant.{Constant, number, text, other}
@@ -25,6 +25,8 @@ use Rattle.meaning.specs.Image.{written}
 use Rattle.meaning.proofs.Images.Listed.{written-is, header-field, capture-field, inst-field, constant-field, proto-fields, image-fields, field-bytes, bytes-of}
 use Rattle.meaning.specs.Follow.{due, at-first, sized, is-capture, is-inst, is-header, is-constant, follows-whole, follows, due-after, may-end, stray}
 use Rattle.meaning.specs.Reader.{taken, ruled, broken, read-as}
+use Rattle.meaning.specs.Grammar.{short-mark}
+use Rattle.meaning.proofs.Ranges.Fits.{MarkIn}
 use Rattle.meaning.proofs.Images.Assembled.{Tagged, MarkFits, HeaderFits, assembled}
 use Rattle.meaning.proofs.Ranges.Fits.{ConstantFits}
 use Rattle.meaning.proofs.Images.Back.{taken-is}
@@ -80,16 +82,24 @@ capture-again c = go (c .is-local) refl
     go true e = ap (λ (b : Bool). (let r : Capture = record { is-local = eqb (flag b) 1; index = c .index } in r)) e ∙ sym (ap (λ (b : Bool). (let r : Capture = record { is-local = b; index = c .index } in r)) e)
     go false e = ap (λ (b : Bool). (let r : Capture = record { is-local = eqb (flag b) 1; index = c .index } in r)) e ∙ sym (ap (λ (b : Bool). (let r : Capture = record { is-local = b; index = c .index } in r)) e)
 
+-- a mark of two bytes, or none
+short-again : (m : ℕ) → MarkIn 0x43 m → short-mark (m / 256 % 256 * 256 + m % 256) ≡ m
+short-again m h = go (ltb m 65535) refl h
+  where
+    go : (b : Bool) → ltb m 65535 ≡ b → (b || eqb m 4294967295) ≡ true → short-mark (m / 256 % 256 * 256 + m % 256) ≡ m
+    go true e k = let l = ltb-true m 65535 e in rw (word-is m (omega arith), ne-eqb m 65535 (λ q. omega arith)) refl
+    go false e k = rw (eqb-true m 4294967295 k) refl
+
 with-mark : Instruction → ℕ → Instruction
 with-mark x m = record { opcode = x .opcode; a = x .a; b = x .b; c = x .c; mark = m }
 
 inst-43 : (x : Instruction) → MarkFits 0x43 x → inst-of 0x43 (inst-field 0x43 x .payload) ≡ x
 unfolding with-mark
-inst-43 x h = ap (with-mark x) (word-is (x .mark) h)
+inst-43 x h = ap (with-mark x) (short-again (x .mark) h)
 
 inst-47 : (x : Instruction) → MarkFits 0x47 x → inst-of 0x47 (inst-field 0x47 x .payload) ≡ x
 unfolding with-mark
-inst-47 x h = ap (with-mark x) (four (x .mark) h)
+inst-47 x h = ap (with-mark x) (four (x .mark) (ltb-true _ _ h))
   where
     four : (m : ℕ) → m < 4294967296 → (m / 65536 / 256 % 256 * 256 + m / 65536 % 256) * 65536 + (m / 256 % 256 * 256 + m % 256) ≡ m
     four m h = omega arith
@@ -321,13 +331,17 @@ some-fields tag im h = go (im .prototypes) h
     go [] h = absurd (omega arith)
     go (p ∷ ps) h = omega arith
 
+-- the fields of what is written
+pub fields-written : (tag : ℕ) (im : Image) → Tagged tag → fields (written tag im) ≡ image-fields tag im
+fields-written tag im ok = ap fields (written-is tag im) ∙ fields-of (image-fields tag im) (sized-append (sized-protos tag ok (im .prototypes)) (sized-constants (im .constants)))
+
 -- the writing of a formed image is whole and in order, and is read as that image, which is then judged
 pub formed-read : (tag : ℕ) (im : Image) → Formed tag im → read-as tag (written tag im) ≡ ruled im (broken im)
 unfolding framed read-as
 formed-read tag im g =
     let fs = image-fields tag im in
     let z = sized-append (sized-protos tag (g .width) (im .prototypes)) (sized-constants (im .constants)) in
-    let e : fields (written tag im) ≡ fs = ap fields (written-is tag im) ∙ fields-of fs z in
+    let e : fields (written tag im) ≡ fs = fields-written tag im (g .width) in
     let l : left (written tag im) ≡ [] = ap left (written-is tag im) ∙ left-of fs z in
     let order : stray tag at-first fs ≡ none =
     stray-protos tag (g .width) (im .prototypes) (g .numbers) (map constant-field (im .constants)) 0 (omega (arith, g .few)) (stray-constants tag (g .width) (im .constants) (0 + length (im .prototypes)) 0 (omega (arith, g .some)) (omega (arith, g .constants))) in

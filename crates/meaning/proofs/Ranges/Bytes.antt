@@ -1,12 +1,14 @@
 -- Every number of an image whose prototypes and constants fit is a byte.
 use Prim.Native.Nat.{ℕ, _<_, _≤_, _/_}
-use mathlib.Core.Bool.{Bool, true, false}
+use mathlib.Core.Bool.{Bool, true, false, cond}
 use mathlib.Core.List.{List, [], _∷_, _++_}
 use native.Mathlib.Omega.{arith}
 use lib.ListN.{length}
+use lib.Dec.{eqb}
 use Rattle.meaning.specs.Constant.{Constant, number, text, other}
 use Rattle.meaning.specs.State.{Capture, Proto, State}
-use Rattle.meaning.specs.Image.{word, field, flag, capture-bytes, inst-bytes, proto-bytes, number-bytes, constant-bytes, image}
+use Rattle.meaning.specs.Images.{inst-tag}
+use Rattle.meaning.specs.Image.{word, field, flag, mark-bytes, capture-bytes, inst-bytes, proto-bytes, number-bytes, constant-bytes, image}
 use Rattle.meaning.specs.Safety.{All}
 use Rattle.meaning.specs.declared.Instruction.{Instruction}
 use Rattle.meaning.proofs.Safe.Fine.{all-append}
@@ -45,24 +47,35 @@ constants-bytes (number b ∷ ks) = field-bytes 0x44 (number-bytes b) (constant-
 constants-bytes (text n ∷ ks) = field-bytes 0x45 (word n) (constant-bytes ks) (omega arith) (word-bytes n) (constants-bytes ks)
 constants-bytes (other w ∷ ks) = field-bytes 0x46 (word w) (constant-bytes ks) (omega arith) (word-bytes w) (constants-bytes ks)
 
-module _ (Marks : ℕ → Type 0) where
-  insts-bytes : (xs : List Instruction) → All (InstFits Marks) xs → Bytes (inst-bytes 0x43 xs)
+mark-is-bytes : (tag m : ℕ) → Bytes (mark-bytes tag m)
+mark-is-bytes tag m = go (eqb tag 0x47)
+  where
+    go : (b : Bool) → Bytes (cond b (word (m / 65536) ++ word m) (word m))
+    go true = both (word (m / 65536)) (word m) (word-bytes (m / 65536)) (word-bytes m)
+    go false = word-bytes m
+
+module _ (Marks : ℕ → Type 0) (tag : ℕ) (byte : tag < 256) where
+  insts-bytes : (xs : List Instruction) → All (InstFits Marks) xs → Bytes (inst-bytes tag xs)
   insts-bytes [] h = tt
   insts-bytes (x ∷ xs) h =
       let f = h .0 in
       let o = written-below (x .opcode) (f .written) in
-      field-bytes 0x43 (x .opcode ∷ x .a ∷ x .b ∷ x .c ∷ word (x .mark)) (inst-bytes 0x43 xs) (omega arith) (omega (arith, o), (f .a, (f .b, (f .c, word-bytes (x .mark))))) (insts-bytes xs (h .1))
+      field-bytes tag (x .opcode ∷ x .a ∷ x .b ∷ x .c ∷ mark-bytes tag (x .mark)) (inst-bytes tag xs) byte (omega (arith, o), (f .a, (f .b, (f .c, mark-is-bytes tag (x .mark))))) (insts-bytes xs (h .1))
 
-  protos-bytes : (ps : List Proto) → All (ProtoFits Marks) ps → Bytes (proto-bytes 0x43 ps)
+  protos-bytes : (ps : List Proto) → All (ProtoFits Marks) ps → Bytes (proto-bytes tag ps)
   protos-bytes [] h = tt
   protos-bytes (p ∷ ps) h =
       field-bytes 0x41 (word (p .name) ++ (word (p .params) ++ (word (p .registers) ++ (word (length (p .captures)) ++ word (length (p .code))))))
-      (capture-bytes (p .captures) ++ (inst-bytes 0x43 (p .code) ++ proto-bytes 0x43 ps))
+      (capture-bytes (p .captures) ++ (inst-bytes tag (p .code) ++ proto-bytes tag ps))
       (omega arith)
       (both (word (p .name)) (word (p .params) ++ (word (p .registers) ++ (word (length (p .captures)) ++ word (length (p .code))))) (word-bytes _) (four-bytes (p .params) (p .registers) (length (p .captures)) (length (p .code))))
-      (both (capture-bytes (p .captures)) (inst-bytes 0x43 (p .code) ++ proto-bytes 0x43 ps) (captures-bytes (p .captures) (h .0 .captures))
-      (both (inst-bytes 0x43 (p .code)) (proto-bytes 0x43 ps) (insts-bytes (p .code) (h .0 .code)) (protos-bytes ps (h .1))))
+      (both (capture-bytes (p .captures)) (inst-bytes tag (p .code) ++ proto-bytes tag ps) (captures-bytes (p .captures) (h .0 .captures))
+      (both (inst-bytes tag (p .code)) (proto-bytes tag ps) (insts-bytes (p .code) (h .0 .code)) (protos-bytes ps (h .1))))
 
-  pub image-bytes : (s : State) → Ranged Marks s → Bytes (image s)
-  unfolding image
-  image-bytes s r = both (proto-bytes 0x43 (s .prototypes)) (constant-bytes (s .constants)) (protos-bytes (s .prototypes) (r .prototypes)) (constants-bytes (s .constants))
+inst-byte : (wide : Bool) → inst-tag wide < 256
+inst-byte true = omega arith
+inst-byte false = omega arith
+
+pub image-bytes : (Marks : ℕ → Type 0) (wide : Bool) (s : State) → Ranged Marks s → Bytes (image wide s)
+unfolding image
+image-bytes Marks wide s r = both (proto-bytes (inst-tag wide) (s .prototypes)) (constant-bytes (s .constants)) (protos-bytes Marks (inst-tag wide) (inst-byte wide) (s .prototypes) (r .prototypes)) (constants-bytes (s .constants))

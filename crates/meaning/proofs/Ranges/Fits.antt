@@ -1,10 +1,16 @@
 -- What fits the fields of an image: instructions, prototypes, constants, all that a lowering ends with; and the syntax trees from which
 -- such things are made.
--- The idea: a mark fits where `Marks` holds of it, which is a parameter. With marks of two bytes it is `Short`; with others it is another.
-use Prim.Native.Nat.{ℕ, _≤_, _<_}
-use mathlib.Core.Path.{_≡_}
-use mathlib.Core.Bool.{true}
+-- The idea: a mark fits where `Marks` holds of it, which is a parameter: `MarkIn tag`, by the tag of instructions.
+use Prim.Native.Nat.{ℕ, _+_, _*_, _≤_, _<_}
+use mathlib.Core.Path.{_≡_, refl}
+use mathlib.Core.Bool.{Bool, true, false, _||_, cond}
 use lib.ListN.{length}
+use lib.Dec.{eqb, ltb}
+use native.Mathlib.Omega.{arith}
+use borrow.Author.Tests.{lt-ltb, eqb-false}
+use Rattle.meaning.specs.Grammar.{short-mark}
+use Rattle.meaning.specs.Opcode.{no-mark}
+use Rattle.meaning.specs.Images.{inst-tag}
 use Rattle.meaning.specs.Constant.{Constant, number, text, other}
 use Rattle.meaning.specs.Syntax.{Token, Expr, literal, variable, unary, binary, logical, call, function, Exprs, no-expr, and-expr, Stmt, expression, let-only, let-as, block, while, classic-for, for-in, break, continue, return-none, return, if, try, define, class, Stmts, no-stmt, and-stmt, Elifs, no-elif, and-elif, Fun, fun, Funs, no-fun, and-fun, Super, no-super, super}
 use Rattle.meaning.specs.State.{State, Capture, Proto, among}
@@ -18,9 +24,27 @@ use Rattle.meaning.specs.declared.Instruction.{Instruction}
 abbrev pub Written : ℕ → Type 0
 Written op = among op opcodes-written ≡ true
 
--- a mark of two bytes
-abbrev pub Short : ℕ → Type 0
-Short m = m < 65536
+-- a mark that the instructions of this tag can have: with 47 four bytes; else two, or none
+abbrev pub mark-fits : (tag m : ℕ) → Bool
+mark-fits tag m = cond (eqb tag 0x47) (ltb m 4294967296) (ltb m 65535 || eqb m 4294967295)
+
+abbrev pub MarkIn : (tag m : ℕ) → Type 0
+MarkIn tag m = mark-fits tag m ≡ true
+
+-- what two bytes and what four bytes stand for
+pub short-in : (v : ℕ) → v < 65536 → MarkIn 0x43 (short-mark v)
+short-in v h = go (eqb v 65535) refl
+  where
+    go : (c : Bool) → eqb v 65535 ≡ c → (ltb (cond c 4294967295 v) 65535 || eqb (cond c 4294967295 v) 4294967295) ≡ true
+    go true q = refl
+    go false q = simp (lt-ltb v 65535 (let n = eqb-false v 65535 q in omega (arith, n)))
+
+pub long-in : (v u : ℕ) → v < 65536 → u < 65536 → MarkIn 0x47 (v * 65536 + u)
+long-in v u h k = lt-ltb (v * 65536 + u) 4294967296 (omega arith)
+
+pub none-in : (wide : Bool) → MarkIn (inst-tag wide) no-mark
+none-in true = refl
+none-in false = refl
 
 -- an instruction fits: the opcode is written, the operands are bytes
 pub record InstFits (Marks : ℕ → Type 0) (x : Instruction) : Type 0 where

@@ -37,7 +37,7 @@ pub +many-spec : {M : Type 1} → statement M
     (λ c κs. tt)
     (λ c. omega (arith, ltb-true))
     (λ c κs. (omega (arith, ltb-true), tt))
-    (λ c. sym (length-replicate {A = ℕ} 234892033 0))
+    (λ c. sym (length-replicate {A = ℕ} 268445953 0))
     (λ c. sym (length-replicate {A = ℕ} 134215680 0))
     (λ c κs. tt)
     (λ c. tt)

@@ -12,7 +12,7 @@ use Rattle.meaning.proofs.Modes.{unless-yes, unless-no}
 use Rattle.tree.specs.Scratch.{Beyond}
 use Rattle.tree.specs.Used.{few}
 use Rattle.tree.proofs.Words.{beyond-refl, beyond-more}
-use Rattle.tree.proofs.Answers.{Shapely, free-is, owned-is, deep-is, no-fields, cut-off, too-many, not-many, after-depth, after-tree, after-shape, checked-at, no-work, all-well}
+use Rattle.tree.proofs.Answers.{own-shape, Shapely, free-is, owned-is, deep-is, no-fields, cut-off, too-many, not-many, after-depth, after-tree, after-shape, checked-at, no-work, all-well}
 use Rattle.tree.proofs.judged.Statement.{statement}
 use Rattle.tree.proofs.judged.Tie as tie
 
@@ -60,7 +60,7 @@ shapely c =
       some = omega (arith, m .before .before .before .if1 .left);
       most = m .if3 .left;
       room = omega (arith, pre .room, m .if3 .left);
-      shapes = right .0;
+      shapes = right .0 ∙ own-shape _ _;
       entered = right .1;
     }
 
@@ -103,7 +103,7 @@ returns-3 c = let e = c .before .before .before in let pre = S₁ e .pre in
 
 returns-4 : tie.Need-returns-4
 returns-4 c = let m = c .before .before in let pre = S₃ m .pre in
-    (unless-yes _ _ _ _ _ (pre .misshapen (m .before .if2 .left) (m .if3 .left) (c .if4 .taken)) (c .if4 .taken) ∙ checked-at _ _ _ (pre .whole-fields) ∙ rest-2 m, beyond-refl _ _)
+    (unless-yes _ _ _ _ _ (pre .misshapen (m .before .if2 .left) (m .if3 .left) (c .if4 .taken) ∙ own-shape _ _) (c .if4 .taken) ∙ checked-at _ _ _ (pre .whole-fields) ∙ rest-2 m, beyond-refl _ _)
 
 returns-5 : tie.Need-returns-5
 returns-5 c = (unless-yes _ _ _ _ _ (free (c .before)) (c .if5 .taken) ∙ rest-3 (c .before .before .before), beyond-refl _ _)

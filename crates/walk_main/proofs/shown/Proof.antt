@@ -1,11 +1,16 @@
--- An image that is accepted is in order.
+-- An image that is accepted is in order, at its own tag.
 use borrow.Author.Needs.{needs}
-use mathlib.Core.Path.{_≡_, refl, sym, _∙_}
-use mathlib.Core.Logic.{inl}
+use mathlib.Core.Path.{_≡_, sym, ap, _∙_}
+use Prim.Native.Nat.{ℕ}
 use native.Mathlib.Omega.{arith}
-use Rattle.reader.proofs.Answered.{accepted-ordered}
+use denote.Ref.{now}
+use Rattle.reader.proofs.Answered.{outcome-of, accepted-ordered}
 use Rattle.walk_main.proofs.shown.Statement.{statement}
 use Rattle.walk_main.proofs.shown.Tie as tie
+
+prototype-requires : tie.Need-prototype-requires
+prototype-requires c κs = let e = c .before in let r = e .before .before in let t = c .image-tag .ensures in
+    accepted-ordered _ _ _ (ap (λ (tag : ℕ). outcome-of tag (now (r .before .before .before .args .image))) (t .0) ∙ sym (r .read .ensures) ∙ e .enum-told .given .1) (t .1)
 
 pub shown-spec : {M : Type 1} → statement M
 shown-spec =
@@ -15,7 +20,8 @@ shown-spec =
     (λ c. search needs)
     (λ c. search needs)
     (λ c. search needs)  -- returns
-    (λ c κs. accepted-ordered 0x43 _ _ (sym (c .before .before .read .ensures) ∙ c .enum-told .given .1) (inl refl))  -- prototype-requires
+    (λ c κs. search needs)  -- image-tag-requires
+    prototype-requires
     (λ c. search needs)  -- returns-2
     (λ c κs. search needs)  -- word-requires
     (λ c κs. search needs)  -- digits-requires

@@ -28,7 +28,7 @@ pub fn rule_unless(right: bool, place: usize) -> [u64; 2] {
 
 /// An instruction without mark.
 pub fn ins(name: &str, a: u8, b: u8, c: u8) -> Instruction {
-    Instruction { opcode: opcode(name), a, b, c, mark: NONE }
+    Instruction { opcode: opcode(name), a, b, c, mark: None }
 }
 
 /// An instruction whose b and c are one number.
@@ -64,7 +64,7 @@ pub fn texts(n: usize) -> Vec<Constant> {
 }
 
 pub fn image(prototypes: Vec<Prototype>, constants: Vec<Constant>) -> Vec<u8> {
-    Image { prototypes, constants }.to_bytes()
+    Image { wide: false, prototypes, constants }.to_bytes()
 }
 
 /// One prototype without constants: its instruction k is field 1 + k.

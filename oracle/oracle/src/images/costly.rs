@@ -1,5 +1,6 @@
 //! The images that cost a reader most: the longest that the lowering can write, and those where a fact could be looked for once for every pair.
 use super::build::{edge, end, image, ins, local, prototype, rule_unless, wide, Edge, TAKEN};
+use super::width::widened;
 use files::image::{Capture, Constant, Instruction, Prototype};
 
 pub fn all() -> Vec<Edge> {
@@ -9,8 +10,10 @@ pub fn all() -> Vec<Edge> {
     broken[last + 3..last + 7].copy_from_slice(&[3, 0, 0, 1]);
     vec![
         edge("75,836,160 bytes, a Closure in nearly each field", closing(256), TAKEN),
+        edge("92,612,864 bytes, the same with marks of four bytes", widened(&closing(256)), TAKEN),
         edge("the same of 32 prototypes, the last fact fails", broken, rule_unless(false, 32 * (1 + 255 + 32767) - 1)),
         edge("Returns that are let pass, 16 prototypes of them", let_pass(), TAKEN),
+        edge("the same with marks of four bytes", widened(&let_pass()), TAKEN),
         edge("65,535 Closures of 65,535 captures each", captures(), TAKEN),
     ]
 }

@@ -64,7 +64,7 @@ fn order(edges: &mut Vec<Edge>) {
         say("a tag for an instruction", &[&h, &field(tag, &[20, 0, 0, 0, 0, 0])], due(&[0x43], 1));
         say("a tag with eight bytes behind the code", &[&h, &code, &field(tag, &[0; 8])], due(&[0x44], 2));
         say("a tag with two bytes behind the code", &[&h, &code, &field(tag, &[0; 2])], due(&[0x45, 0x46], 2));
-        say("an instruction with eight bytes", &[&h, &field(tag, &[20, 0, 0, 0, 0, 0, 0, 0])], [20, 1]);
+        say("an instruction with eight bytes", &[&h, &field(tag, &[20, 0, 0, 0, 0, 0, 0, 0])], due(&[0x47], 1));
     }
     for (tag, size, before) in [(0x41, 10, vec![]), (0x42, 2, h1.clone()), (0x43, 6, h.clone())] {
         for wrong in [0, 1, size - 1, size + 1, size + 2, 255, 256, 65_535] {

@@ -1,5 +1,6 @@
-//! Small images, each edited in every byte to every value, cut and stretched at every byte, with every field gone, doubled, moved or resized.
+//! Small images, three of them wide too, each edited in every byte to every value, cut and stretched at every byte, with every field gone, doubled, moved or resized.
 use super::build::*;
+use super::width::widened;
 use crate::trees::damage::{joined, loose};
 use files::image::Constant;
 
@@ -29,11 +30,16 @@ pub fn bases() -> Vec<Vec<u8>> {
         end(),
         ins("Return", 0, 1, 0),
     ];
+    let making = image(vec![inner, prototype(2, vec![local(0)], making)], kinds);
+    let (empty, trying) = (alone(0, vec![end()]), alone(0, trying));
     vec![
-        alone(0, vec![end()]),
-        image(vec![inner, prototype(2, vec![local(0)], making)], kinds),
+        widened(&empty),
+        widened(&making),
+        widened(&trying),
+        empty,
+        making,
         alone(3, calling),
-        alone(0, trying),
+        trying,
         image(vec![bare(), bare(), prototype(1, vec![], vec![wide("Closure", 0, 1), end()])], texts(1)),
     ]
 }

@@ -1,10 +1,12 @@
 //! Random images: most of their operands inside, then at times damaged.
 use super::build::{bare, end};
+use super::width;
 use crate::answer;
 use crate::questions;
 use crate::reading::is_written;
 use crate::rng::Rng;
 use crate::trees::damage::{hurt_bytes, joined, loose, Loose};
+use crate::trees::values;
 use files::image::{Capture, Constant, Image, Instruction, Prototype};
 use files::tree::push_field;
 
@@ -16,17 +18,19 @@ pub fn any(seed: u64, k: u64) -> Vec<u8> {
         1..=8 => lowered(&mut rng, seed, k).unwrap_or_else(|| built(&mut rng)),
         _ => built(&mut rng),
     };
-    if rng.chance(350) {
+    if rng.chance(400) {
         whole
     } else {
         damaged(&mut rng, &whole)
     }
 }
 
-/// The image of a small random tree, where it has one.
+/// The image of a small random tree, two of five of them wide, where it has one.
 pub fn lowered(rng: &mut Rng, seed: u64, k: u64) -> Option<Vec<u8>> {
     let mode = rng.below(2) as u64;
-    answer::image(&questions::small(seed, k, mode).tree, mode, u64::MAX).ok()
+    let tree = questions::small(seed, k, mode).tree;
+    let tree = if rng.chance(400) { questions::made_wide(rng, &tree) } else { tree };
+    answer::image(&tree, mode, u64::MAX).ok()
 }
 
 /// What the operands of a prototype may name, and how often one leaves it, in 1,000.
@@ -50,7 +54,12 @@ fn built(rng: &mut Rng) -> Vec<u8> {
         let taste = Taste { wild, own, captures, registers, constants: constants.len(), length };
         prototypes.push(if rng.chance(50) { bare() } else { prototype(rng, &taste) });
     }
-    Image { prototypes, constants }.to_bytes()
+    let image = Image { wide: false, prototypes, constants }.to_bytes();
+    if rng.chance(400) {
+        width::widened_at_random(rng, &image)
+    } else {
+        image
+    }
 }
 
 fn constant(rng: &mut Rng) -> Constant {
@@ -98,7 +107,7 @@ fn instruction(rng: &mut Rng, taste: &Taste, at: usize) -> Instruction {
         20 => b = rng.below(3) as u8,
         _ => {}
     }
-    Instruction { opcode, a, b, c, mark: rng.word() }
+    Instruction { opcode, a, b, c, mark: Some(values::mark(rng).into()) }
 }
 
 /// A number below a count, or beside it where the taste is wild.
@@ -132,7 +141,7 @@ fn damaged(rng: &mut Rng, image: &[u8]) -> Vec<u8> {
 fn hurt_fields(rng: &mut Rng, fields: &mut Vec<Loose>) {
     let n = fields.len();
     let at = rng.below(n);
-    match rng.below(14) {
+    match rng.below(15) {
         0 => {
             fields.remove(at);
         }
@@ -144,6 +153,7 @@ fn hurt_fields(rng: &mut Rng, fields: &mut Vec<Loose>) {
         }
         5 => fields[at].payload.push(rng.word() as u8),
         6 => fields.truncate(at),
+        7 => width::mixed(rng, fields),
         _ => hurt_byte(rng, &mut fields[at].payload),
     }
 }

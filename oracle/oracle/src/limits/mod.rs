@@ -11,6 +11,7 @@ mod numbers;
 mod registers;
 mod rules;
 mod shapes;
+mod widths;
 
 use crate::answer::{in_room, lowered, Answer, Lowered};
 use crate::judge::{work_for, Refusal, MOST_FIELDS};
@@ -137,4 +138,9 @@ pub fn heavy_cases() -> Vec<Case> {
     heavy::cases()
 }
 
-pub use shapes::{edited_shapes, zoo};
+/// Every case in a wide tree, which has the same number and place, and the edges of the width.
+pub fn wide_cases() -> Vec<Case> {
+    widths::cases()
+}
+
+pub use shapes::{edited_shapes, edited_wide_shapes, wide_zoo, zoo};

@@ -155,7 +155,7 @@ fn programs() -> Vec<Case> {
         rows("shape before tree", &[ONE, ONE, (0x05, &[9, 0, 1]), (0x10, &[2]), (0x1E, &[3])], (3, 2)),
         Case::file("an odd program", Rule::plain(vec![0x1E, 0, 1, 0]), Some((3, 0))),
     ];
-    for tag in [0x00, 0x0A, 0x0F, 0x1F, 0x3E, 0x41, 0xFF] {
+    for tag in [0x00, 0x0A, 0x0F, 0x1F, 0x3D, 0x3F, 0x41, 0xFF] {
         all.push(rows(format!("tag {tag:02X}"), &[(tag, &[]), (0x1E, &[])], (3, 0)));
         all.push(rows(format!("tag {tag:02X} last"), &[(tag, &[])], (3, 0)));
     }

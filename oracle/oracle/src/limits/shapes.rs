@@ -2,6 +2,7 @@
 use crate::trees::build::*;
 use crate::trees::damage::{joined, loose, Loose};
 use crate::trees::order::post;
+use crate::trees::width::widened;
 use files::NONE;
 
 /// A small accepted program in which every tag stands.
@@ -40,7 +41,21 @@ pub fn zoo() -> Node {
 
 /// Every edit of one word, tag or length of the zoo.
 pub fn edited_shapes() -> Vec<Vec<u8>> {
-    let fields = loose(&post(&zoo()));
+    edited(&post(&zoo()))
+}
+
+/// The same of the zoo with marks of four bytes, whose high halves are not 0.
+pub fn edited_wide_shapes() -> Vec<Vec<u8>> {
+    edited(&wide_zoo())
+}
+
+/// The zoo with line 3 before its marks, as if they were columns.
+pub fn wide_zoo() -> Vec<u8> {
+    widened(&post(&zoo()), |mark| 3 << 16 | mark).expect("short payloads")
+}
+
+fn edited(tree: &[u8]) -> Vec<Vec<u8>> {
+    let fields = loose(tree);
     let mut all = vec![];
     for at in 0..fields.len() {
         let mut add = |edit: &dyn Fn(&mut Loose)| {

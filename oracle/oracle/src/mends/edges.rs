@@ -1,5 +1,6 @@
 //! Images by hand, with number and place, and the entries that are due: prototype, index, and the four bytes.
 use crate::images::build::*;
+use crate::images::width::widened;
 use files::image::Instruction;
 use files::listing::opcode;
 
@@ -12,6 +13,33 @@ pub struct Edge {
 const JMP: u8 = 3;
 
 pub fn all() -> Vec<Edge> {
+    let mut edges = narrow();
+    let wide: Vec<Edge> = edges.iter().filter_map(made_wide).collect();
+    edges.extend(wide);
+    widths(&mut edges);
+    edges
+}
+
+/// The same fields with marks of four bytes, where there is an instruction: the same entries, number and place are due.
+fn made_wide(narrow: &Edge) -> Option<Edge> {
+    let image = widened(&narrow.image);
+    let name = format!("wide: {}", narrow.name);
+    (image != narrow.image).then(|| Edge { name, image, due: narrow.due.clone() })
+}
+
+/// Jumps of both widths, which no image has, and marks of four bytes that stay.
+fn widths(edges: &mut Vec<Edge>) {
+    let wide = |code: [u8; 4], mark: u32| field(0x47, &[code, mark.to_be_bytes()].concat());
+    let (stray, end) = (wide([JMP, 1, 0, 0], 0x0001_FFFF), wide([20, 0, 0, 0], u32::MAX));
+    let narrow = field(0x43, &[JMP, 1, 0, 0, 0, 7]);
+    let head = header([65_535, 0, 0, 0, 2]);
+    let mut say = |name: &str, parts: &[&[u8]], due| edges.push(Edge { name: name.into(), image: parts.concat(), due });
+    say("a wide mark", &[&head, &stray, &end], Ok(vec![0, 0, 0, 0, JMP, 1, 0, 0]));
+    say("a wide stray, then a narrow one", &[&head, &stray, &narrow], Err([20, 2]));
+    say("a narrow stray, then a wide one", &[&head, &narrow, &stray], Err([20, 2]));
+}
+
+fn narrow() -> Vec<Edge> {
     let mut edges = vec![];
     jumps(&mut edges);
     let mut say = |name: &str, image: Vec<u8>, due| edges.push(Edge { name: name.into(), image, due });
@@ -32,7 +60,7 @@ pub fn all() -> Vec<Edge> {
     // the place that a jump enters is not its own
     let next = alone(0, vec![ins("Jmp", 2, 0, 1), ins("Return", 0, 1, 0)]);
     say("the one behind a stray", next, Ok(vec![0, 0, 0, 0, JMP, 2, 0, 1]));
-    let marked = Instruction { mark: 0x1234, ..ins("Jmp", 0, 0x7F, 0xFF) };
+    let marked = Instruction { mark: Some(0x1234), ..ins("Jmp", 0, 0x7F, 0xFF) };
     say("a mark", alone(0, vec![marked]), Ok(vec![0, 0, 0, 0, JMP, 0, 0x7F, 0xFF]));
     let many = image(
         vec![bare(), prototype(0, vec![], vec![stray, end()]), prototype(0, vec![], vec![end(), stray])],

@@ -44,7 +44,14 @@ pub fn rooms(image: &[u8]) -> Vec<Question> {
 /// Everything that is the same in every run: by hand and of the source with all rooms, the reader's images by hand with enough.
 pub fn fixed() -> Vec<Question> {
     let by_hand = edges::all().into_iter().map(|edge| edge.image);
-    let small = images::edges::all().into_iter().map(|edge| edge.image).filter(|image| image.len() < 60_000);
+    let read = images::edges::all().into_iter().map(|edge| edge.image);
+    // of a row of three or four like ones, one is asked wide too
+    let both = read.enumerate().flat_map(|(k, image)| match k % 4 {
+        0 => vec![images::width::widened(&image), image],
+        _ => vec![image],
+    });
+    let widths = images::width::edges().into_iter().map(|edge| edge.image);
+    let small = both.chain(widths).filter(|image| image.len() < 60_000);
     let real = real::fixed().iter().cloned();
     let mut all: Vec<Question> = by_hand.chain(real).flat_map(|image| rooms(&image)).collect();
     all.extend(small.map(|image| {

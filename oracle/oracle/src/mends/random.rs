@@ -1,6 +1,7 @@
-//! Random images to mend: the source's own with strays, taken ones whose jumps are hurt, and any.
+//! Random images to mend: the source's own with strays, taken ones whose jumps are hurt, and any; of both widths.
 use super::{lent, real, Question};
 use crate::images;
+use crate::images::width::widened_at_random;
 use crate::rng::Rng;
 use crate::trees::damage::{joined, loose};
 use crate::walks::mazes;
@@ -15,6 +16,9 @@ pub fn any(seed: u64, k: u64) -> Question {
         4..=5 => images::random::lowered(&mut rng, seed, k).unwrap_or_else(|| mazes::any(&mut rng)),
         _ => mazes::any(&mut rng),
     };
+    if rng.chance(300) {
+        image = widened_at_random(&mut rng, &image);
+    }
     for _ in 0..rng.below(4) {
         hurt(&mut rng, &mut image);
     }
@@ -28,7 +32,7 @@ pub fn any(seed: u64, k: u64) -> Question {
 /// One Jmp gets another a or leads elsewhere; where there is none, an instruction becomes one.
 fn hurt(rng: &mut Rng, image: &mut Vec<u8>) {
     let mut fields = loose(image);
-    let code: Vec<usize> = (0..fields.len()).filter(|k| fields[*k].tag == 0x43).collect();
+    let code: Vec<usize> = (0..fields.len()).filter(|k| matches!(fields[*k].tag, 0x43 | 0x47)).collect();
     let jumps: Vec<usize> = code.iter().copied().filter(|k| fields[*k].payload[0] == opcode("Jmp")).collect();
     let among = if jumps.is_empty() || rng.chance(100) { &code } else { &jumps };
     let at = *rng.pick(among);

@@ -1,11 +1,13 @@
 //! Images of the unchanged source where the port refuses by 11 or 17: breaks and continues outside any loop, and bodies so long that jumps
-//! over them wrap.
+//! over them wrap; of narrow trees and of wide ones.
 use crate::compare::end_due;
 use crate::judge;
+use crate::questions::made_wide;
 use crate::rng::Rng;
 use crate::trees::build::*;
 use crate::trees::order::post;
 use crate::trees::random::{self, Taste};
+use crate::trees::width::widened;
 use std::sync::OnceLock;
 
 const A: Pair = (20, 7);
@@ -23,7 +25,9 @@ pub fn image_of(tree: &[u8], number: u8) -> Option<Vec<u8>> {
 /// A small random program with breaks and continues outside loops.
 pub fn stray(rng: &mut Rng) -> Option<Vec<u8>> {
     let taste = Taste { mischief: 11, ..Taste::any(rng, 80) };
-    image_of(&post(&random::program(rng, taste)), 11)
+    let tree = post(&random::program(rng, taste));
+    let tree = if rng.chance(300) { made_wide(rng, &tree) } else { tree };
+    image_of(&tree, 11)
 }
 
 /// Long bodies in every loop and branch, with breaks and continues at both ends, and strays: made once.
@@ -40,8 +44,9 @@ fn made() -> Vec<Vec<u8>> {
         vec![while_(17, number(1.0), expression(function(&[], vec![continue_(18), block(vec![])])))],
         vec![try_(break_(19), (21, 20), continue_(21))],
     ];
-    let strays = strays.into_iter().map(|body| image_of(&post(&program(body)), 11).expect("a stray image"));
-    strays.chain(long()).collect()
+    let strays = strays.into_iter().map(|body| post(&program(body)));
+    let both = strays.flat_map(|tree| [tree.clone(), widened(&tree, |mark| 5 << 16 | mark).expect("short payloads")]);
+    both.map(|tree| image_of(&tree, 11).expect("a stray image")).chain(long()).collect()
 }
 
 /// The least jump that wraps is one over 32,767 instructions.
@@ -51,6 +56,8 @@ fn long() -> Vec<Vec<u8>> {
         for kind in 0..5 {
             let body = vec![let_(A, Some(number(1.0))), around(kind, ifs)];
             let tree = post(&program(vec![block(body)]));
+            let tree =
+                if ifs == 10_923 { widened(&tree, |mark| 5 << 16 | mark).expect("short payloads") } else { tree };
             images.extend(image_of(&tree, 17));
         }
     }

@@ -1,6 +1,7 @@
 //! What the trees that cost much are made of.
 use super::build::*;
 use super::order::{file, Order};
+use super::width::widened;
 use crate::rng::Rng;
 
 /// As many nodes as a file may have.
@@ -14,13 +15,19 @@ pub struct Worst {
     pub due: u8,
     /// The seed of the numbers of its nodes, where they are not those of post order.
     pub numbering: Option<u64>,
+    /// Whether its marks have four bytes.
+    pub wide: bool,
 }
 
 impl Worst {
     pub fn file(&self) -> Vec<u8> {
-        match self.numbering {
+        let narrow = match self.numbering {
             Some(seed) => file(&self.tree, Order::Random(&mut Rng::new(seed))),
             None => file(&self.tree, Order::Post),
+        };
+        match self.wide {
+            true => widened(&narrow, |mark| 9 << 16 | mark).expect("payloads that stay below 65,536 bytes"),
+            false => narrow,
         }
     }
 }
@@ -33,12 +40,17 @@ pub fn a() -> Node {
 }
 
 pub fn of(name: &'static str, tree: Node) -> Worst {
-    Worst { name, tree, room: 400_000, due: 0, numbering: None }
+    Worst { name, tree, room: 400_000, due: 0, numbering: None, wide: false }
 }
 
 /// With an output for the code of up to 193 functions.
 pub fn large(name: &'static str, tree: Node) -> Worst {
     Worst { room: 48_000_000, ..of(name, tree) }
+}
+
+/// The same with marks of four bytes, and an output for its longer image.
+pub fn wide(name: &'static str, worst: Worst) -> Worst {
+    Worst { name, room: worst.room / 9 * 11, wide: true, ..worst }
 }
 
 pub fn refused(due: u8, worst: Worst) -> Worst {

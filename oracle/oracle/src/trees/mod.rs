@@ -16,4 +16,5 @@ pub mod scope;
 pub mod script;
 pub mod spines;
 pub mod values;
+pub mod width;
 pub mod worst;

@@ -61,3 +61,33 @@ pub fn mark(rng: &mut Rng) -> u16 {
         _ => rng.word(),
     }
 }
+
+/// Any mark of four bytes: none, the edges of two bytes and of four, and what two bytes could be mistaken for, often.
+pub fn wide_mark(rng: &mut Rng) -> u32 {
+    match rng.below(8) {
+        0 => u32::MAX,
+        1..=2 => *rng.pick(&WIDE_MARKS),
+        3 => u32::from(mark(rng)),
+        4 => u32::from(rng.word()) << 16 | u32::from(NONE),
+        5 => u32::from(NONE) << 16 | u32::from(rng.word()),
+        _ => rng.next() as u32,
+    }
+}
+
+/// Marks of four bytes at the edges.
+pub const WIDE_MARKS: [u32; 14] = [
+    0,
+    1,
+    255,
+    256,
+    65_534,
+    65_535, // no mark where it has two bytes
+    65_536,
+    65_537,
+    0x0001_FFFF,
+    0x7FFF_FFFF, // the greatest line of the source without a sign
+    0x8000_0000,
+    0xFFFF_0000,
+    0xFFFF_FFFE,
+    0xFFFF_FFFF, // no mark
+];

@@ -5,7 +5,30 @@ use super::costly::*;
 use super::spines::spines;
 
 pub fn worst() -> Vec<Worst> {
-    [rows(), chains(), again(), names(), scans(), spines()].into_iter().flatten().collect()
+    [rows(), chains(), again(), names(), scans(), spines(), widths()].into_iter().flatten().collect()
+}
+
+/// The worst of each kind with marks of four bytes: longer payloads to pass over, and longer images.
+fn widths() -> Vec<Worst> {
+    let ifs_again = in_two(ifs(5_000), ifs(10_900));
+    let loops = nested(120, ifs(10_700), &|b| while_(M, a(), one(b)));
+    let spines = spines().into_iter().next().expect("a spine");
+    vec![
+        wide("wide: 32,766 returns", of("", program(returns(32_766)))),
+        Worst { room: 0, ..wide("wide: 32,766 returns and no room", refused(18, of("", program(returns(32_766))))) },
+        refused(
+            7,
+            wide(
+                "wide: a call of 32,760 arguments",
+                of("", alone(call(number(1.0), M, times(32_760, || number(1.0))))),
+            ),
+        ),
+        wide("wide: 10,900 ifs, lowered 128 times", large("", ifs_again)),
+        wide("wide: 10,900 ands, lowered 1,024 times", large("", ands_again(10_900))),
+        wide("wide: 120 loops around 10,700 ifs", of("", with_a(loops))),
+        wide("wide: a bucket of locals in 100 blocks, 1,024 times", large("", bucket_of_blocks(6_553, 100))),
+        wide("wide: unaries 104 deep, 1,024 times", spines),
+    ]
 }
 
 /// Much of one kind, each lowered once.

@@ -1,6 +1,7 @@
 //! Walks by hand, with the five numbers and the bytes that are due.
 use super::Question;
 use crate::images::build::*;
+use crate::images::width::widened;
 use crate::walking::{Run, Walked};
 use files::image::Instruction;
 
@@ -61,7 +62,16 @@ pub fn all() -> Vec<Edge> {
     nested(&mut edges);
     registered(&mut edges);
     orders(&mut edges);
+    let wide: Vec<Edge> = edges.iter().step_by(3).filter_map(made_wide).collect();
+    edges.extend(wide);
     edges
+}
+
+/// The same walk over marks of four bytes, where there is an instruction: the same is due.
+fn made_wide(narrow: &Edge) -> Option<Edge> {
+    let question = Question { image: widened(&narrow.question.image), ..narrow.question.clone() };
+    let changed = question.image != narrow.question.image;
+    changed.then(|| Edge { name: format!("wide: {}", narrow.name), question, due: narrow.due.clone() })
 }
 
 fn nil() -> Instruction {

@@ -1,9 +1,11 @@
 //! Random walks: mazes, what small trees give, and images of which most are refused; budgets around the path's length.
 use super::{mazes, Question};
 use crate::images;
+use crate::images::width::widened_at_random;
 use crate::reading::read;
 use crate::rng::Rng;
 use crate::walking::{walk, Ending, Run};
+use files::tree::fields;
 
 /// A walk that has not ended after so many steps is in a loop, or is taken for one.
 const LONG: u64 = 3000;
@@ -16,6 +18,7 @@ pub fn any(seed: u64, k: u64) -> Question {
         1..=4 => images::random::lowered(&mut rng, seed, k).unwrap_or_else(|| mazes::any(&mut rng)),
         _ => mazes::any(&mut rng),
     };
+    let image = if rng.chance(300) && fields(&image).is_ok() { widened_at_random(&mut rng, &image) } else { image };
     asked(&mut rng, image)
 }
 

@@ -36,23 +36,24 @@ returns-3 c =
 
 place-prototype-requires : tie.Need-place-prototype-requires
 place-prototype-requires c κs =
-    let start = c .before .before .before .before .before .before .before .before .before in
-    let o = c .before .before .before .before .before .o in
+    let start = c .before .before .before .before .before .before .before .before .before .before in
+    let o = c .before .before .before .before .before .before .o in
     let a = start .args in
     let fine = start .pre .0 in
     let on = o .given .1 in
     let le = met on (start .pre .1) in
-    (omega (arith, fine .sound .long), omega (arith, fine .room, le), fine .sound .few, shallow (a .step) fine on, omega (arith, (c .before .before .if1) .left), omega (arith, written-few (a .step) fine on, fine .functions))
+    (omega (arith, fine .sound .long), omega (arith, fine .room, le), fine .sound .few, shallow (a .step) fine on, omega (arith, (c .before .before .before .if1) .left), omega (arith, written-few (a .step) fine on, fine .functions))
 
 returns-4 : tie.Need-returns-4
 returns-4 c =
-    let start = c .before .before .before .before .before .before .before .before .before .before .before .before in
-    let o = c .before .before .before .before .before .before .before .before .o in
-    let if1 = c .before .before .before .before .before .if1 in
-    let if2 = c .before .before .before .before .if2 in
+    let start = c .before .before .before .before .before .before .before .before .before .before .before .before .before in
+    let o = c .before .before .before .before .before .before .before .before .before .o in
+    let if1 = c .before .before .before .before .before .before .if1 in
+    let if2 = c .before .before .before .before .before .if2 in
+    let tag = c .before .before .before .code-tag in
     let a = start .args in
     let on = o .given .1 in
-    adds-done (a .first) (a .node) (a .params) (start .pre .0) on (met on (start .pre .1)) (if1 .left) (if2 .left) ((c .before .before .place-prototype) .ensures)
+    adds-done (a .first) (a .node) (a .params) (start .pre .0) on (met on (start .pre .1)) (if1 .left) (if2 .left) (tag .ensures) ((c .before .before .place-prototype) .ensures)
 
 pub add-prototype-spec : {M : Type 1} → statement M
 add-prototype-spec =
@@ -66,6 +67,7 @@ add-prototype-spec =
     returns-2
     (λ c κs. search needs)
     returns-3
+    (λ c κs. search needs)
     (λ c. search needs)
     place-prototype-requires
     (λ c. search needs)

@@ -12,7 +12,7 @@ use Rattle.cycle.proofs.+addi+arguments+binary+block+body+both+call+cla
 use Rattle.code.specs.Words.{Bytes}
 use Rattle.cycle.proofs.Sizes.{exprs-size, exprs-size-none}
 use Rattle.cycle.proofs.Turns.{Turning, closed, none-turned, turned}
-use Rattle.cycle.proofs.Way.{_▹_, arrive, fits, from, give-expr, next-leaf, readable, small, spends, stand}
+use Rattle.cycle.proofs.Way.{_▹_, arrive, counted, fits, from, give-expr, narrow-or-wide, next-leaf, placed, readable, small, spends, stand}
 use Rattle.cycle.proofs.Visited.{exprs-visits, exprs-visits-none}
 use Rattle.meaning.specs.Visits.{visits-expr, visits-exprs}
 use Rattle.cycle.specs.Cycle.{AskArguments, AskExpr, LowersArguments, LowersExpr}
@@ -113,33 +113,36 @@ abbrev pub claims : ℕ → lts.Claims
 claims t = (payload-of-reads.Asked, payload-of-reads.Learnt, count-of-reads.Asked, count-of-reads.Learnt, child-reads.Asked, child-reads.Learnt, expression-below t, expression.Post, emit-reads.Asked, emit-reads.Learnt, settle-reads.Asked, settle-reads.Learnt)
 
 abbrev pub Inv-loop : lts.InvT-loop
-Inv-loop tree work₀ out₀ scope node register payload n last₀ to₀ k₀ work out last to k = Moving tree work₀ out₀ scope last₀ node register work out last to k
+Inv-loop tree work₀ out₀ scope node register wide payload n last₀ to₀ k₀ work out last to k = Moving tree work₀ out₀ scope last₀ node register work out last to k
 
 abbrev pub μ-loop : lts.MeasureT-loop
-μ-loop tree work₀ out₀ scope node register payload n last₀ to₀ k₀ work out last to k = n - k
+μ-loop tree work₀ out₀ scope node register wide payload n last₀ to₀ k₀ work out last to k = n - k
 
 pub payload-of-requires : (t : ℕ) → lts.Need-payload-of-requires (claims t) (arguments-at t) arguments.Post Inv-loop μ-loop
 payload-of-requires t c κs = readable ((c .before .before .before .before) .pre .1 .0 .ready) ((c .before .before .before .before) .pre .1 .0 .known)
 
 pub count-of-requires : (t : ℕ) → lts.Need-count-of-requires (claims t) (arguments-at t) arguments.Post Inv-loop μ-loop
-count-of-requires t c κs = readable ((c .before .before .before .before .before .before) .pre .1 .0 .ready) ((c .before .before .before .before .before .before) .pre .1 .0 .known)
+count-of-requires t c κs = counted (readable ((c .before .before .before .before .before .before) .pre .1 .0 .ready) ((c .before .before .before .before .before .before) .pre .1 .0 .known)) ((c .before .before .before .before .before .before) .pre .1 .0 .behind)
 
 pub loop-holds : (t : ℕ) → lts.Need-loop-holds (claims t) (arguments-at t) arguments.Post Inv-loop μ-loop
 loop-holds t c = start ((c .before .before .before .before .before .before .before) .pre .1)
 
+pub add-child : (t : ℕ) → lts.Need-add-child (claims t) (arguments-at t) arguments.Post Inv-loop μ-loop
+add-child t c = omega (arith, (c .loop-test) .taken, (c .before .before .count-of) .ensures .1, narrow-or-wide ((c .before .before .before .before .before .before .before .before .before) .pre .1 .0 .ready))
+
 pub child-requires : (t : ℕ) → lts.Need-child-requires (claims t) (arguments-at t) arguments.Post Inv-loop μ-loop
-child-requires t c κs = rw ((c .before .before .before .before .payload-of) .ensures) (omega (arith, (c .loop-test) .taken, (c .before .before .count-of) .ensures .0))
+child-requires t c κs = rw ((c .before .before .before .before .payload-of) .ensures) (omega (arith, (c .loop-test) .taken, (c .before .before .count-of) .ensures .0, (c .before .before .before .before .before .before .before .before .before) .pre .1 .0 .behind .size))
 
 pub expression-requires : (t : ℕ) → lts.Need-expression-requires (claims t) (arguments-at t) arguments.Post Inv-loop μ-loop
 expression-requires t c κs =
     let h = rw ((c .before .before .before .before .before .count-of) .ensures .0) at ((c .before .before .before .loop-test) .taken) in
-    let e = rw ((c .before .before .before .before .before .before .before .payload-of) .ensures) at ((c .before .before .child) .ensures .0) in
+    let e = placed ((c .before .before .before .before .before .before .before .before .before .before .before .before) .pre .1 .0) ((c .before .before .before .before .loop) .inv .low) (rw ((c .before .before .before .before .before .before .before .payload-of) .ensures) at ((c .before .before .child) .ensures .0)) in
     rw e (omega (arith, (c .before .before .before .before .before .before .before .before .before .before .before .before) .pre .0, below ((c .before .before .before .before .before .before .before .before .before .before .before .before) .pre .1) ((c .before .before .before .before .loop) .inv) h .below), argument ((c .before .before .before .before .before .before .before .before .before .before .before .before) .pre .1) ((c .before .before .before .before .loop) .inv) h)
 
 pub emit-requires : (t : ℕ) → lts.Need-emit-requires (claims t) (arguments-at t) arguments.Post Inv-loop μ-loop
 emit-requires t c κs =
     let h = rw ((c .before .before .before .before .before .before .before .before .before .before .before .count-of) .ensures .0) at ((c .before .before .before .before .before .before .before .before .before .loop-test) .taken) in
-    at-move ((c .before .before .before .before .before .before .before .before .before .before .before .before .before .before .before .before .before .before) .pre .1) ((c .before .before .before .before .before .before .before .before .before .before .loop) .inv) h (rw (rw ((c .before .before .before .before .before .before .before .before .before .before .before .before .before .payload-of) .ensures) at ((c .before .before .before .before .before .before .before .before .child) .ensures .0)) at ((c .before .before .before .before .before .expression) .ensures))
+    at-move ((c .before .before .before .before .before .before .before .before .before .before .before .before .before .before .before .before .before .before) .pre .1) ((c .before .before .before .before .before .before .before .before .before .before .loop) .inv) h (rw (placed ((c .before .before .before .before .before .before .before .before .before .before .before .before .before .before .before .before .before .before) .pre .1 .0) ((c .before .before .before .before .before .before .before .before .before .before .loop) .inv .low) (rw ((c .before .before .before .before .before .before .before .before .before .before .before .before .before .payload-of) .ensures) at ((c .before .before .before .before .before .before .before .before .child) .ensures .0))) at ((c .before .before .before .before .before .expression) .ensures))
 
 pub add-to : (t : ℕ) → lts.Need-add-to (claims t) (arguments-at t) arguments.Post Inv-loop μ-loop
 add-to t c = omega (arith, (c .before .before .before .before .before .before .before .before .before .before .before .before .before .loop) .inv .place, (c .before .before .before .before .before .before .before .before .before .before .before .before .before .loop) .inv .high, (c .before .before .before .before .before .before .before .before .before .before .before .before .before .before .before .before .before .before .before .before .before) .pre .1 .1, (c .before .before .before .before .before .before .before .before .before .before .before .before .before .before .count-of) .ensures)
@@ -153,7 +156,7 @@ loop-less t c = omega (arith, (c .before .before .before .before .before .before
 pub loop-again : (t : ℕ) → lts.Need-loop-again (claims t) (arguments-at t) arguments.Post Inv-loop μ-loop
 loop-again t c =
     let h = rw ((c .before .before .before .before .before .before .before .before .before .before .before .before .before .before .count-of) .ensures .0) at ((c .before .before .before .before .before .before .before .before .before .before .before .before .loop-test) .taken) in
-    turn ((c .before .before .before .before .before .before .before .before .before .before .before .before .before .before .before .before .before .before .before .before .before) .pre .1) ((c .before .before .before .before .before .before .before .before .before .before .before .before .before .loop) .inv) h (rw (rw ((c .before .before .before .before .before .before .before .before .before .before .before .before .before .before .before .before .payload-of) .ensures) at ((c .before .before .before .before .before .before .before .before .before .before .before .child) .ensures .0)) at ((c .before .before .before .before .before .before .before .before .expression) .ensures)) ((c .before .before .emit) .ensures)
+    turn ((c .before .before .before .before .before .before .before .before .before .before .before .before .before .before .before .before .before .before .before .before .before) .pre .1) ((c .before .before .before .before .before .before .before .before .before .before .before .before .before .loop) .inv) h (rw (placed ((c .before .before .before .before .before .before .before .before .before .before .before .before .before .before .before .before .before .before .before .before .before) .pre .1 .0) ((c .before .before .before .before .before .before .before .before .before .before .before .before .before .loop) .inv .low) (rw ((c .before .before .before .before .before .before .before .before .before .before .before .before .before .before .before .before .payload-of) .ensures) at ((c .before .before .before .before .before .before .before .before .before .before .before .child) .ensures .0))) at ((c .before .before .before .before .before .before .before .before .expression) .ensures)) ((c .before .before .emit) .ensures)
 
 pub settle-requires : (t : ℕ) → lts.Need-settle-requires (claims t) (arguments-at t) arguments.Post Inv-loop μ-loop
 settle-requires t c κs = tt

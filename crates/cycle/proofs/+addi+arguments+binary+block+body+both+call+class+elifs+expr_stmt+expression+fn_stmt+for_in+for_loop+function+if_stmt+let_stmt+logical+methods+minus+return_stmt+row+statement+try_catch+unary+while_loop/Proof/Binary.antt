@@ -9,8 +9,8 @@ use Rattle.cycle.proofs.operators.immediate.Reads as immediate-reads
 use Rattle.cycle.proofs.reading.words_of.Reads as words-of-reads
 use Rattle.cycle.proofs.+addi+arguments+binary+block+body+both+call+class+elifs+expr_stmt+expression+fn_stmt+for_in+for_loop+function+if_stmt+let_stmt+logical+methods+minus+return_stmt+row+statement+try_catch+unary+while_loop.Proof.Order.{addi-below, binary-at, both-below, minus-below}
 use Rattle.meaning.specs.Opcode.{minus}
-use Rattle.cycle.proofs.Nodes.{a-binary}
-use Rattle.cycle.proofs.Way.{likewise, readable, recounted}
+use Rattle.cycle.proofs.Nodes.{a-binary, binary-stands}
+use Rattle.cycle.proofs.Way.{headed, likewise, readable, recounted}
 use Rattle.meaning.specs.Visits.{under-expr, visits-expr}
 use Rattle.leaves.specs.Node.{small-of}
 use Rattle.meaning.proofs.Reading.{Binary}
@@ -70,7 +70,7 @@ abbrev pub claims : ℕ → lts.Claims
 claims t = (words-of-reads.Asked, words-of-reads.Learnt, immediate-reads.Asked, immediate-reads.Learnt, addi-below t, addi.Post, minus-below t, minus.Post, both-below t, both.Post)
 
 pub words-of-requires : (t : ℕ) → lts.Need-words-of-requires (claims t) (binary-at t) binary.Post
-words-of-requires t c κs = readable ((c .before .before .before .before) .pre .1 .0 .ready) ((c .before .before .before .before) .pre .1 .0 .known)
+words-of-requires t c κs = headed ((c .before .before .before .before) .pre .1 .0 .ready) ((c .before .before .before .before) .pre .1 .0 .known) (binary-stands ((c .before .before .before .before) .pre .1 .0 .ready .lawful) ((c .before .before .before .before) .pre .1 .0 .known) ((c .before .before .before .before) .pre .1 .1) .0)
 
 pub immediate-requires : (t : ℕ) → lts.Need-immediate-requires (claims t) (binary-at t) binary.Post
 immediate-requires t c κs =

@@ -8,15 +8,15 @@ use Rattle.store.proofs.enter_block.Reads as enter-block-reads
 use Rattle.store.proofs.leave_block.Reads as leave-block-reads
 use Rattle.store.proofs.settle.Reads as settle-reads
 use Rattle.cycle.proofs.+addi+arguments+binary+block+body+both+call+class+elifs+expr_stmt+expression+fn_stmt+for_in+for_loop+function+if_stmt+let_stmt+logical+methods+minus+return_stmt+row+statement+try_catch+unary+while_loop.Proof.Order.{block-at, row-below}
-use Rattle.cycle.proofs.Nodes.{a-block}
+use Rattle.cycle.proofs.Nodes.{a-block, block-stands}
 use Rattle.cycle.proofs.Visited.{block-visits}
 use Rattle.cycle.proofs.Sizes.{block-size}
-use Rattle.cycle.proofs.Way.{_▹_, arrive, ends, from, in-block, next, next-leaf, next-left, readable, small}
+use Rattle.cycle.proofs.Way.{_▹_, arrive, counted, ends, from, in-block, next, next-leaf, next-left, readable, small}
 use Rattle.cycle.specs.Cycle.{AskRow, GivenStmt, LowersRow, Ready, UnderStmt}
 use Rattle.forward.proofs.Chains.{block-chain}
 use Rattle.forward.specs.Forward.{fwd-unit}
 use Rattle.meaning.proofs.Reading.{Block}
-use Rattle.meaning.specs.At.{count-of, stmts-at}
+use Rattle.meaning.specs.At.{Behind, count-of, stmts-at}
 use Rattle.meaning.specs.Fields.{fields}
 use Rattle.meaning.specs.Lower.{lower-expr}
 use Rattle.meaning.specs.State.{enter-block}
@@ -41,8 +41,8 @@ module _ {t w : List ℕ} {p : Scope} {s : Step} {i : ℕ} (g : GivenStmt t w p 
     inner-ready : Ready t w1 (deeper p) s (size-stmts (stmts-at (fields t) i 0 (count-of (fields t) i))) 0 0
     inner-ready = let n = block-size x in in-block (from (g .ready)) (d1 .moves) (omega arith) (omega arith) (omega arith) (omega arith)
 
-    stmts : AskRow t w1 (deeper p) s i 0 (count-of (fields t) i)
-    stmts = record { ready = inner-ready; known = g .known; ends = omega arith; each = λ j a b. x .each j b }
+    stmts : Behind (fields t) i 0 0 → AskRow t w1 (deeper p) s i 0 (count-of (fields t) i) 0
+    stmts b = record { ready = inner-ready; known = g .known; ends = omega arith; each = λ j a b. x .each j b; behind = b }
 
     module _ {o w2 o2 : List ℕ} {s2 : Step} (d2 : LowersRow t i 0 (count-of (fields t) i) w1 o (deeper p) s w2 o2 s2) where
       module _ {w3 : List ℕ} (d3 : Popped w2 p w3) where
@@ -65,7 +65,7 @@ abbrev pub claims : ℕ → lts.Claims
 claims t = (count-of-reads.Asked, count-of-reads.Learnt, enter-block-reads.Asked, enter-block-reads.Learnt, row-below t, row.Post, leave-block-reads.Asked, leave-block-reads.Learnt, settle-reads.Asked, settle-reads.Learnt)
 
 pub count-of-requires : (t : ℕ) → lts.Need-count-of-requires (claims t) (block-at t) block.Post
-count-of-requires t c κs = readable ((c .before .before .before .before) .pre .1 .0 .ready) ((c .before .before .before .before) .pre .1 .0 .known)
+count-of-requires t c κs = counted (readable ((c .before .before .before .before) .pre .1 .0 .ready) ((c .before .before .before .before) .pre .1 .0 .known)) (block-stands ((c .before .before .before .before) .pre .1 .0 .ready .lawful) ((c .before .before .before .before) .pre .1 .0 .known) ((c .before .before .before .before) .pre .1 .1) .1)
 
 pub enter-block-requires : (t : ℕ) → lts.Need-enter-block-requires (claims t) (block-at t) block.Post
 enter-block-requires t c κs =
@@ -77,7 +77,7 @@ row-requires t c κs =
     let g = (c .before .before .before .before .before .before .before .before .before .before .before) .pre .1 .0 in
     let e = (c .before .before .before .before .enter-block) .ensures in
     rw (e .0, (c .before .before .before .before .before .before .count-of) .ensures .0)
-    (omega (arith, (c .before .before .before .before .before .before .before .before .before .before .before) .pre .0), stmts g (a-block (g .ready .lawful) (g .known) ((c .before .before .before .before .before .before .before .before .before .before .before) .pre .1 .1)) (e .1) (e .2 _ (g .ready .fine)))
+    (omega (arith, (c .before .before .before .before .before .before .before .before .before .before .before) .pre .0), stmts g (a-block (g .ready .lawful) (g .known) ((c .before .before .before .before .before .before .before .before .before .before .before) .pre .1 .1)) (e .1) (e .2 _ (g .ready .fine)) (block-stands (g .ready .lawful) (g .known) ((c .before .before .before .before .before .before .before .before .before .before .before) .pre .1 .1) .1))
 
 pub leave-block-requires : (t : ℕ) → lts.Need-leave-block-requires (claims t) (block-at t) block.Post
 leave-block-requires t c κs = rw ((c .before .before .before .before .before .before .before .before .before .before .enter-block) .ensures .0) at ((c .before .before .before .before .before .row) .ensures .does .moves .fine .sound)

@@ -9,7 +9,7 @@ use Rattle.store.proofs.enter_block.Reads as enter-block-reads
 use Rattle.store.proofs.leave_block.Reads as leave-block-reads
 use Rattle.cycle.proofs.+addi+arguments+binary+block+body+both+call+class+elifs+expr_stmt+expression+fn_stmt+for_in+for_loop+function+if_stmt+let_stmt+logical+methods+minus+return_stmt+row+statement+try_catch+unary+while_loop.Proof.Order.{body-at, row-below}
 use Rattle.cycle.proofs.Sizes.{stmts-count}
-use Rattle.cycle.proofs.Way.{_▹_, ends, from, give-row, meanwhile, next, next-leaf, next-left, readable, spends, stand, stand-at, to}
+use Rattle.cycle.proofs.Way.{_▹_, counted, ends, from, give-row, meanwhile, next, next-leaf, next-left, readable, spends, stand, stand-at, to}
 use Rattle.cycle.specs.Cycle.{AskBody, AskRow, LowersBody, LowersRow, Ready}
 use Rattle.forward.proofs.Chains.{body-chain}
 use Rattle.forward.proofs.FunctionsForward.{rows}
@@ -29,17 +29,17 @@ use mathlib.Core.List.{List}
 use mathlib.Core.Path.{_∙_, refl}
 use native.Mathlib.Omega.{arith}
 
-module _ {t w : List ℕ} {p : Scope} {s : Step} {i f : ℕ} (g : AskBody t w p s i f) where
+module _ {t w : List ℕ} {p : Scope} {s : Step} {i f d : ℕ} (g : AskBody t w p s i f d) where
   at-enter : Sound w p × (p .block < p .nodes + 10)
   at-enter = (g .0 .ready .fine .sound, omega (arith, g .1, g .0 .ready .fine .sound .deep))
 
   module _ {w1 : List ℕ} (k1 : Kept w (deeper p) w1) (d1 : Leaf w p s w1 (deeper p) s nothing (fwd-unit enter-block)) where
     inner-ready : Ready t w1 (deeper p) s (size-stmts (stmts-at (fields t) i f (count-of (fields t) i))) 2 0
     inner-ready =
-        stand-at _ 2 0 (to (deeper p) refl (omega arith) (omega arith) (from (g .0 .ready)) (d1 .moves)) (omega arith) (omega arith) (omega arith) (omega (arith, g .1)) (g .0 .ready .loops)
+        stand-at _ 2 0 (to (deeper p) refl refl (omega arith) (omega arith) (from (g .0 .ready)) (d1 .moves)) (omega arith) (omega arith) (omega arith) (omega (arith, g .1)) (g .0 .ready .loops)
 
-    stmts : AskRow t w1 (deeper p) s i f (count-of (fields t) i)
-    stmts = give-row (from inner-ready) (g .0 .known) f (count-of (fields t) i) (g .0 .ends) (g .0 .each) (omega arith) (omega arith) (omega arith) (omega arith)
+    stmts : AskRow t w1 (deeper p) s i f (count-of (fields t) i) d
+    stmts = give-row (from inner-ready) (g .0 .known) f (count-of (fields t) i) (g .0 .ends) (g .0 .each) (omega arith) (omega arith) (omega arith) (omega arith) (g .0 .behind)
 
     module _ {o w2 o2 : List ℕ} {s2 : Step} (d2 : LowersRow t i f (count-of (fields t) i) w1 o (deeper p) s w2 o2 s2) where
       at-end : Fine w2 (deeper p) s2 × Room w2 (deeper p) s2 0 2 0 × while-going (s2 .outcome) (s .code ≤ s2 .code) × while-going (s2 .outcome) (s2 .result < 255)
@@ -68,7 +68,7 @@ abbrev pub claims : ℕ → lts.Claims
 claims t = (count-of-reads.Asked, count-of-reads.Learnt, enter-block-reads.Asked, enter-block-reads.Learnt, row-below t, row.Post, end-body-reads.Asked, end-body-reads.Learnt, leave-block-reads.Asked, leave-block-reads.Learnt)
 
 pub count-of-requires : (t : ℕ) → lts.Need-count-of-requires (claims t) (body-at t) body.Post
-count-of-requires t c κs = readable ((c .before .before .before .before) .pre .1 .0 .ready) ((c .before .before .before .before) .pre .1 .0 .known)
+count-of-requires t c κs = counted (readable ((c .before .before .before .before) .pre .1 .0 .ready) ((c .before .before .before .before) .pre .1 .0 .known)) ((c .before .before .before .before) .pre .1 .0 .behind)
 
 pub enter-block-requires : (t : ℕ) → lts.Need-enter-block-requires (claims t) (body-at t) body.Post
 enter-block-requires t c κs = at-enter ((c .before .before .before .before .before .before) .pre .1)

@@ -13,16 +13,16 @@ use Rattle.store.proofs.enter_block.Reads as enter-block-reads
 use Rattle.store.proofs.leave_block.Reads as leave-block-reads
 use Rattle.cycle.proofs.+addi+arguments+binary+block+body+both+call+class+elifs+expr_stmt+expression+fn_stmt+for_in+for_loop+function+if_stmt+let_stmt+logical+methods+minus+return_stmt+row+statement+try_catch+unary+while_loop.Proof.Order.{class-at, methods-below}
 use Rattle.meaning.proofs.Reading.{Class}
-use Rattle.cycle.proofs.Nodes.{a-class}
+use Rattle.cycle.proofs.Nodes.{a-class, behind-here, behind-later, class-stands}
 use Rattle.cycle.proofs.Visited.{class-visits}
 use Rattle.cycle.proofs.Sizes.{class-size}
-use Rattle.cycle.proofs.Way.{_▹_, arrive, ends, few-results, from, in-block, meanwhile, next, next-leaf, next-left, on-node, readable, stand}
+use Rattle.cycle.proofs.Way.{_▹_, arrive, counted, ends, few-results, from, headed, in-block, meanwhile, next, next-leaf, next-left, on-node, readable, stand}
 use Rattle.meaning.specs.Visits.{visits-funs}
 use Rattle.cycle.specs.Cycle.{AskMethods, GivenStmt, LowersMethods, Ready, UnderStmt}
 use Rattle.forward.proofs.Chains.{class-chain}
 use Rattle.forward.specs.Forward.{end-class, fwd-unit, make-class, open-class, sure}
 use Rattle.leaves.specs.Node.{GivesSuper, OnNode, super-of}
-use Rattle.meaning.specs.At.{count-of, funs-at, word-of}
+use Rattle.meaning.specs.At.{Behind, count-of, funs-at, word-of}
 use Rattle.meaning.specs.Fields.{fields}
 use Rattle.meaning.specs.Lower.{lower-expr}
 use Rattle.meaning.specs.Read.{token}
@@ -77,9 +77,9 @@ module _ {t w : List ℕ} {p : Scope} {s : Step} {i : ℕ} (g : GivenStmt t w p 
           inside-block : Ready t w4 (deeper p) s3 (size-funs (funs-at (fields t) i 4 (4 + word-of (fields t) i 3)) + size-funs (funs-at (fields t) i (4 + word-of (fields t) i 3) (count-of (fields t) i))) 0 0
           inside-block = let n = class-size x in in-block (from (g .ready) ▹ d1 .0 .moves ▹ d2 .leaf .moves ▹ d3 .moves) (d4 .moves) (omega arith) (omega arith) (omega arith) (omega arith)
 
-          plain : AskMethods t w4 (deeper p) s3 i 4 (4 + word-of (fields t) i 3) 32 (s1 .result)
-          plain = (
-            record { ready = stand (size-funs (funs-at (fields t) i 4 (4 + word-of (fields t) i 3))) 0 0 (from inside-block) (omega arith) (omega arith) (omega arith) (omega arith); known = g .known; ends = x .size; each = λ j a b. x .method j a (omega (arith, b, x .size)) },
+          plain : Behind (fields t) i 2 (p .wide) → AskMethods t w4 (deeper p) s3 i 4 (4 + word-of (fields t) i 3) (p .wide) 32 (s1 .result)
+          plain b = (
+            record { ready = stand (size-funs (funs-at (fields t) i 4 (4 + word-of (fields t) i 3))) 0 0 (from inside-block) (omega arith) (omega arith) (omega arith) (omega arith); known = g .known; ends = x .size; each = λ j a b. x .method j a (omega (arith, b, x .size)); behind = behind-later 4 (omega arith) b },
             deep,
             lit< tt,
             few-results (d1 .0 .moves .fine),
@@ -87,9 +87,9 @@ module _ {t w : List ℕ} {p : Scope} {s : Step} {i : ℕ} (g : GivenStmt t w p 
           )
 
           module _ {o w5 o5 : List ℕ} {s5 : Step} (d5 : LowersMethods t i 4 (4 + word-of (fields t) i 3) (word-of (fields t) i 1) 32 (s1 .result) w4 o (deeper p) s3 w5 o5 s5) where
-            statics : AskMethods t w5 (deeper p) s5 i (4 + word-of (fields t) i 3) (count-of (fields t) i) 33 (s1 .result)
-            statics = (
-              record { ready = stand (size-funs (funs-at (fields t) i (4 + word-of (fields t) i 3) (count-of (fields t) i))) 0 0 (from inside-block ▹ d5 .does .moves) (omega arith) (omega arith) (omega arith) (omega arith); known = g .known; ends = omega arith; each = λ j a b. x .method j (omega arith) b },
+            statics : Behind (fields t) i 2 (p .wide) → AskMethods t w5 (deeper p) s5 i (4 + word-of (fields t) i 3) (count-of (fields t) i) (p .wide) 33 (s1 .result)
+            statics b = (
+              record { ready = stand (size-funs (funs-at (fields t) i (4 + word-of (fields t) i 3) (count-of (fields t) i))) 0 0 (from inside-block ▹ d5 .does .moves) (omega arith) (omega arith) (omega arith) (omega arith); known = g .known; ends = omega arith; each = λ j a b. x .method j (omega arith) b; behind = behind-later (4 + word-of (fields t) i 3) (omega arith) b },
               deep,
               lit< tt,
               few-results (d1 .0 .moves .fine),
@@ -127,10 +127,10 @@ abbrev pub claims : ℕ → lts.Claims
 claims t = (words-of-reads.Asked, words-of-reads.Learnt, count-of-reads.Asked, count-of-reads.Learnt, open-class-reads.Asked, open-class-reads.Learnt, superclass-reads.Asked, superclass-reads.Learnt, make-class-reads.Asked, make-class-reads.Learnt, enter-block-reads.Asked, enter-block-reads.Learnt, methods-below t, methods.Post, leave-block-reads.Asked, leave-block-reads.Learnt, end-class-reads.Asked, end-class-reads.Learnt)
 
 pub words-of-requires : (t : ℕ) → lts.Need-words-of-requires (claims t) (class-at t) class.Post
-words-of-requires t c κs = readable ((c .before .before .before .before) .pre .1 .0 .ready) ((c .before .before .before .before) .pre .1 .0 .known)
+words-of-requires t c κs = headed ((c .before .before .before .before) .pre .1 .0 .ready) ((c .before .before .before .before) .pre .1 .0 .known) (class-stands ((c .before .before .before .before) .pre .1 .0 .ready .lawful) ((c .before .before .before .before) .pre .1 .0 .known) ((c .before .before .before .before) .pre .1 .1) .0)
 
 pub count-of-requires : (t : ℕ) → lts.Need-count-of-requires (claims t) (class-at t) class.Post
-count-of-requires t c κs = readable ((c .before .before .before .before .before .before) .pre .1 .0 .ready) ((c .before .before .before .before .before .before) .pre .1 .0 .known)
+count-of-requires t c κs = counted (readable ((c .before .before .before .before .before .before) .pre .1 .0 .ready) ((c .before .before .before .before .before .before) .pre .1 .0 .known)) (behind-here ((c .before .before .before .before .before .before) .pre .1 .0 .ready) (class-stands ((c .before .before .before .before .before .before) .pre .1 .0 .ready .lawful) ((c .before .before .before .before .before .before) .pre .1 .0 .known) ((c .before .before .before .before .before .before) .pre .1 .1) .1))
 
 pub open-class-requires : (t : ℕ) → lts.Need-open-class-requires (claims t) (class-at t) class.Post
 open-class-requires t c κs =
@@ -154,7 +154,7 @@ enter-block-requires t c κs =
     at-enter g (a-class (g .ready .lawful) (g .known) ((c .before .before .before .before .before .before .before .before .before .before .before .before .before .before .before .before .before .before .before .before) .pre .1 .1)) ((c .before .before .before .before .before .before .before .before .before .before .before .before .before .before .before .before .before .before .before .before) .pre .1 .2) (rw e at ((c .before .before .before .before .before .before .before .before .before .before .before .open-class) .ensures)) ((c .before .before .before .before .before .before .before .superclass) .ensures) (rw e at ((c .before .before .before .make-class) .ensures))
 
 pub add-statics : (t : ℕ) → lts.Need-add-statics (claims t) (class-at t) class.Post
-add-statics t c = omega (arith, (c .before .before .before .before .before .before .before .before .before .before .before .before .before .before .before .before .before .before .before .words-of) .ensures .4)
+add-statics t c = omega (arith, ((c .before .before .before .before .before .before .before .before .before .before .before .before .before .before .before .before .before .before .before .words-of) .ensures .1 .3 (λ z. omega arith)))
 
 pub methods-requires : (t : ℕ) → lts.Need-methods-requires (claims t) (class-at t) class.Post
 methods-requires t c κs =
@@ -162,7 +162,7 @@ methods-requires t c κs =
     let e = (c .before .before .before .before .before .before .before .before .before .before .before .before .before .before .before .before .before .before .before .before .before .words-of) .ensures .0 in
     let b = (c .before .before .before .before .before .enter-block) .ensures in
     rw (b .0, e)
-    (omega (arith, (c .before .before .before .before .before .before .before .before .before .before .before .before .before .before .before .before .before .before .before .before .before .before .before .before .before .before) .pre .0), plain g (a-class (g .ready .lawful) (g .known) ((c .before .before .before .before .before .before .before .before .before .before .before .before .before .before .before .before .before .before .before .before .before .before .before .before .before .before) .pre .1 .1)) ((c .before .before .before .before .before .before .before .before .before .before .before .before .before .before .before .before .before .before .before .before .before .before .before .before .before .before) .pre .1 .2) (rw e at ((c .before .before .before .before .before .before .before .before .before .before .before .before .before .before .before .before .before .open-class) .ensures)) ((c .before .before .before .before .before .before .before .before .before .before .before .before .before .superclass) .ensures) (rw e at ((c .before .before .before .before .before .before .before .before .before .make-class) .ensures)) (b .1) (b .2 _ ((c .before .before .before .before .before .before .before .before .before .make-class) .ensures .moves .fine)))
+    (omega (arith, (c .before .before .before .before .before .before .before .before .before .before .before .before .before .before .before .before .before .before .before .before .before .before .before .before .before .before) .pre .0), plain g (a-class (g .ready .lawful) (g .known) ((c .before .before .before .before .before .before .before .before .before .before .before .before .before .before .before .before .before .before .before .before .before .before .before .before .before .before) .pre .1 .1)) ((c .before .before .before .before .before .before .before .before .before .before .before .before .before .before .before .before .before .before .before .before .before .before .before .before .before .before) .pre .1 .2) (rw e at ((c .before .before .before .before .before .before .before .before .before .before .before .before .before .before .before .before .before .open-class) .ensures)) ((c .before .before .before .before .before .before .before .before .before .before .before .before .before .superclass) .ensures) (rw e at ((c .before .before .before .before .before .before .before .before .before .make-class) .ensures)) (b .1) (b .2 _ ((c .before .before .before .before .before .before .before .before .before .make-class) .ensures .moves .fine)) (behind-here (g .ready) (class-stands (g .ready .lawful) (g .known) ((c .before .before .before .before .before .before .before .before .before .before .before .before .before .before .before .before .before .before .before .before .before .before .before .before .before .before) .pre .1 .1) .1)))
 
 pub methods-requires-2 : (t : ℕ) → lts.Need-methods-requires-2 (claims t) (class-at t) class.Post
 methods-requires-2 t c κs =
@@ -170,7 +170,7 @@ methods-requires-2 t c κs =
     let e = (c .before .before .before .before .before .before .before .before .before .before .before .before .before .before .before .before .before .before .before .before .before .before .before .before .before .before .before .before .words-of) .ensures .0 in
     let b = (c .before .before .before .before .before .before .before .before .before .before .before .before .enter-block) .ensures in
     rw (b .0, e, (c .before .before .before .before .before .before .before .before .before .before .before .before .before .before .before .before .before .before .before .before .before .before .before .before .before .before .count-of) .ensures .0)
-    (omega (arith, (c .before .before .before .before .before .before .before .before .before .before .before .before .before .before .before .before .before .before .before .before .before .before .before .before .before .before .before .before .before .before .before .before .before) .pre .0), statics g (a-class (g .ready .lawful) (g .known) ((c .before .before .before .before .before .before .before .before .before .before .before .before .before .before .before .before .before .before .before .before .before .before .before .before .before .before .before .before .before .before .before .before .before) .pre .1 .1)) ((c .before .before .before .before .before .before .before .before .before .before .before .before .before .before .before .before .before .before .before .before .before .before .before .before .before .before .before .before .before .before .before .before .before) .pre .1 .2) (rw e at ((c .before .before .before .before .before .before .before .before .before .before .before .before .before .before .before .before .before .before .before .before .before .before .before .before .open-class) .ensures)) ((c .before .before .before .before .before .before .before .before .before .before .before .before .before .before .before .before .before .before .before .before .superclass) .ensures) (rw e at ((c .before .before .before .before .before .before .before .before .before .before .before .before .before .before .before .before .make-class) .ensures)) (b .1) (b .2 _ ((c .before .before .before .before .before .before .before .before .before .before .before .before .before .before .before .before .make-class) .ensures .moves .fine)) (rw (b .0, e) at ((c .before .before .before .before .before .before .methods) .ensures)))
+    (omega (arith, (c .before .before .before .before .before .before .before .before .before .before .before .before .before .before .before .before .before .before .before .before .before .before .before .before .before .before .before .before .before .before .before .before .before) .pre .0), statics g (a-class (g .ready .lawful) (g .known) ((c .before .before .before .before .before .before .before .before .before .before .before .before .before .before .before .before .before .before .before .before .before .before .before .before .before .before .before .before .before .before .before .before .before) .pre .1 .1)) ((c .before .before .before .before .before .before .before .before .before .before .before .before .before .before .before .before .before .before .before .before .before .before .before .before .before .before .before .before .before .before .before .before .before) .pre .1 .2) (rw e at ((c .before .before .before .before .before .before .before .before .before .before .before .before .before .before .before .before .before .before .before .before .before .before .before .before .open-class) .ensures)) ((c .before .before .before .before .before .before .before .before .before .before .before .before .before .before .before .before .before .before .before .before .superclass) .ensures) (rw e at ((c .before .before .before .before .before .before .before .before .before .before .before .before .before .before .before .before .make-class) .ensures)) (b .1) (b .2 _ ((c .before .before .before .before .before .before .before .before .before .before .before .before .before .before .before .before .make-class) .ensures .moves .fine)) (rw (b .0, e) at ((c .before .before .before .before .before .before .methods) .ensures)) (behind-here (g .ready) (class-stands (g .ready .lawful) (g .known) ((c .before .before .before .before .before .before .before .before .before .before .before .before .before .before .before .before .before .before .before .before .before .before .before .before .before .before .before .before .before .before .before .before .before) .pre .1 .1) .1)))
 
 pub leave-block-requires : (t : ℕ) → lts.Need-leave-block-requires (claims t) (class-at t) class.Post
 leave-block-requires t c κs = rw ((c .before .before .before .before .before .before .before .before .before .before .before .before .before .before .before .before .before .before .enter-block) .ensures .0) at ((c .before .before .before .before .before .methods2) .ensures .does .moves .fine .sound)

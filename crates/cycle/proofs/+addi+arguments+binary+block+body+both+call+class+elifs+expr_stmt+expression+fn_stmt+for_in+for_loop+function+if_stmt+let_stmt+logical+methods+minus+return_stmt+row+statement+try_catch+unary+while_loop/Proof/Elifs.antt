@@ -8,13 +8,13 @@ use Rattle.code.proofs.end_branch.Reads as end-branch-reads
 use Rattle.code.proofs.test_and_jump.Reads as test-and-jump-reads
 use Rattle.cycle.proofs.reading.count_of.Reads as count-of-reads
 use Rattle.cycle.proofs.reading.payload_of.Reads as payload-of-reads
-use Rattle.cycle.proofs.reading.words_of.Reads as words-of-reads
+use Rattle.cycle.proofs.reading.three_of.Reads as three-of-reads
 use Rattle.nodes.proofs.child.Reads as child-reads
 use Rattle.store.proofs.settle.Reads as settle-reads
 use Rattle.cycle.proofs.+addi+arguments+binary+block+body+both+call+class+elifs+expr_stmt+expression+fn_stmt+for_in+for_loop+function+if_stmt+let_stmt+logical+methods+minus+return_stmt+row+statement+try_catch+unary+while_loop.Proof.Order.{elifs-at, expression-below, row-below}
-use Rattle.cycle.proofs.Way.{after-ticked, from}
-use Rattle.meaning.specs.At.{elifs-at as elif-row}
-use Rattle.cycle.proofs.Nodes.{an-elif}
+use Rattle.cycle.proofs.Way.{after-ticked, counted, from, headed, inside, placed}
+use Rattle.meaning.specs.At.{Behind, Heads, elifs-at as elif-row}
+use Rattle.cycle.proofs.Nodes.{an-elif, behind-later, elif-stands}
 use Rattle.cycle.proofs.Sizes.{elifs-size, elifs-size-none}
 use Rattle.cycle.proofs.Turns.{Turning, closed, none-turned, turned}
 use Rattle.cycle.proofs.Way.{_▹_, adds, arrive, fits, give-expr, give-row, meanwhile, next, next-leaf, readable, small, spends, stand, twice}
@@ -42,6 +42,7 @@ use lib.Dec.{lit<}
 use mathlib.Core.List.{List}
 use mathlib.Core.Path.{_∙_, _≡_}
 use native.Mathlib.Omega.{arith}
+use Rattle.cycle.proofs.Counts.{few-words}
 
 pub record Branching (t w0 o0 : List ℕ) (p : Scope) (s0 : Step) (i from to : ℕ) (w o : List ℕ) (s : Step) (k : ℕ) : Type 0 where
   pub low : from ≤ k
@@ -51,7 +52,7 @@ pub record Branching (t w0 o0 : List ℕ) (p : Scope) (s0 : Step) (i from to : �
   pub count : seen + visits-elifs (elif-row (fields t) i k to) ≡ visits-elifs (elif-row (fields t) i from to)
   pub turning : Turning w0 o0 p s0 w o s (takes (8 * done) done seen) (fwd-code (lower-elifs (p .mode) (elif-row (fields t) i from to))) (fwd-code (lower-elifs (p .mode) (elif-row (fields t) i k to)))
 
-module _ {t w0 : List ℕ} {p : Scope} {s0 : Step} {i f g : ℕ} (r : AskElifs t w0 p s0 i f g) where
+module _ {t w0 : List ℕ} {p : Scope} {s0 : Step} {i f g d : ℕ} (r : AskElifs t w0 p s0 i f g d) where
   start : {o0 : List ℕ} → Branching t w0 o0 p s0 i f g w0 o0 s0 f
   start = record { low = omega arith; done = 0; size = omega arith; seen = 0; count = omega arith; turning = none-turned (r .ready .fine) }
 
@@ -69,6 +70,9 @@ module _ {t w0 : List ℕ} {p : Scope} {s0 : Step} {i f g : ℕ} (r : AskElifs t
       elif : Elif (fields t) (word-of (fields t) i k)
       elif = an-elif (r .ready .lawful) known-elif (below .tag)
 
+      stands : Heads (fields t) (word-of (fields t) i k) 4 × Behind (fields t) (word-of (fields t) i k) 0 0
+      stands = elif-stands (r .ready .lawful) known-elif (below .tag)
+
       sizes : size-elifs (elif-row (fields t) i k g) ≡ 1 + (size-expr (expr-at (fields t) (word-of (fields t) (word-of (fields t) i k) 0)) + size-stmts (stmts-at (fields t) (word-of (fields t) i k) 1 (count-of (fields t) (word-of (fields t) i k)))) + size-elifs (elif-row (fields t) i (k + 1) g)
       sizes = elifs-size (fields t) i k g h (r .ends) elif
 
@@ -83,8 +87,8 @@ module _ {t w0 : List ℕ} {p : Scope} {s0 : Step} {i f g : ℕ} (r : AskElifs t
             (y .fine, y .room, meanwhile (s1 .outcome) ((s1 .result < 256) × (0 < 256)) λ e. let a = due (s1 .outcome) (d1 .small) e in (omega arith, omega arith))
 
         module _ {w2 : List ℕ} {s2 : Step} (d2 : Leaf w1 p s1 w2 p s2 (uses 4 0 0) (sure (test-and-jump 0 no-mark))) where
-          thens : AskRow t w2 p s2 (word-of (fields t) i k) 1 (count-of (fields t) (word-of (fields t) i k))
-          thens = let n = sizes in give-row (from here ▹ d1 .does .moves ▹ d2 .moves) known-elif 1 _ (omega arith) (elif .each) (omega arith) (omega arith) (omega arith) (omega arith)
+          thens : AskRow t w2 p s2 (word-of (fields t) i k) 1 (count-of (fields t) (word-of (fields t) i k)) 0
+          thens = let n = sizes in give-row (from here ▹ d1 .does .moves ▹ d2 .moves) known-elif 1 _ (omega arith) (elif .each) (omega arith) (omega arith) (omega arith) (omega arith) (behind-later 1 (omega arith) (stands .1))
 
           module _ {w3 o3 : List ℕ} {s3 : Step} (d3 : LowersRow t (word-of (fields t) i k) 1 (count-of (fields t) (word-of (fields t) i k)) w2 o1 p s2 w3 o3 s3) where
             at-end : Fine w3 p s3 × Room w3 p s3 0 2 0 × while-going (s3 .outcome) (s1 .code + 2 ≤ s3 .code)
@@ -141,13 +145,13 @@ one-more h l = omega arith
 
 -- what each function that is called asks and promises; a member of the cycle at a smaller measure
 abbrev pub claims : ℕ → lts.Claims
-claims t = (payload-of-reads.Asked, payload-of-reads.Learnt, child-reads.Asked, child-reads.Learnt, words-of-reads.Asked, words-of-reads.Learnt, count-of-reads.Asked, count-of-reads.Learnt, expression-below t, expression.Post, test-and-jump-reads.Asked, test-and-jump-reads.Learnt, row-below t, row.Post, end-branch-reads.Asked, end-branch-reads.Learnt, visit-reads.Asked, visit-reads.Learnt, settle-reads.Asked, settle-reads.Learnt)
+claims t = (payload-of-reads.Asked, payload-of-reads.Learnt, child-reads.Asked, child-reads.Learnt, three-of-reads.Asked, three-of-reads.Learnt, count-of-reads.Asked, count-of-reads.Learnt, expression-below t, expression.Post, test-and-jump-reads.Asked, test-and-jump-reads.Learnt, row-below t, row.Post, end-branch-reads.Asked, end-branch-reads.Learnt, visit-reads.Asked, visit-reads.Learnt, settle-reads.Asked, settle-reads.Learnt)
 
 abbrev pub Inv-loop : lts.InvT-loop
-Inv-loop tree work₀ out₀ scope node from to payload last₀ k₀ work out last k = Branching tree work₀ out₀ scope last₀ node from to work out last k
+Inv-loop tree work₀ out₀ scope node from to skew payload last₀ k₀ work out last k = Branching tree work₀ out₀ scope last₀ node from to work out last k
 
 abbrev pub μ-loop : lts.MeasureT-loop
-μ-loop tree work₀ out₀ scope node from to payload last₀ k₀ work out last k = to - k
+μ-loop tree work₀ out₀ scope node from to skew payload last₀ k₀ work out last k = to - k
 
 pub payload-of-requires : (t : ℕ) → lts.Need-payload-of-requires (claims t) (elifs-at t) elifs.Post Inv-loop μ-loop
 payload-of-requires t c κs = readable ((c .before .before .before .before) .pre .1 .ready) ((c .before .before .before .before) .pre .1 .known)
@@ -155,42 +159,47 @@ payload-of-requires t c κs = readable ((c .before .before .before .before) .pre
 pub loop-holds : (t : ℕ) → lts.Need-loop-holds (claims t) (elifs-at t) elifs.Post Inv-loop μ-loop
 loop-holds t c = start ((c .before .before .before .before .before) .pre .1)
 
-pub child-requires : (t : ℕ) → lts.Need-child-requires (claims t) (elifs-at t) elifs.Post Inv-loop μ-loop
-child-requires t c κs = rw ((c .before .before .payload-of) .ensures) (omega (arith, (c .loop-test) .taken, (c .before .before .before .before .before .before .before) .pre .1 .ends))
+pub add-child : (t : ℕ) → lts.Need-add-child (claims t) (elifs-at t) elifs.Post Inv-loop μ-loop
+add-child t c =
+    let r = (c .before .before .before .before .before .before .before) .pre .1 in
+    omega (arith, (c .loop-test) .taken, r .ends, r .behind .size, few-words _ _ (λ j. omega (arith, (c .before .before .before .before .before .before .shared-slice-known) .given j)) (inside (r .ready .lawful) (r .known)))
 
-pub words-of-requires : (t : ℕ) → lts.Need-words-of-requires (claims t) (elifs-at t) elifs.Post Inv-loop μ-loop
-words-of-requires t c κs =
-    rw (rw ((c .before .before .before .before .payload-of) .ensures) at ((c .before .child) .ensures .0)) (readable (here ((c .before .before .before .before .before .before .before .before .before) .pre .1) ((c .before .before .before .loop) .inv)) (known-elif ((c .before .before .before .before .before .before .before .before .before) .pre .1) ((c .before .before .before .loop) .inv) ((c .before .before .loop-test) .taken)))
+pub child-requires : (t : ℕ) → lts.Need-child-requires (claims t) (elifs-at t) elifs.Post Inv-loop μ-loop
+child-requires t c κs = rw ((c .before .before .payload-of) .ensures) (omega (arith, (c .loop-test) .taken, (c .before .before .before .before .before .before .before) .pre .1 .ends, (c .before .before .before .before .before .before .before) .pre .1 .behind .size))
+
+pub three-of-requires : (t : ℕ) → lts.Need-three-of-requires (claims t) (elifs-at t) elifs.Post Inv-loop μ-loop
+three-of-requires t c κs =
+    rw (placed ((c .before .before .before .before .before .before .before .before .before) .pre .1) ((c .before .before .before .loop) .inv .low) (rw ((c .before .before .before .before .payload-of) .ensures) at ((c .before .child) .ensures .0))) (headed (here ((c .before .before .before .before .before .before .before .before .before) .pre .1) ((c .before .before .before .loop) .inv)) (known-elif ((c .before .before .before .before .before .before .before .before .before) .pre .1) ((c .before .before .before .loop) .inv) ((c .before .before .loop-test) .taken)) (stands ((c .before .before .before .before .before .before .before .before .before) .pre .1) ((c .before .before .before .loop) .inv) ((c .before .before .loop-test) .taken) .0))
 
 pub count-of-requires : (t : ℕ) → lts.Need-count-of-requires (claims t) (elifs-at t) elifs.Post Inv-loop μ-loop
 count-of-requires t c κs =
-    rw (rw ((c .before .before .before .before .before .before .payload-of) .ensures) at ((c .before .before .before .child) .ensures .0)) (readable (here ((c .before .before .before .before .before .before .before .before .before .before .before) .pre .1) ((c .before .before .before .before .before .loop) .inv)) (known-elif ((c .before .before .before .before .before .before .before .before .before .before .before) .pre .1) ((c .before .before .before .before .before .loop) .inv) ((c .before .before .before .before .loop-test) .taken)))
+    rw (placed ((c .before .before .before .before .before .before .before .before .before .before .before) .pre .1) ((c .before .before .before .before .before .loop) .inv .low) (rw ((c .before .before .before .before .before .before .payload-of) .ensures) at ((c .before .before .before .child) .ensures .0))) (counted (readable (here ((c .before .before .before .before .before .before .before .before .before .before .before) .pre .1) ((c .before .before .before .before .before .loop) .inv)) (known-elif ((c .before .before .before .before .before .before .before .before .before .before .before) .pre .1) ((c .before .before .before .before .before .loop) .inv) ((c .before .before .before .before .loop-test) .taken))) (stands ((c .before .before .before .before .before .before .before .before .before .before .before) .pre .1) ((c .before .before .before .before .before .loop) .inv) ((c .before .before .before .before .loop-test) .taken) .1))
 
 pub expression-requires : (t : ℕ) → lts.Need-expression-requires (claims t) (elifs-at t) elifs.Post Inv-loop μ-loop
 expression-requires t c κs =
     let r = (c .before .before .before .before .before .before .before .before .before .before .before .before .before .before) .pre .1 in
     let v = (c .before .before .before .before .before .before .before .before .loop) .inv in
     let h = (c .before .before .before .before .before .before .before .loop-test) .taken in
-    let e = rw ((c .before .before .before .before .before .before .before .before .before .payload-of) .ensures) at ((c .before .before .before .before .before .before .child) .ensures .0) in
-    rw ((c .before .before .before .before .words-of) .ensures .0, e) (omega (arith, (c .before .before .before .before .before .before .before .before .before .before .before .before .before .before) .pre .0, below r v h .below, elif r v h .condition .below), condition r v h)
+    let e = placed ((c .before .before .before .before .before .before .before .before .before .before .before .before .before .before) .pre .1) ((c .before .before .before .before .before .before .before .before .loop) .inv .low) (rw ((c .before .before .before .before .before .before .before .before .before .payload-of) .ensures) at ((c .before .before .before .before .before .before .child) .ensures .0)) in
+    rw ((c .before .before .before .before .three-of) .ensures .0, e) (omega (arith, (c .before .before .before .before .before .before .before .before .before .before .before .before .before .before) .pre .0, below r v h .below, elif r v h .condition .below), condition r v h)
 
 pub test-and-jump-requires : (t : ℕ) → lts.Need-test-and-jump-requires (claims t) (elifs-at t) elifs.Post Inv-loop μ-loop
 test-and-jump-requires t c κs =
-    let e = rw ((c .before .before .before .before .before .before .before .before .before .before .before .before .before .before .before .payload-of) .ensures) at ((c .before .before .before .before .before .before .before .before .before .before .before .before .child) .ensures .0) in
-    at-test ((c .before .before .before .before .before .before .before .before .before .before .before .before .before .before .before .before .before .before .before .before) .pre .1) ((c .before .before .before .before .before .before .before .before .before .before .before .before .before .before .loop) .inv) ((c .before .before .before .before .before .before .before .before .before .before .before .before .before .loop-test) .taken) (rw ((c .before .before .before .before .before .before .before .before .before .before .words-of) .ensures .0, e) at ((c .before .before .before .before .before .expression) .ensures))
+    let e = placed ((c .before .before .before .before .before .before .before .before .before .before .before .before .before .before .before .before .before .before .before .before) .pre .1) ((c .before .before .before .before .before .before .before .before .before .before .before .before .before .before .loop) .inv .low) (rw ((c .before .before .before .before .before .before .before .before .before .before .before .before .before .before .before .payload-of) .ensures) at ((c .before .before .before .before .before .before .before .before .before .before .before .before .child) .ensures .0)) in
+    at-test ((c .before .before .before .before .before .before .before .before .before .before .before .before .before .before .before .before .before .before .before .before) .pre .1) ((c .before .before .before .before .before .before .before .before .before .before .before .before .before .before .loop) .inv) ((c .before .before .before .before .before .before .before .before .before .before .before .before .before .loop-test) .taken) (rw ((c .before .before .before .before .before .before .before .before .before .before .three-of) .ensures .0, e) at ((c .before .before .before .before .before .expression) .ensures))
 
 pub row-requires : (t : ℕ) → lts.Need-row-requires (claims t) (elifs-at t) elifs.Post Inv-loop μ-loop
 row-requires t c κs =
     let r = (c .before .before .before .before .before .before .before .before .before .before .before .before .before .before .before .before .before .before .before .before .before .before .before .before .before) .pre .1 in
     let v = (c .before .before .before .before .before .before .before .before .before .before .before .before .before .before .before .before .before .before .before .loop) .inv in
     let h = (c .before .before .before .before .before .before .before .before .before .before .before .before .before .before .before .before .before .before .loop-test) .taken in
-    let e = rw ((c .before .before .before .before .before .before .before .before .before .before .before .before .before .before .before .before .before .before .before .before .payload-of) .ensures) at ((c .before .before .before .before .before .before .before .before .before .before .before .before .before .before .before .before .before .child) .ensures .0) in
-    rw ((c .before .before .before .before .before .before .before .before .before .before .before .before .before .count-of) .ensures .0, e) (omega (arith, (c .before .before .before .before .before .before .before .before .before .before .before .before .before .before .before .before .before .before .before .before .before .before .before .before .before) .pre .0, below r v h .below), thens r v h (rw ((c .before .before .before .before .before .before .before .before .before .before .before .before .before .before .before .words-of) .ensures .0, e) at ((c .before .before .before .before .before .before .before .before .before .before .expression) .ensures)) ((c .before .before .before .before .test-and-jump) .ensures))
+    let e = placed ((c .before .before .before .before .before .before .before .before .before .before .before .before .before .before .before .before .before .before .before .before .before .before .before .before .before) .pre .1) ((c .before .before .before .before .before .before .before .before .before .before .before .before .before .before .before .before .before .before .before .loop) .inv .low) (rw ((c .before .before .before .before .before .before .before .before .before .before .before .before .before .before .before .before .before .before .before .before .payload-of) .ensures) at ((c .before .before .before .before .before .before .before .before .before .before .before .before .before .before .before .before .before .child) .ensures .0)) in
+    rw ((c .before .before .before .before .before .before .before .before .before .before .before .before .before .count-of) .ensures .0, e) (omega (arith, (c .before .before .before .before .before .before .before .before .before .before .before .before .before .before .before .before .before .before .before .before .before .before .before .before .before) .pre .0, below r v h .below), thens r v h (rw ((c .before .before .before .before .before .before .before .before .before .before .before .before .before .before .before .three-of) .ensures .0, e) at ((c .before .before .before .before .before .before .before .before .before .before .expression) .ensures)) ((c .before .before .before .before .test-and-jump) .ensures))
 
 pub end-branch-requires : (t : ℕ) → lts.Need-end-branch-requires (claims t) (elifs-at t) elifs.Post Inv-loop μ-loop
 end-branch-requires t c κs =
-    let e = rw ((c .before .before .before .before .before .before .before .before .before .before .before .before .before .before .before .before .before .before .before .before .before .before .before .before .before .before .payload-of) .ensures) at ((c .before .before .before .before .before .before .before .before .before .before .before .before .before .before .before .before .before .before .before .before .before .before .before .child) .ensures .0) in
-    at-end ((c .before .before .before .before .before .before .before .before .before .before .before .before .before .before .before .before .before .before .before .before .before .before .before .before .before .before .before .before .before .before .before) .pre .1) ((c .before .before .before .before .before .before .before .before .before .before .before .before .before .before .before .before .before .before .before .before .before .before .before .before .before .loop) .inv) ((c .before .before .before .before .before .before .before .before .before .before .before .before .before .before .before .before .before .before .before .before .before .before .before .before .loop-test) .taken) (rw ((c .before .before .before .before .before .before .before .before .before .before .before .before .before .before .before .before .before .before .before .before .before .words-of) .ensures .0, e) at ((c .before .before .before .before .before .before .before .before .before .before .before .before .before .before .before .before .expression) .ensures)) ((c .before .before .before .before .before .before .before .before .before .before .test-and-jump) .ensures) (rw ((c .before .before .before .before .before .before .before .before .before .before .before .before .before .before .before .before .before .before .before .count-of) .ensures .0, e) at ((c .before .before .before .before .before .row) .ensures))
+    let e = placed ((c .before .before .before .before .before .before .before .before .before .before .before .before .before .before .before .before .before .before .before .before .before .before .before .before .before .before .before .before .before .before .before) .pre .1) ((c .before .before .before .before .before .before .before .before .before .before .before .before .before .before .before .before .before .before .before .before .before .before .before .before .before .loop) .inv .low) (rw ((c .before .before .before .before .before .before .before .before .before .before .before .before .before .before .before .before .before .before .before .before .before .before .before .before .before .before .payload-of) .ensures) at ((c .before .before .before .before .before .before .before .before .before .before .before .before .before .before .before .before .before .before .before .before .before .before .before .child) .ensures .0)) in
+    at-end ((c .before .before .before .before .before .before .before .before .before .before .before .before .before .before .before .before .before .before .before .before .before .before .before .before .before .before .before .before .before .before .before) .pre .1) ((c .before .before .before .before .before .before .before .before .before .before .before .before .before .before .before .before .before .before .before .before .before .before .before .before .before .loop) .inv) ((c .before .before .before .before .before .before .before .before .before .before .before .before .before .before .before .before .before .before .before .before .before .before .before .before .loop-test) .taken) (rw ((c .before .before .before .before .before .before .before .before .before .before .before .before .before .before .before .before .before .before .before .before .before .three-of) .ensures .0, e) at ((c .before .before .before .before .before .before .before .before .before .before .before .before .before .before .before .before .expression) .ensures)) ((c .before .before .before .before .before .before .before .before .before .before .test-and-jump) .ensures) (rw ((c .before .before .before .before .before .before .before .before .before .before .before .before .before .before .before .before .before .before .before .count-of) .ensures .0, e) at ((c .before .before .before .before .before .row) .ensures))
 
 pub visit-requires : (t : ℕ) → lts.Need-visit-requires (claims t) (elifs-at t) elifs.Post Inv-loop μ-loop
 visit-requires t c κs = omega (arith, (c .before .before .before .end-branch) .ensures .moves .fine .sound .long)
@@ -203,8 +212,8 @@ loop-less t c = omega (arith, (c .before .before .before .before .before .before
 
 pub loop-again : (t : ℕ) → lts.Need-loop-again (claims t) (elifs-at t) elifs.Post Inv-loop μ-loop
 loop-again t c =
-    let e = rw ((c .before .before .before .before .before .before .before .before .before .before .before .before .before .before .before .before .before .before .before .before .before .before .before .before .before .before .before .before .before .before .before .before .before .payload-of) .ensures) at ((c .before .before .before .before .before .before .before .before .before .before .before .before .before .before .before .before .before .before .before .before .before .before .before .before .before .before .before .before .before .before .child) .ensures .0) in
-    turn ((c .before .before .before .before .before .before .before .before .before .before .before .before .before .before .before .before .before .before .before .before .before .before .before .before .before .before .before .before .before .before .before .before .before .before .before .before .before .before) .pre .1) ((c .before .before .before .before .before .before .before .before .before .before .before .before .before .before .before .before .before .before .before .before .before .before .before .before .before .before .before .before .before .before .before .before .loop) .inv) ((c .before .before .before .before .before .before .before .before .before .before .before .before .before .before .before .before .before .before .before .before .before .before .before .before .before .before .before .before .before .before .before .loop-test) .taken) (rw ((c .before .before .before .before .before .before .before .before .before .before .before .before .before .before .before .before .before .before .before .before .before .before .before .before .before .before .before .before .words-of) .ensures .0, e) at ((c .before .before .before .before .before .before .before .before .before .before .before .before .before .before .before .before .before .before .before .before .before .before .before .expression) .ensures)) ((c .before .before .before .before .before .before .before .before .before .before .before .before .before .before .before .before .before .test-and-jump) .ensures) (rw ((c .before .before .before .before .before .before .before .before .before .before .before .before .before .before .before .before .before .before .before .before .before .before .before .before .before .before .count-of) .ensures .0, e) at ((c .before .before .before .before .before .before .before .before .before .before .before .before .row) .ensures)) ((c .before .before .before .before .before .before .end-branch) .ensures) ((c .before .before .visit) .ensures)
+    let e = placed ((c .before .before .before .before .before .before .before .before .before .before .before .before .before .before .before .before .before .before .before .before .before .before .before .before .before .before .before .before .before .before .before .before .before .before .before .before .before .before) .pre .1) ((c .before .before .before .before .before .before .before .before .before .before .before .before .before .before .before .before .before .before .before .before .before .before .before .before .before .before .before .before .before .before .before .before .loop) .inv .low) (rw ((c .before .before .before .before .before .before .before .before .before .before .before .before .before .before .before .before .before .before .before .before .before .before .before .before .before .before .before .before .before .before .before .before .before .payload-of) .ensures) at ((c .before .before .before .before .before .before .before .before .before .before .before .before .before .before .before .before .before .before .before .before .before .before .before .before .before .before .before .before .before .before .child) .ensures .0)) in
+    turn ((c .before .before .before .before .before .before .before .before .before .before .before .before .before .before .before .before .before .before .before .before .before .before .before .before .before .before .before .before .before .before .before .before .before .before .before .before .before .before) .pre .1) ((c .before .before .before .before .before .before .before .before .before .before .before .before .before .before .before .before .before .before .before .before .before .before .before .before .before .before .before .before .before .before .before .before .loop) .inv) ((c .before .before .before .before .before .before .before .before .before .before .before .before .before .before .before .before .before .before .before .before .before .before .before .before .before .before .before .before .before .before .before .loop-test) .taken) (rw ((c .before .before .before .before .before .before .before .before .before .before .before .before .before .before .before .before .before .before .before .before .before .before .before .before .before .before .before .before .three-of) .ensures .0, e) at ((c .before .before .before .before .before .before .before .before .before .before .before .before .before .before .before .before .before .before .before .before .before .before .before .expression) .ensures)) ((c .before .before .before .before .before .before .before .before .before .before .before .before .before .before .before .before .before .test-and-jump) .ensures) (rw ((c .before .before .before .before .before .before .before .before .before .before .before .before .before .before .before .before .before .before .before .before .before .before .before .before .before .before .count-of) .ensures .0, e) at ((c .before .before .before .before .before .before .before .before .before .before .before .before .row) .ensures)) ((c .before .before .before .before .before .before .end-branch) .ensures) ((c .before .before .visit) .ensures)
 
 pub settle-requires : (t : ℕ) → lts.Need-settle-requires (claims t) (elifs-at t) elifs.Post Inv-loop μ-loop
 settle-requires t c κs = tt

@@ -4,7 +4,7 @@ use Rattle.cycle.proofs.body.Reads as body
 use Rattle.cycle.proofs.fn_stmt.Reads as fn-stmt
 use Rattle.cycle.proofs.+addi+arguments+binary+block+body+both+call+class+elifs+expr_stmt+expression+fn_stmt+for_in+for_loop+function+if_stmt+let_stmt+logical+methods+minus+return_stmt+row+statement+try_catch+unary+while_loop.Lts-fn_stmt as lts
 use Rattle.cycle.proofs.reading.payload_of.Reads as payload-of-reads
-use Rattle.cycle.proofs.reading.words_of.Reads as words-of-reads
+use Rattle.cycle.proofs.reading.three_of.Reads as three-of-reads
 use Rattle.parts.proofs.declare.Reads as declare-reads
 use Rattle.parts.proofs.end_fun.Reads as end-fun-reads
 use Rattle.parts.proofs.open_fun.Reads as open-fun-reads
@@ -12,16 +12,16 @@ use Rattle.store.proofs.enter_function.Reads as enter-function-reads
 use Rattle.cycle.proofs.+addi+arguments+binary+block+body+both+call+class+elifs+expr_stmt+expression+fn_stmt+for_in+for_loop+function+if_stmt+let_stmt+logical+methods+minus+return_stmt+row+statement+try_catch+unary+while_loop.Proof.Order.{body-below, fn-stmt-at}
 use Rattle.code.specs.Cuts.{Ends, cut-step}
 use Rattle.cycle.proofs.Nested.{begun, cut-owing, ended}
-use Rattle.cycle.proofs.Nodes.{a-define}
-use Rattle.cycle.proofs.Sizes.{fun-size, tokens-same}
-use Rattle.cycle.proofs.Way.{_▹_, arrive, ends, from, meanwhile, next, next-leaf, readable, stand, stand-at, to}
+use Rattle.cycle.proofs.Nodes.{a-define, define-stands}
+use Rattle.cycle.proofs.Sizes.{fun-size, more-is, tokens-same}
+use Rattle.cycle.proofs.Way.{_▹_, arrive, ends, few-more, from, headed, meanwhile, narrow-or-wide, next, next-leaf, readable, stand, stand-at, to}
 use Rattle.cycle.proofs.Visited.{fun-visits}
-use Rattle.cycle.specs.Cycle.{AskBody, AskFun, LowersBody, LowersFun, Ready}
+use Rattle.cycle.specs.Cycle.{AskBody, AskFun, LowersBody, LowersFun, Ready, Width}
 use Rattle.forward.proofs.Chains.{fun-chain}
 use Rattle.forward.specs.Forward.{bind, declare, end-fun, open-fun}
 use Rattle.meaning.proofs.Reading.{Define}
 use Rattle.meaning.proofs.Rows.{parameters-at}
-use Rattle.meaning.specs.At.{count-of, stmts-at, tokens-at, word-of}
+use Rattle.meaning.specs.At.{Behind, count-of, extra, file-words, pairs-in, stmts-at, tokens-at, word-of}
 use Rattle.meaning.specs.Fields.{field-at, fields}
 use Rattle.meaning.specs.Lower.{lower-expr}
 use Rattle.meaning.specs.Read.{token}
@@ -38,11 +38,18 @@ use Rattle.store.specs.declared.Step.{Step}
 use mathlib.Core.List.{List}
 use mathlib.Core.Path.{_∙_, _≡_, ap, refl, sym}
 use native.Mathlib.Omega.{arith}
+use mathlib.Core.Bool.{cond}
+use Rattle.meaning.specs.Grammar.{wide-marks}
 
 -- the parameters as the node's
-opened : (t : List ℕ) (i n name mark : ℕ) {payload w w' : List ℕ} {q : Scope} {s s' : Step} {u : Cost} → payload ≡ field-at (fields t) i .payload
-    → Leaf w q s w' q s' u (open-fun i (token name mark) (tokens-from payload 3 n)) × Small s' → Leaf w q s w' q s' u (open-fun i (token name mark) (tokens-at (fields t) i 3 (3 + 2 * n))) × Small s'
-opened t i n name mark {payload} e d = rw (tokens-same (fields t) i payload 3 n e) at d
+opened : (t : List ℕ) (i n name mark : ℕ) {payload w w' : List ℕ} {q : Scope} {s s' : Step} {u : Cost} → Width t q → payload ≡ field-at (fields t) i .payload
+    → tokens-at (fields t) i 3 (3 + 2 * n) ≡ pairs-in (wide-marks (fields t)) (file-words (fields t) i) (3 + extra (wide-marks (fields t))) n
+    → Leaf w q s w' q s' u (open-fun i (token name mark) (tokens-from q payload (3 + q .wide) n)) × Small s' → Leaf w q s w' q s' u (open-fun i (token name mark) (tokens-at (fields t) i 3 (3 + 2 * n))) × Small s'
+opened t i n name mark {payload} {q = q} v e k d = rw (tokens-same t q i payload (3 + q .wide) (3 + extra (wide-marks (fields t))) n v e (ap (λ m. 3 + m) v) ∙ sym k) at d
+
+-- the body's statements stand behind the marks of the function and its parameters
+body-behind : {t w : List ℕ} {p : Scope} {s : Step} {a b c i k : ℕ} (n : ℕ) → Ready t w p s a b c → Behind (fields t) i k (extra (wide-marks (fields t)) + cond (wide-marks (fields t)) n 0) → Behind (fields t) i k (p .wide + n * p .wide)
+body-behind {t = t} n r b = rw (r .width, ← (more-is (wide-marks (fields t)) n)) b
 
 module _ {t w : List ℕ} {p : Scope} {s : Step} {i : ℕ} (g : AskFun t w p s i) (x : Define (fields t) i) where
   at-declare : Fine w p s × Room w p s 0 0 0 × (word-of (fields t) i 0 < 65536)
@@ -57,15 +64,15 @@ module _ {t w : List ℕ} {p : Scope} {s : Step} {i : ℕ} (g : AskFun t w p s i
       at-open =
           let n = fun-size x in
           let b = g .0 .ready .fine .sound .starts 0 (omega arith) in
-          stand-at _ 8 1 (to (inner p) refl (omega arith) (omega arith) (from (g .0 .ready) ▹ d1 .0 0 .moves) (d2 .leaf .moves)) (omega arith) (omega arith) (omega arith) (omega (arith, g .0 .ready .blocks)) (omega (arith, g .0 .ready .loops))
+          stand-at _ 8 1 (to (inner p) refl refl (omega arith) (omega arith) (from (g .0 .ready) ▹ d1 .0 0 .moves) (d2 .leaf .moves)) (omega arith) (omega arith) (omega arith) (omega (arith, g .0 .ready .blocks)) (omega (arith, g .0 .ready .loops))
 
       module _ {w3 : List ℕ} {s3 : Step}
           (d3 : Leaf w2 (inner p) s2 w3 (inner p) s3 (both (some-registers (1 + word-of (fields t) i 2)) (uses (3 + word-of (fields t) i 2) (1 + word-of (fields t) i 2) 0)) (open-fun i (token (word-of (fields t) i 0) (word-of (fields t) i 1)) (tokens-at (fields t) i 3 (3 + 2 * word-of (fields t) i 2))) × Small s3) where
-        ask-body : AskBody t w3 (inner p) s3 i (3 + 2 * word-of (fields t) i 2)
-        ask-body =
+        ask-body : {d : ℕ} → Behind (fields t) i (3 + 2 * word-of (fields t) i 2) d → AskBody t w3 (inner p) s3 i (3 + 2 * word-of (fields t) i 2) d
+        ask-body b =
             let n = fun-size x in
             let y = stand (size-stmts (stmts-at (fields t) i (3 + 2 * word-of (fields t) i 2) (count-of (fields t) i))) 2 0 (from at-open ▹ d3 .0 .moves) (omega arith) (omega arith) (omega arith) (omega arith) in
-            (record { ready = y; known = g .0 .known; ends = omega arith; each = x .body }, omega (arith, g .0 .ready .blocks), x .size, d3 .1)
+            (record { ready = y; known = g .0 .known; ends = omega arith; each = x .body; behind = b }, omega (arith, g .0 .ready .blocks), x .size, d3 .1)
 
         module _ {o w4 o4 : List ℕ} {s4 : Step} (d4 : LowersBody t i (3 + 2 * word-of (fields t) i 2) w3 o (inner p) s3 w4 o4 s4) where
           at-end : Fine w4 (inner p) s4 × Leavable w4 p × Owing w4 p (cut-step s4 (s1 .code)) 4 1 (2 - (p .depth + p .block)) × while-going (s4 .outcome) ((s1 .code ≤ s4 .code) × (s1 .result < 255))
@@ -96,10 +103,10 @@ module _ {t w : List ℕ} {p : Scope} {s : Step} {i : ℕ} (g : AskFun t w p s i
 
 -- what each function that is called asks and promises; a member of the cycle at a smaller measure
 abbrev pub claims : ℕ → lts.Claims
-claims t = (words-of-reads.Asked, words-of-reads.Learnt, payload-of-reads.Asked, payload-of-reads.Learnt, declare-reads.Asked, declare-reads.Learnt, enter-function-reads.Asked, enter-function-reads.Learnt, open-fun-reads.Asked, open-fun-reads.Learnt, body-below t, body.Post, end-fun-reads.Asked, end-fun-reads.Learnt)
+claims t = (three-of-reads.Asked, three-of-reads.Learnt, payload-of-reads.Asked, payload-of-reads.Learnt, declare-reads.Asked, declare-reads.Learnt, enter-function-reads.Asked, enter-function-reads.Learnt, open-fun-reads.Asked, open-fun-reads.Learnt, body-below t, body.Post, end-fun-reads.Asked, end-fun-reads.Learnt)
 
-pub words-of-requires : (t : ℕ) → lts.Need-words-of-requires (claims t) (fn-stmt-at t) fn-stmt.Post
-words-of-requires t c κs = readable ((c .before .before .before .before) .pre .1 .0 .ready) ((c .before .before .before .before) .pre .1 .0 .known)
+pub three-of-requires : (t : ℕ) → lts.Need-three-of-requires (claims t) (fn-stmt-at t) fn-stmt.Post
+three-of-requires t c κs = headed ((c .before .before .before .before) .pre .1 .0 .ready) ((c .before .before .before .before) .pre .1 .0 .known) (define-stands ((c .before .before .before .before) .pre .1 .0 .ready .lawful) ((c .before .before .before .before) .pre .1 .0 .known) ((c .before .before .before .before) .pre .1 .1) .0)
 
 pub payload-of-requires : (t : ℕ) → lts.Need-payload-of-requires (claims t) (fn-stmt-at t) fn-stmt.Post
 payload-of-requires t c κs = readable ((c .before .before .before .before .before .before) .pre .1 .0 .ready) ((c .before .before .before .before .before .before) .pre .1 .0 .known)
@@ -107,53 +114,65 @@ payload-of-requires t c κs = readable ((c .before .before .before .before .befo
 pub declare-requires : (t : ℕ) → lts.Need-declare-requires (claims t) (fn-stmt-at t) fn-stmt.Post
 declare-requires t c κs =
     let g = (c .before .before .before .before .before .before .before .before) .pre .1 in
-    rw ((c .before .before .before .words-of) .ensures .0) (at-declare g (a-define (g .0 .ready .lawful) (g .0 .known) (g .1)))
+    rw ((c .before .before .before .three-of) .ensures .0) (at-declare g (a-define (g .0 .ready .lawful) (g .0 .known) (g .1)))
 
 pub enter-function-requires : (t : ℕ) → lts.Need-enter-function-requires (claims t) (fn-stmt-at t) fn-stmt.Post
 enter-function-requires t c κs =
     let g = (c .before .before .before .before .before .before .before .before .before .before .before .before) .pre .1 in
-    rw ((c .before .before .before .before .before .before .before .words-of) .ensures .0) (at-enter g (a-define (g .0 .ready .lawful) (g .0 .known) (g .1)) (rw ((c .before .before .before .before .before .before .before .words-of) .ensures .0) at ((c .before .before .before .declare) .ensures)))
+    rw ((c .before .before .before .before .before .before .before .three-of) .ensures .0) (at-enter g (a-define (g .0 .ready .lawful) (g .0 .known) (g .1)) (rw ((c .before .before .before .before .before .before .before .three-of) .ensures .0) at ((c .before .before .before .declare) .ensures)))
+
+pub add-open-fun : (t : ℕ) → lts.Need-add-open-fun (claims t) (fn-stmt-at t) fn-stmt.Post
+add-open-fun t c = omega (arith, narrow-or-wide ((c .before .before .before .before .before .before .before .before .before .before .before .before .before .before .before .before) .pre .1 .0 .ready))
 
 pub open-fun-requires : (t : ℕ) → lts.Need-open-fun-requires (claims t) (fn-stmt-at t) fn-stmt.Post
 open-fun-requires t c κs =
     let g = (c .before .before .before .before .before .before .before .before .before .before .before .before .before .before .before .before) .pre .1 in
     let x = a-define (g .0 .ready .lawful) (g .0 .known) (g .1) in
-    let y = at-open g x (rw ((c .before .before .before .before .before .before .before .before .before .before .before .words-of) .ensures .0) at ((c .before .before .before .before .before .before .before .declare) .ensures)) (rw ((c .before .before .before .before .before .before .before .before .before .before .before .words-of) .ensures .0) at ((c .before .before .before .enter-function) .ensures .1)) in
+    let y = at-open g x (rw ((c .before .before .before .before .before .before .before .before .before .before .before .three-of) .ensures .0) at ((c .before .before .before .before .before .before .before .declare) .ensures)) (rw ((c .before .before .before .before .before .before .before .before .before .before .before .three-of) .ensures .0) at ((c .before .before .before .enter-function) .ensures .1)) in
     let z = stand 0 0 0 (from y) (omega arith) (omega arith) (omega arith) (omega arith) in
-    rw ((c .before .before .before .enter-function) .ensures .0, (c .before .before .before .before .before .before .before .before .before .before .before .words-of) .ensures .0, (c .before .before .before .before .before .before .before .before .before .payload-of) .ensures) (z .fine, z .room, omega (arith, x .name), x .size)
+    rw ((c .before .before .before .enter-function) .ensures .0, (c .before .before .before .before .before .before .before .before .before .before .before .three-of) .ensures .0) (z .fine, z .room, omega (arith, x .name), (omega (arith, narrow-or-wide (g .0 .ready)), rw ((c .before .before .before .before .before .before .before .before .before .before .before .three-of) .ensures .0) at ((c .before .before .before .before .before .before .before .before .before .before .before .three-of) .ensures .1 .2 (λ z. omega arith))))
 
 pub mul-body : (t : ℕ) → lts.Need-mul-body (claims t) (fn-stmt-at t) fn-stmt.Post
-mul-body t c = omega (arith, (c .before .before .before .before .before .before .before .before .before .before .before .before .before .before .before .before .before .words-of) .ensures .3)
+mul-body t c = omega (arith, ((c .before .before .before .before .before .before .before .before .before .before .before .before .before .before .before .before .before .three-of) .ensures .1 .2 (λ z. omega arith)))
 
 pub add-body : (t : ℕ) → lts.Need-add-body (claims t) (fn-stmt-at t) fn-stmt.Post
-add-body t c = omega (arith, (c .before .before .before .before .before .before .before .before .before .before .before .before .before .before .before .before .before .words-of) .ensures .3)
+add-body t c = omega (arith, ((c .before .before .before .before .before .before .before .before .before .before .before .before .before .before .before .before .before .three-of) .ensures .1 .2 (λ z. omega arith)))
+
+pub mul-body-2 : (t : ℕ) → lts.Need-mul-body-2 (claims t) (fn-stmt-at t) fn-stmt.Post
+mul-body-2 t c = omega (arith, few-more _ _ ((c .before .before .before .before .before .before .before .before .before .before .before .before .before .before .before .before .before .before .three-of) .ensures .1 .2 (λ z. omega arith)) (narrow-or-wide ((c .before .before .before .before .before .before .before .before .before .before .before .before .before .before .before .before .before .before .before .before .before .before .before) .pre .1 .0 .ready)))
+
+pub add-body-2 : (t : ℕ) → lts.Need-add-body-2 (claims t) (fn-stmt-at t) fn-stmt.Post
+add-body-2 t c = let w = narrow-or-wide ((c .before .before .before .before .before .before .before .before .before .before .before .before .before .before .before .before .before .before .before .before .before .before .before) .pre .1 .0 .ready) in omega (arith, w, few-more _ _ ((c .before .before .before .before .before .before .before .before .before .before .before .before .before .before .before .before .before .before .three-of) .ensures .1 .2 (λ z. omega arith)) w)
 
 pub body-requires : (t : ℕ) → lts.Need-body-requires (claims t) (fn-stmt-at t) fn-stmt.Post
 body-requires t c κs =
-    let g = (c .before .before .before .before .before .before .before .before .before .before .before .before .before .before .before .before .before .before .before .before .before .before) .pre .1 in
+    let g = (c .before .before .before .before .before .before .before .before .before .before .before .before .before .before .before .before .before .before .before .before .before .before .before) .pre .1 in
     let x = a-define (g .0 .ready .lawful) (g .0 .known) (g .1) in
-    let o = opened _ _ _ _ _ ((c .before .before .before .before .before .before .before .before .before .before .before .before .before .before .before .payload-of) .ensures) (rw ((c .before .before .before .before .before .before .before .before .before .enter-function) .ensures .0, (c .before .before .before .before .before .before .before .before .before .before .before .before .before .before .before .before .before .words-of) .ensures .0) at ((c .before .before .before .before .before .open-fun) .ensures)) in
-    rw ((c .before .before .before .before .before .before .before .before .before .enter-function) .ensures .0, (c .before .before .before .before .before .before .before .before .before .before .before .before .before .before .before .before .before .words-of) .ensures .0) (omega (arith, (c .before .before .before .before .before .before .before .before .before .before .before .before .before .before .before .before .before .before .before .before .before .before) .pre .0), ask-body g x (rw ((c .before .before .before .before .before .before .before .before .before .before .before .before .before .before .before .before .before .words-of) .ensures .0) at ((c .before .before .before .before .before .before .before .before .before .before .before .before .before .declare) .ensures)) (rw ((c .before .before .before .before .before .before .before .before .before .before .before .before .before .before .before .before .before .words-of) .ensures .0) at ((c .before .before .before .before .before .before .before .before .before .enter-function) .ensures .1)) o)
+    let k = define-stands (g .0 .ready .lawful) (g .0 .known) (g .1) in
+    let o = opened _ _ _ _ _ (g .0 .ready .width) ((c .before .before .before .before .before .before .before .before .before .before .before .before .before .before .before .before .payload-of) .ensures) (k .1) (rw ((c .before .before .before .before .before .before .before .before .before .before .enter-function) .ensures .0, (c .before .before .before .before .before .before .before .before .before .before .before .before .before .before .before .before .before .before .three-of) .ensures .0) at ((c .before .before .before .before .before .before .open-fun) .ensures)) in
+    rw ((c .before .before .before .before .before .before .before .before .before .before .enter-function) .ensures .0, (c .before .before .before .before .before .before .before .before .before .before .before .before .before .before .before .before .before .before .three-of) .ensures .0) (omega (arith, (c .before .before .before .before .before .before .before .before .before .before .before .before .before .before .before .before .before .before .before .before .before .before .before) .pre .0), ask-body g x (rw ((c .before .before .before .before .before .before .before .before .before .before .before .before .before .before .before .before .before .before .three-of) .ensures .0) at ((c .before .before .before .before .before .before .before .before .before .before .before .before .before .before .declare) .ensures)) (rw ((c .before .before .before .before .before .before .before .before .before .before .before .before .before .before .before .before .before .before .three-of) .ensures .0) at ((c .before .before .before .before .before .before .before .before .before .before .enter-function) .ensures .1)) o (body-behind _ (g .0 .ready) (k .2)))
 
 pub end-fun-requires : (t : ℕ) → lts.Need-end-fun-requires (claims t) (fn-stmt-at t) fn-stmt.Post
 end-fun-requires t c κs =
-    let g = (c .before .before .before .before .before .before .before .before .before .before .before .before .before .before .before .before .before .before .before .before .before .before .before .before .before .before .before .before .before) .pre .1 in
+    let g = (c .before .before .before .before .before .before .before .before .before .before .before .before .before .before .before .before .before .before .before .before .before .before .before .before .before .before .before .before .before .before) .pre .1 in
     let x = a-define (g .0 .ready .lawful) (g .0 .known) (g .1) in
-    let o = opened _ _ _ _ _ ((c .before .before .before .before .before .before .before .before .before .before .before .before .before .before .before .before .before .before .before .before .before .before .payload-of) .ensures) (rw ((c .before .before .before .before .before .before .before .before .before .before .before .before .before .before .before .before .enter-function) .ensures .0, (c .before .before .before .before .before .before .before .before .before .before .before .before .before .before .before .before .before .before .before .before .before .before .before .before .words-of) .ensures .0) at ((c .before .before .before .before .before .before .before .before .before .before .before .before .open-fun) .ensures)) in
-    let b = rw ((c .before .before .before .before .before .before .before .before .before .before .before .before .before .before .before .before .enter-function) .ensures .0, (c .before .before .before .before .before .before .before .before .before .before .before .before .before .before .before .before .before .before .before .before .before .before .before .before .words-of) .ensures .0) at ((c .before .before .before .before .before .before .body) .ensures) in
-    let y = at-end g x (rw ((c .before .before .before .before .before .before .before .before .before .before .before .before .before .before .before .before .before .before .before .before .before .before .before .before .words-of) .ensures .0) at ((c .before .before .before .before .before .before .before .before .before .before .before .before .before .before .before .before .before .before .before .before .declare) .ensures)) (rw ((c .before .before .before .before .before .before .before .before .before .before .before .before .before .before .before .before .before .before .before .before .before .before .before .before .words-of) .ensures .0) at ((c .before .before .before .before .before .before .before .before .before .before .before .before .before .before .before .before .enter-function) .ensures .1)) o b in
-    (y .0, y .1, y .2, y .3, (c .before .before .before .before .before .before .before .before .before .before .before .before .before .before .before .before .before .before .before .before .before .before .before .before .words-of) .ensures .3, (c .before .before .before .before .before .before .before .before .before .before .before .before .before .before .before .before .before .before .before .before .before .before .before .before .words-of) .ensures .1)
+    let k = define-stands (g .0 .ready .lawful) (g .0 .known) (g .1) in
+    let o = opened _ _ _ _ _ (g .0 .ready .width) ((c .before .before .before .before .before .before .before .before .before .before .before .before .before .before .before .before .before .before .before .before .before .before .before .payload-of) .ensures) (k .1) (rw ((c .before .before .before .before .before .before .before .before .before .before .before .before .before .before .before .before .before .enter-function) .ensures .0, (c .before .before .before .before .before .before .before .before .before .before .before .before .before .before .before .before .before .before .before .before .before .before .before .before .before .three-of) .ensures .0) at ((c .before .before .before .before .before .before .before .before .before .before .before .before .before .open-fun) .ensures)) in
+    let b = rw ((c .before .before .before .before .before .before .before .before .before .before .before .before .before .before .before .before .before .enter-function) .ensures .0, (c .before .before .before .before .before .before .before .before .before .before .before .before .before .before .before .before .before .before .before .before .before .before .before .before .before .three-of) .ensures .0) at ((c .before .before .before .before .before .before .body) .ensures) in
+    let y = at-end g x (rw ((c .before .before .before .before .before .before .before .before .before .before .before .before .before .before .before .before .before .before .before .before .before .before .before .before .before .three-of) .ensures .0) at ((c .before .before .before .before .before .before .before .before .before .before .before .before .before .before .before .before .before .before .before .before .before .declare) .ensures)) (rw ((c .before .before .before .before .before .before .before .before .before .before .before .before .before .before .before .before .before .before .before .before .before .before .before .before .before .three-of) .ensures .0) at ((c .before .before .before .before .before .before .before .before .before .before .before .before .before .before .before .before .before .enter-function) .ensures .1)) o b in
+    (y .0, y .1, y .2, y .3, ((c .before .before .before .before .before .before .before .before .before .before .before .before .before .before .before .before .before .before .before .before .before .before .before .before .before .three-of) .ensures .1 .2 (λ z. omega arith)), ((c .before .before .before .before .before .before .before .before .before .before .before .before .before .before .before .before .before .before .before .before .before .before .before .before .before .three-of) .ensures .1 .0 (λ z. omega arith)))
 
 pub same-length : (t : ℕ) → lts.Need-same-length (claims t) (fn-stmt-at t) fn-stmt.Post
-same-length t c = (c .before .before .before .before .end-fun) .ensures .0 .leaves .kept .same ∙ (c .before .before .before .before .before .before .before .before .before .before .before .body) .ensures .moves .kept .same ∙ (c .before .before .before .before .before .before .before .before .before .before .before .before .before .before .before .before .before .open-fun) .ensures .0 .moves .kept .same ∙ (c .before .before .before .before .before .before .before .before .before .before .before .before .before .before .before .before .before .before .before .before .before .enter-function) .ensures .1 .leaf .moves .kept .same ∙ (c .before .before .before .before .before .before .before .before .before .before .before .before .before .before .before .before .before .before .before .before .before .before .before .before .before .declare) .ensures .0 0 .moves .kept .same
+same-length t c = (c .before .before .before .before .end-fun) .ensures .0 .leaves .kept .same ∙ (c .before .before .before .before .before .before .before .before .before .before .before .body) .ensures .moves .kept .same ∙ (c .before .before .before .before .before .before .before .before .before .before .before .before .before .before .before .before .before .before .open-fun) .ensures .0 .moves .kept .same ∙ (c .before .before .before .before .before .before .before .before .before .before .before .before .before .before .before .before .before .before .before .before .before .before .enter-function) .ensures .1 .leaf .moves .kept .same ∙ (c .before .before .before .before .before .before .before .before .before .before .before .before .before .before .before .before .before .before .before .before .before .before .before .before .before .before .declare) .ensures .0 0 .moves .kept .same
 
 pub same-length-2 : (t : ℕ) → lts.Need-same-length-2 (claims t) (fn-stmt-at t) fn-stmt.Post
 same-length-2 t c = (c .before .before .before .before .end-fun) .ensures .0 .same ∙ (c .before .before .before .before .before .before .before .before .before .before .before .body) .ensures .same
 
 pub returns : (t : ℕ) → lts.Need-returns (claims t) (fn-stmt-at t) fn-stmt.Post
 returns t c =
-    let g = (c .before .before .before .before .before .before .before .before .before .before .before .before .before .before .before .before .before .before .before .before .before .before .before .before .before .before .before .before .before .before .before .before .before .before) .pre .1 in
+    let g = (c .before .before .before .before .before .before .before .before .before .before .before .before .before .before .before .before .before .before .before .before .before .before .before .before .before .before .before .before .before .before .before .before .before .before .before) .pre .1 in
     let x = a-define (g .0 .ready .lawful) (g .0 .known) (g .1) in
-    let o = opened _ _ _ _ _ ((c .before .before .before .before .before .before .before .before .before .before .before .before .before .before .before .before .before .before .before .before .before .before .before .before .before .before .before .payload-of) .ensures) (rw ((c .before .before .before .before .before .before .before .before .before .before .before .before .before .before .before .before .before .before .before .before .before .enter-function) .ensures .0, (c .before .before .before .before .before .before .before .before .before .before .before .before .before .before .before .before .before .before .before .before .before .before .before .before .before .before .before .before .before .words-of) .ensures .0) at ((c .before .before .before .before .before .before .before .before .before .before .before .before .before .before .before .before .before .open-fun) .ensures)) in
-    let b = rw ((c .before .before .before .before .before .before .before .before .before .before .before .before .before .before .before .before .before .before .before .before .before .enter-function) .ensures .0, (c .before .before .before .before .before .before .before .before .before .before .before .before .before .before .before .before .before .before .before .before .before .before .before .before .before .before .before .before .before .words-of) .ensures .0) at ((c .before .before .before .before .before .before .before .before .before .before .before .body) .ensures) in
-    lowers g x (rw ((c .before .before .before .before .before .before .before .before .before .before .before .before .before .before .before .before .before .before .before .before .before .before .before .before .before .before .before .before .before .words-of) .ensures .0) at ((c .before .before .before .before .before .before .before .before .before .before .before .before .before .before .before .before .before .before .before .before .before .before .before .before .before .declare) .ensures)) (rw ((c .before .before .before .before .before .before .before .before .before .before .before .before .before .before .before .before .before .before .before .before .before .before .before .before .before .before .before .before .before .words-of) .ensures .0) at ((c .before .before .before .before .before .before .before .before .before .before .before .before .before .before .before .before .before .before .before .before .before .enter-function) .ensures .1)) o b (rw ((c .before .before .before .before .before .before .before .before .before .before .before .before .before .before .before .before .before .before .before .before .before .before .before .before .before .before .before .before .before .words-of) .ensures .0) at ((c .before .before .before .before .end-fun) .ensures))
+    let k = define-stands (g .0 .ready .lawful) (g .0 .known) (g .1) in
+    let o = opened _ _ _ _ _ (g .0 .ready .width) ((c .before .before .before .before .before .before .before .before .before .before .before .before .before .before .before .before .before .before .before .before .before .before .before .before .before .before .before .before .payload-of) .ensures) (k .1) (rw ((c .before .before .before .before .before .before .before .before .before .before .before .before .before .before .before .before .before .before .before .before .before .before .enter-function) .ensures .0, (c .before .before .before .before .before .before .before .before .before .before .before .before .before .before .before .before .before .before .before .before .before .before .before .before .before .before .before .before .before .before .three-of) .ensures .0) at ((c .before .before .before .before .before .before .before .before .before .before .before .before .before .before .before .before .before .before .open-fun) .ensures)) in
+    let b = rw ((c .before .before .before .before .before .before .before .before .before .before .before .before .before .before .before .before .before .before .before .before .before .before .enter-function) .ensures .0, (c .before .before .before .before .before .before .before .before .before .before .before .before .before .before .before .before .before .before .before .before .before .before .before .before .before .before .before .before .before .before .three-of) .ensures .0) at ((c .before .before .before .before .before .before .before .before .before .before .before .body) .ensures) in
+    lowers g x (rw ((c .before .before .before .before .before .before .before .before .before .before .before .before .before .before .before .before .before .before .before .before .before .before .before .before .before .before .before .before .before .before .three-of) .ensures .0) at ((c .before .before .before .before .before .before .before .before .before .before .before .before .before .before .before .before .before .before .before .before .before .before .before .before .before .before .declare) .ensures)) (rw ((c .before .before .before .before .before .before .before .before .before .before .before .before .before .before .before .before .before .before .before .before .before .before .before .before .before .before .before .before .before .before .three-of) .ensures .0) at ((c .before .before .before .before .before .before .before .before .before .before .before .before .before .before .before .before .before .before .before .before .before .before .enter-function) .ensures .1)) o b (rw ((c .before .before .before .before .before .before .before .before .before .before .before .before .before .before .before .before .before .before .before .before .before .before .before .before .before .before .before .before .before .before .three-of) .ensures .0) at ((c .before .before .before .before .end-fun) .ensures))

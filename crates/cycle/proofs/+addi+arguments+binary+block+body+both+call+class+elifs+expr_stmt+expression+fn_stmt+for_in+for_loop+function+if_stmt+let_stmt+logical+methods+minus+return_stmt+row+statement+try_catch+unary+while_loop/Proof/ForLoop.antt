@@ -11,9 +11,9 @@ use Rattle.cycle.proofs.scopes.in_loop.Reads as in-loop-reads
 use Rattle.cycle.proofs.reading.initializer_end.Reads as initializer-end-reads
 use Rattle.cycle.proofs.reading.words_of.Reads as words-of-reads
 use Rattle.cycle.proofs.+addi+arguments+binary+block+body+both+call+class+elifs+expr_stmt+expression+fn_stmt+for_in+for_loop+function+if_stmt+let_stmt+logical+methods+minus+return_stmt+row+statement+try_catch+unary+while_loop.Proof.Order.{expression-below, for-loop-at, row-below, statement-below}
-use Rattle.cycle.proofs.Nodes.{a-for}
+use Rattle.cycle.proofs.Nodes.{a-for, behind-here, for-stands}
 use Rattle.cycle.proofs.Sizes.{for-size}
-use Rattle.cycle.proofs.Way.{_▹_, adds, arrive, ends, from, give-expr, give-looped, give-row, meanwhile, next, next-leaf, readable, sets, stand, twice}
+use Rattle.cycle.proofs.Way.{_▹_, adds, arrive, ends, from, give-expr, give-looped, give-row, headed, meanwhile, next, next-leaf, readable, sets, stand, twice}
 use Rattle.cycle.proofs.Visited.{for-visits}
 use Rattle.meaning.specs.Visits.{under-stmt, visits-expr, visits-stmt, visits-stmts}
 use Rattle.cycle.specs.Cycle.{AskExpr, AskRow, AskStmt, GivenStmt, LowersExpr, LowersRow, LowersStmt, UnderStmt}
@@ -21,7 +21,7 @@ use Rattle.forward.proofs.Chains.{for-chain}
 use Rattle.forward.specs.Forward.{end-loop, sure, test-and-jump}
 use Rattle.meaning.proofs.Reading.{For}
 use Rattle.meaning.proofs.Rows.{init-none, init-some, stmts-more, stmts-none}
-use Rattle.meaning.specs.At.{StmtBelow, expr-at, init-at, stmt-at, stmts-at, word-of}
+use Rattle.meaning.specs.At.{Behind, StmtBelow, expr-at, init-at, stmt-at, stmts-at, word-of}
 use Rattle.meaning.specs.Fields.{Field, fields}
 use Rattle.meaning.specs.Grammar.{absent}
 use Rattle.meaning.specs.Lower.{lower-expr}
@@ -64,10 +64,10 @@ module _ {fs : List Field} {i : ℕ} (x : For fs i) where
   for-visits-of = rw (initializer-is _ refl) at (for-visits x)
 
 module _ {t w : List ℕ} {p : Scope} {s : Step} {i : ℕ} (g : GivenStmt t w p s i) (x : For (fields t) i) where
-  first : AskRow t w p s i 1 (until (fields t) i)
-  first =
+  first : {d : ℕ} → Behind (fields t) i 1 d → AskRow t w p s i 1 (until (fields t) i) d
+  first b =
       let n = for-size-of x in
-      give-row (from (g .ready)) (g .known) 1 (until (fields t) i) (omega (arith, ends-by x (absent (word-of (fields t) i 1)), x .size)) (initializer-each x _ refl) (omega arith) (omega arith) (omega arith) (omega arith)
+      give-row (from (g .ready)) (g .known) 1 (until (fields t) i) (omega (arith, ends-by x (absent (word-of (fields t) i 1)), x .size)) (initializer-each x _ refl) (omega arith) (omega arith) (omega arith) (omega arith) b
 
   open-loops : p .loops < p .nodes + 10
   open-loops = let n = for-size x in omega (arith, g .ready .loops)
@@ -135,7 +135,7 @@ abbrev pub claims : ℕ → lts.Claims
 claims t = (words-of-reads.Asked, words-of-reads.Learnt, initializer-end-reads.Asked, initializer-end-reads.Learnt, row-below t, row.Post, expression-below t, expression.Post, test-and-jump-reads.Asked, test-and-jump-reads.Learnt, in-loop-reads.Asked, in-loop-reads.Learnt, statement-below t, statement′.Post, end-loop-reads.Asked, end-loop-reads.Learnt)
 
 pub words-of-requires : (t : ℕ) → lts.Need-words-of-requires (claims t) (for-loop-at t) for-loop.Post
-words-of-requires t c κs = readable ((c .before .before .before .before) .pre .1 .0 .ready) ((c .before .before .before .before) .pre .1 .0 .known)
+words-of-requires t c κs = headed ((c .before .before .before .before) .pre .1 .0 .ready) ((c .before .before .before .before) .pre .1 .0 .known) (for-stands ((c .before .before .before .before) .pre .1 .0 .ready .lawful) ((c .before .before .before .before) .pre .1 .0 .known) ((c .before .before .before .before) .pre .1 .1) .0)
 
 pub initializer-end-requires : (t : ℕ) → lts.Need-initializer-end-requires (claims t) (for-loop-at t) for-loop.Post
 initializer-end-requires t c κs = tt
@@ -143,7 +143,7 @@ initializer-end-requires t c κs = tt
 pub row-requires : (t : ℕ) → lts.Need-row-requires (claims t) (for-loop-at t) for-loop.Post
 row-requires t c κs =
     let g = (c .before .before .before .before .before .before .before .before) .pre .1 .0 in
-    rw ((c .initializer-end) .ensures, (c .before .before .before .words-of) .ensures .0) (omega (arith, (c .before .before .before .before .before .before .before .before) .pre .0), first g (a-for (g .ready .lawful) (g .known) ((c .before .before .before .before .before .before .before .before) .pre .1 .1)))
+    rw ((c .initializer-end) .ensures, (c .before .before .before .words-of) .ensures .0) (omega (arith, (c .before .before .before .before .before .before .before .before) .pre .0), first g (a-for (g .ready .lawful) (g .known) ((c .before .before .before .before .before .before .before .before) .pre .1 .1)) (behind-here (g .ready) (for-stands (g .ready .lawful) (g .known) ((c .before .before .before .before .before .before .before .before) .pre .1 .1) .1)))
 
 pub expression-requires : (t : ℕ) → lts.Need-expression-requires (claims t) (for-loop-at t) for-loop.Post
 expression-requires t c κs =
@@ -168,7 +168,8 @@ statement-requires t c κs =
     let g = (c .before .before .before .before .before .before .before .before .before .before .before .before .before .before .before .before .before .before .before .before .before .before .before .before .before .before .before) .pre .1 .0 in
     let x = a-for (g .ready .lawful) (g .known) ((c .before .before .before .before .before .before .before .before .before .before .before .before .before .before .before .before .before .before .before .before .before .before .before .before .before .before .before) .pre .1 .1) in
     let e = (c .before .before .before .before .before .before .before .before .before .before .before .before .before .before .before .before .before .before .before .before .before .before .words-of) .ensures .0 in
-    rw ((c .in-loop) .ensures, e)
+    let f = sym (behind-here (g .ready) (for-stands (g .ready .lawful) (g .known) ((c .before .before .before .before .before .before .before .before .before .before .before .before .before .before .before .before .before .before .before .before .before .before .before .before .before .before .before) .pre .1 .1) .1) .same 4 (omega arith)) in
+    rw ((c .in-loop) .ensures, e, f)
     (omega (arith, (c .before .before .before .before .before .before .before .before .before .before .before .before .before .before .before .before .before .before .before .before .before .before .before .before .before .before .before) .pre .0, x .body .below), body g x (rw ((c .before .before .before .before .before .before .before .before .before .before .before .before .before .before .before .before .before .before .before .initializer-end) .ensures, e) at ((c .before .before .before .before .before .before .before .before .before .before .before .before .before .before .before .before .before .before .row) .ensures)) (rw e at ((c .before .before .before .before .before .before .before .before .before .before .before .expression) .ensures)) (rw e at ((c .before .before .before .before .before .test-and-jump) .ensures)))
 
 pub expression-requires-2 : (t : ℕ) → lts.Need-expression-requires-2 (claims t) (for-loop-at t) for-loop.Post
@@ -176,14 +177,16 @@ expression-requires-2 t c κs =
     let g = (c .before .before .before .before .before .before .before .before .before .before .before .before .before .before .before .before .before .before .before .before .before .before .before .before .before .before .before .before .before .before .before .before .before .before) .pre .1 .0 in
     let x = a-for (g .ready .lawful) (g .known) ((c .before .before .before .before .before .before .before .before .before .before .before .before .before .before .before .before .before .before .before .before .before .before .before .before .before .before .before .before .before .before .before .before .before .before) .pre .1 .1) in
     let e = (c .before .before .before .before .before .before .before .before .before .before .before .before .before .before .before .before .before .before .before .before .before .before .before .before .before .before .before .before .before .words-of) .ensures .0 in
+    let f = sym (behind-here (g .ready) (for-stands (g .ready .lawful) (g .known) ((c .before .before .before .before .before .before .before .before .before .before .before .before .before .before .before .before .before .before .before .before .before .before .before .before .before .before .before .before .before .before .before .before .before .before) .pre .1 .1) .1) .same 4 (omega arith)) in
     rw e
-    (omega (arith, (c .before .before .before .before .before .before .before .before .before .before .before .before .before .before .before .before .before .before .before .before .before .before .before .before .before .before .before .before .before .before .before .before .before .before) .pre .0, x .increment .below), increment g x (rw ((c .before .before .before .before .before .before .before .before .before .before .before .before .before .before .before .before .before .before .before .before .before .before .before .before .before .before .initializer-end) .ensures, e) at ((c .before .before .before .before .before .before .before .before .before .before .before .before .before .before .before .before .before .before .before .before .before .before .before .before .before .row) .ensures)) (rw e at ((c .before .before .before .before .before .before .before .before .before .before .before .before .before .before .before .before .before .before .expression) .ensures)) (rw e at ((c .before .before .before .before .before .before .before .before .before .before .before .before .test-and-jump) .ensures)) (rw ((c .before .before .before .before .before .before .before .in-loop) .ensures, e) at ((c .before .before .before .before .before .before .statement) .ensures)))
+    (omega (arith, (c .before .before .before .before .before .before .before .before .before .before .before .before .before .before .before .before .before .before .before .before .before .before .before .before .before .before .before .before .before .before .before .before .before .before) .pre .0, x .increment .below), increment g x (rw ((c .before .before .before .before .before .before .before .before .before .before .before .before .before .before .before .before .before .before .before .before .before .before .before .before .before .before .initializer-end) .ensures, e) at ((c .before .before .before .before .before .before .before .before .before .before .before .before .before .before .before .before .before .before .before .before .before .before .before .before .before .row) .ensures)) (rw e at ((c .before .before .before .before .before .before .before .before .before .before .before .before .before .before .before .before .before .before .expression) .ensures)) (rw e at ((c .before .before .before .before .before .before .before .before .before .before .before .before .test-and-jump) .ensures)) (rw ((c .before .before .before .before .before .before .before .in-loop) .ensures, e, f) at ((c .before .before .before .before .before .before .statement) .ensures)))
 
 pub end-loop-requires : (t : ℕ) → lts.Need-end-loop-requires (claims t) (for-loop-at t) for-loop.Post
 end-loop-requires t c κs =
     let g = (c .before .before .before .before .before .before .before .before .before .before .before .before .before .before .before .before .before .before .before .before .before .before .before .before .before .before .before .before .before .before .before .before .before .before .before .before .before .before .before .before) .pre .1 .0 in
     let e = (c .before .before .before .before .before .before .before .before .before .before .before .before .before .before .before .before .before .before .before .before .before .before .before .before .before .before .before .before .before .before .before .before .before .before .before .words-of) .ensures .0 in
-    at-end g (a-for (g .ready .lawful) (g .known) ((c .before .before .before .before .before .before .before .before .before .before .before .before .before .before .before .before .before .before .before .before .before .before .before .before .before .before .before .before .before .before .before .before .before .before .before .before .before .before .before .before) .pre .1 .1)) (rw ((c .before .before .before .before .before .before .before .before .before .before .before .before .before .before .before .before .before .before .before .before .before .before .before .before .before .before .before .before .before .before .before .before .initializer-end) .ensures, e) at ((c .before .before .before .before .before .before .before .before .before .before .before .before .before .before .before .before .before .before .before .before .before .before .before .before .before .before .before .before .before .before .before .row) .ensures)) (rw e at ((c .before .before .before .before .before .before .before .before .before .before .before .before .before .before .before .before .before .before .before .before .before .before .before .before .expression) .ensures)) (rw e at ((c .before .before .before .before .before .before .before .before .before .before .before .before .before .before .before .before .before .before .test-and-jump) .ensures)) (rw ((c .before .before .before .before .before .before .before .before .before .before .before .before .before .in-loop) .ensures, e) at ((c .before .before .before .before .before .before .before .before .before .before .before .before .statement) .ensures)) (rw e at ((c .before .before .before .before .before .expression2) .ensures))
+    let f = sym (behind-here (g .ready) (for-stands (g .ready .lawful) (g .known) ((c .before .before .before .before .before .before .before .before .before .before .before .before .before .before .before .before .before .before .before .before .before .before .before .before .before .before .before .before .before .before .before .before .before .before .before .before .before .before .before .before) .pre .1 .1) .1) .same 4 (omega arith)) in
+    at-end g (a-for (g .ready .lawful) (g .known) ((c .before .before .before .before .before .before .before .before .before .before .before .before .before .before .before .before .before .before .before .before .before .before .before .before .before .before .before .before .before .before .before .before .before .before .before .before .before .before .before .before) .pre .1 .1)) (rw ((c .before .before .before .before .before .before .before .before .before .before .before .before .before .before .before .before .before .before .before .before .before .before .before .before .before .before .before .before .before .before .before .before .initializer-end) .ensures, e) at ((c .before .before .before .before .before .before .before .before .before .before .before .before .before .before .before .before .before .before .before .before .before .before .before .before .before .before .before .before .before .before .before .row) .ensures)) (rw e at ((c .before .before .before .before .before .before .before .before .before .before .before .before .before .before .before .before .before .before .before .before .before .before .before .before .expression) .ensures)) (rw e at ((c .before .before .before .before .before .before .before .before .before .before .before .before .before .before .before .before .before .before .test-and-jump) .ensures)) (rw ((c .before .before .before .before .before .before .before .before .before .before .before .before .before .in-loop) .ensures, e, f) at ((c .before .before .before .before .before .before .before .before .before .before .before .before .statement) .ensures)) (rw e at ((c .before .before .before .before .before .expression2) .ensures))
 
 pub same-length : (t : ℕ) → lts.Need-same-length (claims t) (for-loop-at t) for-loop.Post
 same-length t c = (c .before .before .end-loop) .ensures .moves .kept .same ∙ (c .before .before .before .before .before .before .before .before .expression2) .ensures .does .moves .kept .same ∙ (c .before .before .before .before .before .before .before .before .before .before .before .before .before .before .before .statement) .ensures .does .moves .kept .same ∙ (c .before .before .before .before .before .before .before .before .before .before .before .before .before .before .before .before .before .before .before .before .before .test-and-jump) .ensures .moves .kept .same ∙ (c .before .before .before .before .before .before .before .before .before .before .before .before .before .before .before .before .before .before .before .before .before .before .before .before .before .before .before .expression) .ensures .does .moves .kept .same ∙ (c .before .before .before .before .before .before .before .before .before .before .before .before .before .before .before .before .before .before .before .before .before .before .before .before .before .before .before .before .before .before .before .before .before .before .row) .ensures .does .moves .kept .same
@@ -195,4 +198,5 @@ pub returns : (t : ℕ) → lts.Need-returns (claims t) (for-loop-at t) for-loop
 returns t c =
     let g = (c .before .before .before .before .before .before .before .before .before .before .before .before .before .before .before .before .before .before .before .before .before .before .before .before .before .before .before .before .before .before .before .before .before .before .before .before .before .before .before .before .before .before .before) .pre .1 .0 in
     let e = (c .before .before .before .before .before .before .before .before .before .before .before .before .before .before .before .before .before .before .before .before .before .before .before .before .before .before .before .before .before .before .before .before .before .before .before .before .before .before .words-of) .ensures .0 in
-    lowers g (a-for (g .ready .lawful) (g .known) ((c .before .before .before .before .before .before .before .before .before .before .before .before .before .before .before .before .before .before .before .before .before .before .before .before .before .before .before .before .before .before .before .before .before .before .before .before .before .before .before .before .before .before .before) .pre .1 .1)) (rw ((c .before .before .before .before .before .before .before .before .before .before .before .before .before .before .before .before .before .before .before .before .before .before .before .before .before .before .before .before .before .before .before .before .before .before .before .initializer-end) .ensures, e) at ((c .before .before .before .before .before .before .before .before .before .before .before .before .before .before .before .before .before .before .before .before .before .before .before .before .before .before .before .before .before .before .before .before .before .before .row) .ensures)) (rw e at ((c .before .before .before .before .before .before .before .before .before .before .before .before .before .before .before .before .before .before .before .before .before .before .before .before .before .before .before .expression) .ensures)) (rw e at ((c .before .before .before .before .before .before .before .before .before .before .before .before .before .before .before .before .before .before .before .before .before .test-and-jump) .ensures)) (rw ((c .before .before .before .before .before .before .before .before .before .before .before .before .before .before .before .before .in-loop) .ensures, e) at ((c .before .before .before .before .before .before .before .before .before .before .before .before .before .before .before .statement) .ensures)) (rw e at ((c .before .before .before .before .before .before .before .before .expression2) .ensures)) (rw e at ((c .before .before .end-loop) .ensures))
+    let f = sym (behind-here (g .ready) (for-stands (g .ready .lawful) (g .known) ((c .before .before .before .before .before .before .before .before .before .before .before .before .before .before .before .before .before .before .before .before .before .before .before .before .before .before .before .before .before .before .before .before .before .before .before .before .before .before .before .before .before .before .before) .pre .1 .1) .1) .same 4 (omega arith)) in
+    lowers g (a-for (g .ready .lawful) (g .known) ((c .before .before .before .before .before .before .before .before .before .before .before .before .before .before .before .before .before .before .before .before .before .before .before .before .before .before .before .before .before .before .before .before .before .before .before .before .before .before .before .before .before .before .before) .pre .1 .1)) (rw ((c .before .before .before .before .before .before .before .before .before .before .before .before .before .before .before .before .before .before .before .before .before .before .before .before .before .before .before .before .before .before .before .before .before .before .before .initializer-end) .ensures, e) at ((c .before .before .before .before .before .before .before .before .before .before .before .before .before .before .before .before .before .before .before .before .before .before .before .before .before .before .before .before .before .before .before .before .before .before .row) .ensures)) (rw e at ((c .before .before .before .before .before .before .before .before .before .before .before .before .before .before .before .before .before .before .before .before .before .before .before .before .before .before .before .expression) .ensures)) (rw e at ((c .before .before .before .before .before .before .before .before .before .before .before .before .before .before .before .before .before .before .before .before .before .test-and-jump) .ensures)) (rw ((c .before .before .before .before .before .before .before .before .before .before .before .before .before .before .before .before .in-loop) .ensures, e, f) at ((c .before .before .before .before .before .before .before .before .before .before .before .before .before .before .before .statement) .ensures)) (rw e at ((c .before .before .before .before .before .before .before .before .expression2) .ensures)) (rw e at ((c .before .before .end-loop) .ensures))

@@ -5,7 +5,7 @@ use Rattle.cycle.proofs.function.Reads as function
 use Rattle.cycle.proofs.+addi+arguments+binary+block+body+both+call+class+elifs+expr_stmt+expression+fn_stmt+for_in+for_loop+function+if_stmt+let_stmt+logical+methods+minus+return_stmt+row+statement+try_catch+unary+while_loop.Lts-function as lts
 use Rattle.cycle.proofs.reading.first_mark.Reads as first-mark-reads
 use Rattle.cycle.proofs.reading.payload_of.Reads as payload-of-reads
-use Rattle.cycle.proofs.reading.words_of.Reads as words-of-reads
+use Rattle.cycle.proofs.reading.params_of.Reads as params-of-reads
 use Rattle.parts.proofs.end_function.Reads as end-function-reads
 use Rattle.parts.proofs.open_function.Reads as open-function-reads
 use Rattle.store.proofs.enter_function.Reads as enter-function-reads
@@ -13,16 +13,16 @@ use Rattle.store.proofs.next_register.Reads as next-register-reads
 use Rattle.cycle.proofs.+addi+arguments+binary+block+body+both+call+class+elifs+expr_stmt+expression+fn_stmt+for_in+for_loop+function+if_stmt+let_stmt+logical+methods+minus+return_stmt+row+statement+try_catch+unary+while_loop.Proof.Order.{body-below, function-at}
 use Rattle.code.specs.Cuts.{Ends, cut-step}
 use Rattle.cycle.proofs.Nested.{begun, cut-room, ended}
-use Rattle.cycle.proofs.Nodes.{a-function}
+use Rattle.cycle.proofs.Nodes.{a-function, function-stands}
 use Rattle.cycle.proofs.Visited.{function-visits}
-use Rattle.cycle.proofs.Sizes.{function-size, tokens-same}
-use Rattle.cycle.proofs.Way.{_▹_, arrive, ends, from, meanwhile, next, next-leaf, readable, stand, stand-at, to}
-use Rattle.cycle.specs.Cycle.{AskBody, GivenExpr, LowersBody, Ready, UnderExpr}
+use Rattle.cycle.proofs.Sizes.{function-size, more-is, tokens-same}
+use Rattle.cycle.proofs.Way.{_▹_, arrive, ends, few-more, from, meanwhile, narrow-or-wide, next, next-leaf, readable, stand, stand-at, to}
+use Rattle.cycle.specs.Cycle.{AskBody, GivenExpr, LowersBody, Ready, UnderExpr, Width}
 use Rattle.forward.proofs.Chains.{function-chain}
 use Rattle.forward.specs.Forward.{bind, end-function, fwd-number, open-function}
 use Rattle.meaning.proofs.Reading.{Function}
 use Rattle.meaning.proofs.Rows.{parameters-at}
-use Rattle.meaning.specs.At.{count-of, stmts-at, tokens-at, word-of}
+use Rattle.meaning.specs.At.{Behind, count-of, file-words, pairs-in, stmts-at, tokens-at, word-of}
 use Rattle.meaning.specs.Fields.{field-at, fields, words}
 use Rattle.meaning.specs.Functions.{first-mark}
 use Rattle.meaning.specs.Lower.{lower-expr}
@@ -41,15 +41,24 @@ use lib.ListN.{length}
 use mathlib.Core.List.{List}
 use mathlib.Core.Path.{_∙_, _≡_, ap, refl, sym}
 use native.Mathlib.Omega.{arith}
+use mathlib.Core.Bool.{cond}
+use Rattle.meaning.specs.Grammar.{wide-marks}
 
 -- the parameters as the node's, and the mark of the first
-opened : (t : List ℕ) (i n : ℕ) {payload w w' : List ℕ} {q : Scope} {s s' : Step} {u : Cost} → payload ≡ field-at (fields t) i .payload
-    → Leaf w q s w' q s' u (open-function i (tokens-from payload 1 n)) × Small s' → Leaf w q s w' q s' u (open-function i (tokens-at (fields t) i 1 (1 + 2 * n))) × Small s'
-opened t i n {payload} e d = rw (tokens-same (fields t) i payload 1 n e) at d
+abbrev Tokens : List ℕ → (i n : ℕ) → Type 0
+Tokens t i n = tokens-at (fields t) i 1 (1 + 2 * n) ≡ pairs-in (wide-marks (fields t)) (file-words (fields t) i) 1 n
 
-marked : (t : List ℕ) (i n : ℕ) {payload : List ℕ} {r : ℕ} → payload ≡ field-at (fields t) i .payload → (1 + 2 * n ≤ length (words payload) → r ≡ first-mark (tokens-from payload 1 n)) → 1 + 2 * n ≤ count-of (fields t) i
+opened : (t : List ℕ) (i n : ℕ) {payload w w' : List ℕ} {q : Scope} {s s' : Step} {u : Cost} → Width t q → payload ≡ field-at (fields t) i .payload → Tokens t i n
+    → Leaf w q s w' q s' u (open-function i (tokens-from q payload 1 n)) × Small s' → Leaf w q s w' q s' u (open-function i (tokens-at (fields t) i 1 (1 + 2 * n))) × Small s'
+opened t i n {payload} {q = q} v e k d = rw (tokens-same t q i payload 1 1 n v e refl ∙ sym k) at d
+
+marked : (t : List ℕ) (i n : ℕ) (q : Scope) {payload : List ℕ} {r : ℕ} → Width t q → payload ≡ field-at (fields t) i .payload → Tokens t i n → r ≡ first-mark (tokens-from q payload 1 n)
     → r ≡ first-mark (tokens-at (fields t) i 1 (1 + 2 * n))
-marked t i n {payload} e h l = h (rw e l) ∙ ap first-mark (tokens-same (fields t) i payload 1 n e)
+marked t i n q {payload} v e k h = h ∙ ap first-mark (tokens-same t q i payload 1 1 n v e refl ∙ sym k)
+
+-- the body's statements stand behind the marks of the parameters
+body-behind : {t w : List ℕ} {p : Scope} {s : Step} {a b c i k : ℕ} (n : ℕ) → Ready t w p s a b c → Behind (fields t) i k (cond (wide-marks (fields t)) n 0) → Behind (fields t) i k (n * p .wide)
+body-behind {t = t} n r b = rw (r .width, ← (more-is (wide-marks (fields t)) n)) b
 
 module _ {t w : List ℕ} {p : Scope} {s : Step} {i : ℕ} (g : GivenExpr t w p s i) (x : Function (fields t) i) (deep : p .depth ≤ 7) where
   module _ {w1 : List ℕ} {s1 : Step} (d1 : Leaf w p s w1 p s1 a-register (fwd-number (next-register i)) × (s1 .result < 255)) where
@@ -60,15 +69,15 @@ module _ {t w : List ℕ} {p : Scope} {s : Step} {i : ℕ} (g : GivenExpr t w p 
       at-open : Ready t w2 (inner p) s2 (size-stmts (stmts-at (fields t) i (1 + 2 * word-of (fields t) i 0) (count-of (fields t) i))) 8 0
       at-open =
           let n = function-size x in
-          stand-at _ 8 0 (to (inner p) refl (omega arith) (omega arith) (from (g .ready) ▹ d1 .0 .moves) (d2 .leaf .moves)) (omega arith) (omega arith) (omega arith) (omega (arith, g .ready .blocks)) (omega (arith, g .ready .loops))
+          stand-at _ 8 0 (to (inner p) refl refl (omega arith) (omega arith) (from (g .ready) ▹ d1 .0 .moves) (d2 .leaf .moves)) (omega arith) (omega arith) (omega arith) (omega (arith, g .ready .blocks)) (omega (arith, g .ready .loops))
 
       module _ {w3 : List ℕ} {s3 : Step}
           (d3 : Leaf w2 (inner p) s2 w3 (inner p) s3 (both (some-registers (1 + word-of (fields t) i 0)) (uses (word-of (fields t) i 0) (word-of (fields t) i 0) 0)) (open-function i (tokens-at (fields t) i 1 (1 + 2 * word-of (fields t) i 0))) × Small s3) where
-        ask-body : AskBody t w3 (inner p) s3 i (1 + 2 * word-of (fields t) i 0)
-        ask-body =
+        ask-body : {d : ℕ} → Behind (fields t) i (1 + 2 * word-of (fields t) i 0) d → AskBody t w3 (inner p) s3 i (1 + 2 * word-of (fields t) i 0) d
+        ask-body b =
             let n = function-size x in
             let y = stand (size-stmts (stmts-at (fields t) i (1 + 2 * word-of (fields t) i 0) (count-of (fields t) i))) 2 0 (from at-open ▹ d3 .0 .moves) (omega arith) (omega arith) (omega arith) (omega arith) in
-            (record { ready = y; known = g .known; ends = omega arith; each = x .body }, omega (arith, g .ready .blocks), x .size, d3 .1)
+            (record { ready = y; known = g .known; ends = omega arith; each = x .body; behind = b }, omega (arith, g .ready .blocks), x .size, d3 .1)
 
         module _ {o w4 o4 : List ℕ} {s4 : Step} (d4 : LowersBody t i (1 + 2 * word-of (fields t) i 0) w3 o (inner p) s3 w4 o4 s4) where
           at-end : Fine w4 (inner p) s4 × Leavable w4 p × Room w4 p (cut-step s4 (s1 .code)) 0 2 0 × while-going (s4 .outcome) ((s1 .code ≤ s4 .code) × (s1 .result < 255))
@@ -94,10 +103,12 @@ module _ {t w : List ℕ} {p : Scope} {s : Step} {i : ℕ} (g : GivenExpr t w p 
 
 -- what each function that is called asks and promises; a member of the cycle at a smaller measure
 abbrev pub claims : ℕ → lts.Claims
-claims t = (words-of-reads.Asked, words-of-reads.Learnt, payload-of-reads.Asked, payload-of-reads.Learnt, next-register-reads.Asked, next-register-reads.Learnt, enter-function-reads.Asked, enter-function-reads.Learnt, open-function-reads.Asked, open-function-reads.Learnt, body-below t, body.Post, first-mark-reads.Asked, first-mark-reads.Learnt, end-function-reads.Asked, end-function-reads.Learnt)
+claims t = (params-of-reads.Asked, params-of-reads.Learnt, payload-of-reads.Asked, payload-of-reads.Learnt, next-register-reads.Asked, next-register-reads.Learnt, enter-function-reads.Asked, enter-function-reads.Learnt, open-function-reads.Asked, open-function-reads.Learnt, body-below t, body.Post, first-mark-reads.Asked, first-mark-reads.Learnt, end-function-reads.Asked, end-function-reads.Learnt)
 
-pub words-of-requires : (t : ℕ) → lts.Need-words-of-requires (claims t) (function-at t) function.Post
-words-of-requires t c κs = readable ((c .before .before .before .before) .pre .1 .0 .ready) ((c .before .before .before .before) .pre .1 .0 .known)
+pub params-of-requires : (t : ℕ) → lts.Need-params-of-requires (claims t) (function-at t) function.Post
+params-of-requires t c κs =
+    let g = (c .before .before .before .before) .pre .1 .0 in
+    (readable (g .ready) (g .known) .0, readable (g .ready) (g .known) .1, function-stands (g .ready .lawful) (g .known) ((c .before .before .before .before) .pre .1 .1) .0)
 
 pub payload-of-requires : (t : ℕ) → lts.Need-payload-of-requires (claims t) (function-at t) function.Post
 payload-of-requires t c κs = readable ((c .before .before .before .before .before .before) .pre .1 .0 .ready) ((c .before .before .before .before .before .before) .pre .1 .0 .known)
@@ -114,46 +125,53 @@ pub open-function-requires : (t : ℕ) → lts.Need-open-function-requires (clai
 open-function-requires t c κs =
     let g = (c .before .before .before .before .before .before .before .before .before .before .before .before .before .before .before .before) .pre .1 .0 in
     let x = a-function (g .ready .lawful) (g .known) ((c .before .before .before .before .before .before .before .before .before .before .before .before .before .before .before .before) .pre .1 .1) in
+    let k = function-stands (g .ready .lawful) (g .known) ((c .before .before .before .before .before .before .before .before .before .before .before .before .before .before .before .before) .pre .1 .1) in
     let y = at-open g x ((c .before .before .before .before .before .before .before .before .before .before .before .before .before .before .before .before) .pre .1 .2) ((c .before .before .before .before .before .before .before .next-register) .ensures) ((c .before .before .before .enter-function) .ensures .1) in
     let z = stand 0 0 0 (from y) (omega arith) (omega arith) (omega arith) (omega arith) in
-    rw ((c .before .before .before .enter-function) .ensures .0, (c .before .before .before .before .before .before .before .before .before .before .before .words-of) .ensures .0, (c .before .before .before .before .before .before .before .before .before .payload-of) .ensures) (z .fine, z .room, x .size)
+    rw ((c .before .before .before .enter-function) .ensures .0, (c .before .before .before .before .before .before .before .before .before .before .before .params-of) .ensures .0) (z .fine, z .room, (lit< tt, rw ((c .before .before .before .before .before .before .before .before .before .before .before .params-of) .ensures .0) at ((c .before .before .before .before .before .before .before .before .before .before .before .params-of) .ensures .1)))
 
 pub mul-body : (t : ℕ) → lts.Need-mul-body (claims t) (function-at t) function.Post
-mul-body t c = omega (arith, (c .before .before .before .before .before .before .before .before .before .before .before .before .before .before .before .before .before .words-of) .ensures .1)
+mul-body t c = omega (arith, (c .before .before .before .before .before .before .before .before .before .before .before .before .before .before .before .before .params-of) .ensures .1)
 
 pub add-body : (t : ℕ) → lts.Need-add-body (claims t) (function-at t) function.Post
-add-body t c = omega (arith, (c .before .before .before .before .before .before .before .before .before .before .before .before .before .before .before .before .before .words-of) .ensures .1)
+add-body t c = omega (arith, (c .before .before .before .before .before .before .before .before .before .before .before .before .before .before .before .before .params-of) .ensures .1)
+
+pub mul-body-2 : (t : ℕ) → lts.Need-mul-body-2 (claims t) (function-at t) function.Post
+mul-body-2 t c = omega (arith, few-more _ _ ((c .before .before .before .before .before .before .before .before .before .before .before .before .before .before .before .before .params-of) .ensures .1) (narrow-or-wide ((c .before .before .before .before .before .before .before .before .before .before .before .before .before .before .before .before .before .before .before .before .before) .pre .1 .0 .ready)))
 
 pub body-requires : (t : ℕ) → lts.Need-body-requires (claims t) (function-at t) function.Post
 body-requires t c κs =
-    let g = (c .before .before .before .before .before .before .before .before .before .before .before .before .before .before .before .before .before .before .before .before .before .before) .pre .1 .0 in
-    let x = a-function (g .ready .lawful) (g .known) ((c .before .before .before .before .before .before .before .before .before .before .before .before .before .before .before .before .before .before .before .before .before .before) .pre .1 .1) in
-    let o = opened _ _ _ ((c .before .before .before .before .before .before .before .before .before .before .before .before .before .before .before .payload-of) .ensures) (rw ((c .before .before .before .before .before .before .before .before .before .enter-function) .ensures .0, (c .before .before .before .before .before .before .before .before .before .before .before .before .before .before .before .before .before .words-of) .ensures .0) at ((c .before .before .before .before .before .open-function) .ensures)) in
-    rw ((c .before .before .before .before .before .before .before .before .before .enter-function) .ensures .0, (c .before .before .before .before .before .before .before .before .before .before .before .before .before .before .before .before .before .words-of) .ensures .0) (omega (arith, (c .before .before .before .before .before .before .before .before .before .before .before .before .before .before .before .before .before .before .before .before .before .before) .pre .0), ask-body g x ((c .before .before .before .before .before .before .before .before .before .before .before .before .before .before .before .before .before .before .before .before .before .before) .pre .1 .2) ((c .before .before .before .before .before .before .before .before .before .before .before .before .before .next-register) .ensures) ((c .before .before .before .before .before .before .before .before .before .enter-function) .ensures .1) o)
+    let g = (c .before .before .before .before .before .before .before .before .before .before .before .before .before .before .before .before .before .before .before .before .before) .pre .1 .0 in
+    let x = a-function (g .ready .lawful) (g .known) ((c .before .before .before .before .before .before .before .before .before .before .before .before .before .before .before .before .before .before .before .before .before) .pre .1 .1) in
+    let k = function-stands (g .ready .lawful) (g .known) ((c .before .before .before .before .before .before .before .before .before .before .before .before .before .before .before .before .before .before .before .before .before) .pre .1 .1) in
+    let o = opened _ _ _ (g .ready .width) ((c .before .before .before .before .before .before .before .before .before .before .before .before .before .before .payload-of) .ensures) (k .1) (rw ((c .before .before .before .before .before .before .before .before .enter-function) .ensures .0, (c .before .before .before .before .before .before .before .before .before .before .before .before .before .before .before .before .params-of) .ensures .0) at ((c .before .before .before .before .open-function) .ensures)) in
+    rw ((c .before .before .before .before .before .before .before .before .enter-function) .ensures .0, (c .before .before .before .before .before .before .before .before .before .before .before .before .before .before .before .before .params-of) .ensures .0) (omega (arith, (c .before .before .before .before .before .before .before .before .before .before .before .before .before .before .before .before .before .before .before .before .before) .pre .0), ask-body g x ((c .before .before .before .before .before .before .before .before .before .before .before .before .before .before .before .before .before .before .before .before .before) .pre .1 .2) ((c .before .before .before .before .before .before .before .before .before .before .before .before .next-register) .ensures) ((c .before .before .before .before .before .before .before .before .enter-function) .ensures .1) o (body-behind _ (g .ready) (k .2)))
 
 pub first-mark-requires : (t : ℕ) → lts.Need-first-mark-requires (claims t) (function-at t) function.Post
 first-mark-requires t c κs = tt
 
 pub end-function-requires : (t : ℕ) → lts.Need-end-function-requires (claims t) (function-at t) function.Post
 end-function-requires t c κs =
-    let g = (c .before .before .before .before .before .before .before .before .before .before .before .before .before .before .before .before .before .before .before .before .before .before .before .before .before .before .before .before .before .before) .pre .1 .0 in
-    let x = a-function (g .ready .lawful) (g .known) ((c .before .before .before .before .before .before .before .before .before .before .before .before .before .before .before .before .before .before .before .before .before .before .before .before .before .before .before .before .before .before) .pre .1 .1) in
-    let o = opened _ _ _ ((c .before .before .before .before .before .before .before .before .before .before .before .before .before .before .before .before .before .before .before .before .before .before .before .payload-of) .ensures) (rw ((c .before .before .before .before .before .before .before .before .before .before .before .before .before .before .before .before .before .enter-function) .ensures .0, (c .before .before .before .before .before .before .before .before .before .before .before .before .before .before .before .before .before .before .before .before .before .before .before .before .before .words-of) .ensures .0) at ((c .before .before .before .before .before .before .before .before .before .before .before .before .before .open-function) .ensures)) in
-    let b = rw ((c .before .before .before .before .before .before .before .before .before .before .before .before .before .before .before .before .before .enter-function) .ensures .0, (c .before .before .before .before .before .before .before .before .before .before .before .before .before .before .before .before .before .before .before .before .before .before .before .before .before .words-of) .ensures .0) at ((c .before .before .before .before .before .before .before .body) .ensures) in
-    let y = at-end g x ((c .before .before .before .before .before .before .before .before .before .before .before .before .before .before .before .before .before .before .before .before .before .before .before .before .before .before .before .before .before .before) .pre .1 .2) ((c .before .before .before .before .before .before .before .before .before .before .before .before .before .before .before .before .before .before .before .before .before .next-register) .ensures) ((c .before .before .before .before .before .before .before .before .before .before .before .before .before .before .before .before .before .enter-function) .ensures .1) o b in
-    (y .0, y .1, y .2, y .3, (c .before .before .before .before .before .before .before .before .before .before .before .before .before .before .before .before .before .before .before .before .before .before .before .before .before .words-of) .ensures .1)
+    let g = (c .before .before .before .before .before .before .before .before .before .before .before .before .before .before .before .before .before .before .before .before .before .before .before .before .before .before .before .before .before) .pre .1 .0 in
+    let x = a-function (g .ready .lawful) (g .known) ((c .before .before .before .before .before .before .before .before .before .before .before .before .before .before .before .before .before .before .before .before .before .before .before .before .before .before .before .before .before) .pre .1 .1) in
+    let k = function-stands (g .ready .lawful) (g .known) ((c .before .before .before .before .before .before .before .before .before .before .before .before .before .before .before .before .before .before .before .before .before .before .before .before .before .before .before .before .before) .pre .1 .1) in
+    let o = opened _ _ _ (g .ready .width) ((c .before .before .before .before .before .before .before .before .before .before .before .before .before .before .before .before .before .before .before .before .before .before .payload-of) .ensures) (k .1) (rw ((c .before .before .before .before .before .before .before .before .before .before .before .before .before .before .before .before .enter-function) .ensures .0, (c .before .before .before .before .before .before .before .before .before .before .before .before .before .before .before .before .before .before .before .before .before .before .before .before .params-of) .ensures .0) at ((c .before .before .before .before .before .before .before .before .before .before .before .before .open-function) .ensures)) in
+    let b = rw ((c .before .before .before .before .before .before .before .before .before .before .before .before .before .before .before .before .enter-function) .ensures .0, (c .before .before .before .before .before .before .before .before .before .before .before .before .before .before .before .before .before .before .before .before .before .before .before .before .params-of) .ensures .0) at ((c .before .before .before .before .before .before .before .body) .ensures) in
+    let y = at-end g x ((c .before .before .before .before .before .before .before .before .before .before .before .before .before .before .before .before .before .before .before .before .before .before .before .before .before .before .before .before .before) .pre .1 .2) ((c .before .before .before .before .before .before .before .before .before .before .before .before .before .before .before .before .before .before .before .before .next-register) .ensures) ((c .before .before .before .before .before .before .before .before .before .before .before .before .before .before .before .before .enter-function) .ensures .1) o b in
+    (y .0, y .1, y .2, y .3, (c .before .before .before .before .before .before .before .before .before .before .before .before .before .before .before .before .before .before .before .before .before .before .before .before .params-of) .ensures .1)
 
 pub same-length : (t : ℕ) → lts.Need-same-length (claims t) (function-at t) function.Post
-same-length t c = (c .before .before .before .before .end-function) .ensures .0 .leaves .kept .same ∙ (c .before .before .before .before .before .before .before .before .before .before .before .before .body) .ensures .moves .kept .same ∙ (c .before .before .before .before .before .before .before .before .before .before .before .before .before .before .before .before .before .before .open-function) .ensures .0 .moves .kept .same ∙ (c .before .before .before .before .before .before .before .before .before .before .before .before .before .before .before .before .before .before .before .before .before .before .enter-function) .ensures .1 .leaf .moves .kept .same ∙ (c .before .before .before .before .before .before .before .before .before .before .before .before .before .before .before .before .before .before .before .before .before .before .before .before .before .before .next-register) .ensures .0 .moves .kept .same
+same-length t c = (c .before .before .before .before .end-function) .ensures .0 .leaves .kept .same ∙ (c .before .before .before .before .before .before .before .before .before .before .before .before .body) .ensures .moves .kept .same ∙ (c .before .before .before .before .before .before .before .before .before .before .before .before .before .before .before .before .before .open-function) .ensures .0 .moves .kept .same ∙ (c .before .before .before .before .before .before .before .before .before .before .before .before .before .before .before .before .before .before .before .before .before .enter-function) .ensures .1 .leaf .moves .kept .same ∙ (c .before .before .before .before .before .before .before .before .before .before .before .before .before .before .before .before .before .before .before .before .before .before .before .before .before .next-register) .ensures .0 .moves .kept .same
 
 pub same-length-2 : (t : ℕ) → lts.Need-same-length-2 (claims t) (function-at t) function.Post
 same-length-2 t c = (c .before .before .before .before .end-function) .ensures .0 .same ∙ (c .before .before .before .before .before .before .before .before .before .before .before .before .body) .ensures .same
 
 pub returns : (t : ℕ) → lts.Need-returns (claims t) (function-at t) function.Post
 returns t c =
-    let g = (c .before .before .before .before .before .before .before .before .before .before .before .before .before .before .before .before .before .before .before .before .before .before .before .before .before .before .before .before .before .before .before .before .before .before .before) .pre .1 .0 in
-    let x = a-function (g .ready .lawful) (g .known) ((c .before .before .before .before .before .before .before .before .before .before .before .before .before .before .before .before .before .before .before .before .before .before .before .before .before .before .before .before .before .before .before .before .before .before .before) .pre .1 .1) in
-    let o = opened _ _ _ ((c .before .before .before .before .before .before .before .before .before .before .before .before .before .before .before .before .before .before .before .before .before .before .before .before .before .before .before .before .payload-of) .ensures) (rw ((c .before .before .before .before .before .before .before .before .before .before .before .before .before .before .before .before .before .before .before .before .before .before .enter-function) .ensures .0, (c .before .before .before .before .before .before .before .before .before .before .before .before .before .before .before .before .before .before .before .before .before .before .before .before .before .before .before .before .before .before .words-of) .ensures .0) at ((c .before .before .before .before .before .before .before .before .before .before .before .before .before .before .before .before .before .before .open-function) .ensures)) in
-    let b = rw ((c .before .before .before .before .before .before .before .before .before .before .before .before .before .before .before .before .before .before .before .before .before .before .enter-function) .ensures .0, (c .before .before .before .before .before .before .before .before .before .before .before .before .before .before .before .before .before .before .before .before .before .before .before .before .before .before .before .before .before .before .words-of) .ensures .0) at ((c .before .before .before .before .before .before .before .before .before .before .before .before .body) .ensures) in
-    let m = marked _ _ _ ((c .before .before .before .before .before .before .before .before .before .before .before .before .before .before .before .before .before .before .before .before .before .before .before .before .before .before .before .before .payload-of) .ensures) (rw ((c .before .before .before .before .before .before .before .before .before .before .before .before .before .before .before .before .before .before .before .before .before .before .before .before .before .before .before .before .before .before .words-of) .ensures .0) at ((c .before .before .before .before .before .first-mark) .ensures)) (x .size) in
-    lowers g x ((c .before .before .before .before .before .before .before .before .before .before .before .before .before .before .before .before .before .before .before .before .before .before .before .before .before .before .before .before .before .before .before .before .before .before .before) .pre .1 .2) ((c .before .before .before .before .before .before .before .before .before .before .before .before .before .before .before .before .before .before .before .before .before .before .before .before .before .before .next-register) .ensures) ((c .before .before .before .before .before .before .before .before .before .before .before .before .before .before .before .before .before .before .before .before .before .before .enter-function) .ensures .1) o b (rw ((c .before .before .before .before .before .before .before .before .before .before .before .before .before .before .before .before .before .before .before .before .before .before .before .before .before .before .before .before .before .before .words-of) .ensures .0, m) at ((c .before .before .before .before .end-function) .ensures))
+    let g = (c .before .before .before .before .before .before .before .before .before .before .before .before .before .before .before .before .before .before .before .before .before .before .before .before .before .before .before .before .before .before .before .before .before .before) .pre .1 .0 in
+    let x = a-function (g .ready .lawful) (g .known) ((c .before .before .before .before .before .before .before .before .before .before .before .before .before .before .before .before .before .before .before .before .before .before .before .before .before .before .before .before .before .before .before .before .before .before) .pre .1 .1) in
+    let k = function-stands (g .ready .lawful) (g .known) ((c .before .before .before .before .before .before .before .before .before .before .before .before .before .before .before .before .before .before .before .before .before .before .before .before .before .before .before .before .before .before .before .before .before .before) .pre .1 .1) in
+    let o = opened _ _ _ (g .ready .width) ((c .before .before .before .before .before .before .before .before .before .before .before .before .before .before .before .before .before .before .before .before .before .before .before .before .before .before .before .payload-of) .ensures) (k .1) (rw ((c .before .before .before .before .before .before .before .before .before .before .before .before .before .before .before .before .before .before .before .before .before .enter-function) .ensures .0, (c .before .before .before .before .before .before .before .before .before .before .before .before .before .before .before .before .before .before .before .before .before .before .before .before .before .before .before .before .before .params-of) .ensures .0) at ((c .before .before .before .before .before .before .before .before .before .before .before .before .before .before .before .before .before .open-function) .ensures)) in
+    let b = rw ((c .before .before .before .before .before .before .before .before .before .before .before .before .before .before .before .before .before .before .before .before .before .enter-function) .ensures .0, (c .before .before .before .before .before .before .before .before .before .before .before .before .before .before .before .before .before .before .before .before .before .before .before .before .before .before .before .before .before .params-of) .ensures .0) at ((c .before .before .before .before .before .before .before .before .before .before .before .before .body) .ensures) in
+    let m = marked _ _ _ _ (g .ready .width) ((c .before .before .before .before .before .before .before .before .before .before .before .before .before .before .before .before .before .before .before .before .before .before .before .before .before .before .before .payload-of) .ensures) (k .1) (rw ((c .before .before .before .before .before .before .before .before .before .before .before .before .before .before .before .before .before .before .before .before .before .before .before .before .before .before .before .before .before .params-of) .ensures .0) at ((c .before .before .before .before .before .first-mark) .ensures)) in
+    lowers g x ((c .before .before .before .before .before .before .before .before .before .before .before .before .before .before .before .before .before .before .before .before .before .before .before .before .before .before .before .before .before .before .before .before .before .before) .pre .1 .2) ((c .before .before .before .before .before .before .before .before .before .before .before .before .before .before .before .before .before .before .before .before .before .before .before .before .before .next-register) .ensures) ((c .before .before .before .before .before .before .before .before .before .before .before .before .before .before .before .before .before .before .before .before .before .enter-function) .ensures .1) o b (rw ((c .before .before .before .before .before .before .before .before .before .before .before .before .before .before .before .before .before .before .before .before .before .before .before .before .before .before .before .before .before .params-of) .ensures .0, m) at ((c .before .before .before .before .end-function) .ensures))

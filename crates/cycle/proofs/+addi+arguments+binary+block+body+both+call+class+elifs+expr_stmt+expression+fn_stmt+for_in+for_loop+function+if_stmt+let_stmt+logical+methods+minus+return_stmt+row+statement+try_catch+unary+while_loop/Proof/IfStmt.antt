@@ -9,17 +9,17 @@ use Rattle.code.proofs.end_branch.Reads as end-branch-reads
 use Rattle.code.proofs.end_if.Reads as end-if-reads
 use Rattle.code.proofs.test_and_jump.Reads as test-and-jump-reads
 use Rattle.cycle.proofs.reading.branches_of.Reads as branches-of-reads
-use Rattle.cycle.proofs.reading.words_of.Reads as words-of-reads
+use Rattle.cycle.proofs.reading.three_of.Reads as three-of-reads
 use Rattle.cycle.proofs.+addi+arguments+binary+block+body+both+call+class+elifs+expr_stmt+expression+fn_stmt+for_in+for_loop+function+if_stmt+let_stmt+logical+methods+minus+return_stmt+row+statement+try_catch+unary+while_loop.Proof.Order.{elifs-below, expression-below, if-stmt-at, row-below}
-use Rattle.cycle.proofs.Nodes.{an-if}
+use Rattle.cycle.proofs.Nodes.{an-if, behind-here, behind-later, if-stands}
 use Rattle.cycle.proofs.Visited.{if-visits}
 use Rattle.cycle.proofs.Sizes.{if-size}
-use Rattle.cycle.proofs.Way.{_▹_, adds, arrive, ends, from, give-expr, give-row, meanwhile, next, next-leaf, readable, sets, stand, twice}
+use Rattle.cycle.proofs.Way.{_▹_, adds, arrive, ends, from, give-expr, give-row, headed, meanwhile, narrow-or-wide, next, next-leaf, readable, sets, stand, twice}
 use Rattle.cycle.specs.Cycle.{AskElifs, AskExpr, AskRow, GivenStmt, LowersElifs, LowersExpr, LowersRow, UnderStmt}
 use Rattle.forward.proofs.Chains.{if-chain}
 use Rattle.forward.specs.Forward.{end-branch, end-if, sure, test-and-jump}
 use Rattle.meaning.proofs.Reading.{If}
-use Rattle.meaning.specs.At.{count-of, word-of}
+use Rattle.meaning.specs.At.{Behind, count-of, word-of}
 use Rattle.meaning.specs.Fields.{fields}
 use Rattle.meaning.specs.Lower.{lower-expr}
 use Rattle.store.proofs.Compose.{known}
@@ -46,8 +46,8 @@ module _ {t w : List ℕ} {p : Scope} {s : Step} {i n m : ℕ} (g : GivenStmt t 
         (y .fine, y .room, meanwhile (s1 .outcome) ((s1 .result < 256) × (0 < 256)) λ e. let v = due (s1 .outcome) (d1 .small) e in (omega arith, omega arith))
 
     module _ {w2 : List ℕ} {s2 : Step} (d2 : Leaf w1 p s1 w2 p s2 (uses 4 0 0) (sure (test-and-jump 0 (word-of (fields t) i 0)))) where
-      thens : AskRow t w2 p s2 i 3 (3 + n)
-      thens = let z = if-size x in give-row (from (g .ready) ▹ d1 .does .moves ▹ d2 .moves) (g .known) 3 (3 + n) (omega (arith, x .size)) (x .then-each) (omega arith) (omega arith) (omega arith) (omega arith)
+      thens : {d : ℕ} → Behind (fields t) i 1 d → AskRow t w2 p s2 i 3 (3 + n) d
+      thens b = let z = if-size x in give-row (from (g .ready) ▹ d1 .does .moves ▹ d2 .moves) (g .known) 3 (3 + n) (omega (arith, x .size)) (x .then-each) (omega arith) (omega arith) (omega arith) (omega arith) (behind-later 3 (omega arith) b)
 
       module _ {w3 o3 : List ℕ} {s3 : Step} (d3 : LowersRow t i 3 (3 + n) w2 o1 p s2 w3 o3 s3) where
         at-branch : Fine w3 p s3 × Room w3 p s3 0 2 0 × while-going (s3 .outcome) (s1 .code + 2 ≤ s3 .code)
@@ -63,21 +63,22 @@ module _ {t w : List ℕ} {p : Scope} {s : Step} {i n m : ℕ} (g : GivenStmt t 
             )
 
         module _ {w4 : List ℕ} {s4 : Step} (d4 : Leaf w3 p s3 w4 p s4 (uses 2 0 0) (sure (end-branch (s1 .code) (word-of (fields t) i 0)))) where
-          others : AskElifs t w4 p s4 i (4 + n) (4 + n + m)
-          others =
+          others : {d : ℕ} → Behind (fields t) i 1 d → AskElifs t w4 p s4 i (4 + n) (4 + n + m) d
+          others b =
               let z = if-size x in
               record {
                 ready = stand _ 0 0 (from (g .ready) ▹ d1 .does .moves ▹ d2 .moves ▹ d3 .does .moves ▹ d4 .moves) (omega arith) (omega arith) (omega arith) (omega arith);
                 known = g .known;
                 ends = x .size;
                 each = x .elif-each;
+                behind = behind-later (4 + n) (omega arith) b;
               }
 
           module _ {w5 o5 : List ℕ} {s5 : Step} (d5 : LowersElifs t i (4 + n) (4 + n + m) w4 o3 p s4 w5 o5 s5) where
-            elses : AskRow t w5 p s5 i (4 + n + m) (count-of (fields t) i)
-            elses =
+            elses : {d : ℕ} → Behind (fields t) i 1 d → AskRow t w5 p s5 i (4 + n + m) (count-of (fields t) i) d
+            elses b =
                 let z = if-size x in
-                give-row (from (g .ready) ▹ d1 .does .moves ▹ d2 .moves ▹ d3 .does .moves ▹ d4 .moves ▹ d5 .does .moves) (g .known) (4 + n + m) _ (omega arith) (x .else-each) (omega arith) (omega arith) (omega arith) (omega arith)
+                give-row (from (g .ready) ▹ d1 .does .moves ▹ d2 .moves ▹ d3 .does .moves ▹ d4 .moves ▹ d5 .does .moves) (g .known) (4 + n + m) _ (omega arith) (x .else-each) (omega arith) (omega arith) (omega arith) (omega arith) (behind-later (4 + n + m) (omega arith) b)
 
             module _ {w6 o6 : List ℕ} {s6 : Step} (d6 : LowersRow t i (4 + n + m) (count-of (fields t) i) w5 o5 p s5 w6 o6 s6) where
               at-end : Fine w6 p s6 × while-going (s6 .outcome) (s .code ≤ s6 .code)
@@ -107,35 +108,37 @@ after-thens n = omega arith
 
 -- what each function that is called asks and promises; a member of the cycle at a smaller measure
 abbrev pub claims : ℕ → lts.Claims
-claims t = (words-of-reads.Asked, words-of-reads.Learnt, branches-of-reads.Asked, branches-of-reads.Learnt, expression-below t, expression.Post, test-and-jump-reads.Asked, test-and-jump-reads.Learnt, row-below t, row.Post, end-branch-reads.Asked, end-branch-reads.Learnt, elifs-below t, elifs.Post, end-if-reads.Asked, end-if-reads.Learnt)
+claims t = (three-of-reads.Asked, three-of-reads.Learnt, branches-of-reads.Asked, branches-of-reads.Learnt, expression-below t, expression.Post, test-and-jump-reads.Asked, test-and-jump-reads.Learnt, row-below t, row.Post, end-branch-reads.Asked, end-branch-reads.Learnt, elifs-below t, elifs.Post, end-if-reads.Asked, end-if-reads.Learnt)
 
-pub words-of-requires : (t : ℕ) → lts.Need-words-of-requires (claims t) (if-stmt-at t) if-stmt.Post
-words-of-requires t c κs = readable ((c .before .before .before .before) .pre .1 .0 .ready) ((c .before .before .before .before) .pre .1 .0 .known)
+pub three-of-requires : (t : ℕ) → lts.Need-three-of-requires (claims t) (if-stmt-at t) if-stmt.Post
+three-of-requires t c κs = headed ((c .before .before .before .before) .pre .1 .0 .ready) ((c .before .before .before .before) .pre .1 .0 .known) (if-stands ((c .before .before .before .before) .pre .1 .0 .ready .lawful) ((c .before .before .before .before) .pre .1 .0 .known) ((c .before .before .before .before) .pre .1 .1) .0)
 
 pub branches-of-requires : (t : ℕ) → lts.Need-branches-of-requires (claims t) (if-stmt-at t) if-stmt.Post
-branches-of-requires t c κs = readable ((c .before .before .before .before .before .before) .pre .1 .0 .ready) ((c .before .before .before .before .before .before) .pre .1 .0 .known)
+branches-of-requires t c κs =
+    let g = (c .before .before .before .before .before .before) .pre .1 .0 in
+    (readable (g .ready) (g .known) .0, readable (g .ready) (g .known) .1, behind-here (g .ready) (if-stands (g .ready .lawful) (g .known) ((c .before .before .before .before .before .before) .pre .1 .1) .1), narrow-or-wide (g .ready))
 
 pub expression-requires : (t : ℕ) → lts.Need-expression-requires (claims t) (if-stmt-at t) if-stmt.Post
 expression-requires t c κs =
     let g = (c .before .before .before .before .before .before .before .before .before) .pre .1 .0 in
     let x = an-if (g .ready .lawful) (g .known) ((c .before .before .before .before .before .before .before .before .before) .pre .1 .1) in
-    rw ((c .before .before .before .before .words-of) .ensures .0) (omega (arith, (c .before .before .before .before .before .before .before .before .before) .pre .0, x .condition .below), condition g x)
+    rw ((c .before .before .before .before .three-of) .ensures .0) (omega (arith, (c .before .before .before .before .before .before .before .before .before) .pre .0, x .condition .below), condition g x)
 
 pub test-and-jump-requires : (t : ℕ) → lts.Need-test-and-jump-requires (claims t) (if-stmt-at t) if-stmt.Post
 test-and-jump-requires t c κs =
     let g = (c .before .before .before .before .before .before .before .before .before .before .before .before .before .before .before) .pre .1 .0 in
-    at-test g (an-if (g .ready .lawful) (g .known) ((c .before .before .before .before .before .before .before .before .before .before .before .before .before .before .before) .pre .1 .1)) (rw ((c .before .before .before .before .before .before .before .before .before .before .words-of) .ensures .0) at ((c .before .before .before .before .before .expression) .ensures))
+    at-test g (an-if (g .ready .lawful) (g .known) ((c .before .before .before .before .before .before .before .before .before .before .before .before .before .before .before) .pre .1 .1)) (rw ((c .before .before .before .before .before .before .before .before .before .before .three-of) .ensures .0) at ((c .before .before .before .before .before .expression) .ensures))
 
 pub row-requires : (t : ℕ) → lts.Need-row-requires (claims t) (if-stmt-at t) if-stmt.Post
 row-requires t c κs =
     let g = (c .before .before .before .before .before .before .before .before .before .before .before .before .before .before .before .before .before .before .before .before) .pre .1 .0 in
-    let e = (c .before .before .before .before .before .before .before .before .before .before .before .before .before .before .before .words-of) .ensures .0 in
-    rw ((c .before .before .before .before .before .before .before .before .before .before .before .before .before .branches-of) .ensures .0) (omega (arith, (c .before .before .before .before .before .before .before .before .before .before .before .before .before .before .before .before .before .before .before .before) .pre .0), thens g (an-if (g .ready .lawful) (g .known) ((c .before .before .before .before .before .before .before .before .before .before .before .before .before .before .before .before .before .before .before .before) .pre .1 .1)) (rw e at ((c .before .before .before .before .before .before .before .before .before .before .expression) .ensures)) (rw e at ((c .before .before .before .before .test-and-jump) .ensures)))
+    let e = (c .before .before .before .before .before .before .before .before .before .before .before .before .before .before .before .three-of) .ensures .0 in
+    rw ((c .before .before .before .before .before .before .before .before .before .before .before .before .before .branches-of) .ensures .0) (omega (arith, (c .before .before .before .before .before .before .before .before .before .before .before .before .before .before .before .before .before .before .before .before) .pre .0), thens g (an-if (g .ready .lawful) (g .known) ((c .before .before .before .before .before .before .before .before .before .before .before .before .before .before .before .before .before .before .before .before) .pre .1 .1)) (rw e at ((c .before .before .before .before .before .before .before .before .before .before .expression) .ensures)) (rw e at ((c .before .before .before .before .test-and-jump) .ensures)) (behind-here (g .ready) (if-stands (g .ready .lawful) (g .known) ((c .before .before .before .before .before .before .before .before .before .before .before .before .before .before .before .before .before .before .before .before) .pre .1 .1) .1)))
 
 pub end-branch-requires : (t : ℕ) → lts.Need-end-branch-requires (claims t) (if-stmt-at t) if-stmt.Post
 end-branch-requires t c κs =
     let g = (c .before .before .before .before .before .before .before .before .before .before .before .before .before .before .before .before .before .before .before .before .before .before .before .before .before .before) .pre .1 .0 in
-    let e = (c .before .before .before .before .before .before .before .before .before .before .before .before .before .before .before .before .before .before .before .before .before .words-of) .ensures .0 in
+    let e = (c .before .before .before .before .before .before .before .before .before .before .before .before .before .before .before .before .before .before .before .before .before .three-of) .ensures .0 in
     at-branch g (an-if (g .ready .lawful) (g .known) ((c .before .before .before .before .before .before .before .before .before .before .before .before .before .before .before .before .before .before .before .before .before .before .before .before .before .before) .pre .1 .1)) (rw e at ((c .before .before .before .before .before .before .before .before .before .before .before .before .before .before .before .before .expression) .ensures)) (rw e at ((c .before .before .before .before .before .before .before .before .before .before .test-and-jump) .ensures)) (rw ((c .before .before .before .before .before .before .before .before .before .before .before .before .before .before .before .before .before .before .before .branches-of) .ensures .0) at ((c .before .before .before .before .before .row) .ensures))
 
 pub add-elifs : (t : ℕ) → lts.Need-add-elifs (claims t) (if-stmt-at t) if-stmt.Post
@@ -144,26 +147,26 @@ add-elifs t c = omega (arith, (c .before .before .before .before .before .before
 pub elifs-requires : (t : ℕ) → lts.Need-elifs-requires (claims t) (if-stmt-at t) if-stmt.Post
 elifs-requires t c κs =
     let g = (c .before .before .before .before .before .before .before .before .before .before .before .before .before .before .before .before .before .before .before .before .before .before .before .before .before .before .before .before .before .before .before .before) .pre .1 .0 in
-    let e = (c .before .before .before .before .before .before .before .before .before .before .before .before .before .before .before .before .before .before .before .before .before .before .before .before .before .before .before .words-of) .ensures .0 in
+    let e = (c .before .before .before .before .before .before .before .before .before .before .before .before .before .before .before .before .before .before .before .before .before .before .before .before .before .before .before .three-of) .ensures .0 in
     let b = (c .before .before .before .before .before .before .before .before .before .before .before .before .before .before .before .before .before .before .before .before .before .before .before .before .before .branches-of) .ensures .0 in
     rw (b, after-thens (word-of (fields (now ((c .before .before .before .before .before .before .before .before .before .before .before .before .before .before .before .before .before .before .before .before .before .before .before .before .before .before .before .before .before .before .before .before) .args .tree))) ((c .before .before .before .before .before .before .before .before .before .before .before .before .before .before .before .before .before .before .before .before .before .before .before .before .before .before .before .before .before .before .before .before) .args .node) 2))
-    (omega (arith, (c .before .before .before .before .before .before .before .before .before .before .before .before .before .before .before .before .before .before .before .before .before .before .before .before .before .before .before .before .before .before .before .before) .pre .0), others g (an-if (g .ready .lawful) (g .known) ((c .before .before .before .before .before .before .before .before .before .before .before .before .before .before .before .before .before .before .before .before .before .before .before .before .before .before .before .before .before .before .before .before) .pre .1 .1)) (rw e at ((c .before .before .before .before .before .before .before .before .before .before .before .before .before .before .before .before .before .before .before .before .before .before .expression) .ensures)) (rw e at ((c .before .before .before .before .before .before .before .before .before .before .before .before .before .before .before .before .test-and-jump) .ensures)) (rw (b) at ((c .before .before .before .before .before .before .before .before .before .before .before .row) .ensures)) (rw e at ((c .before .before .before .before .before .end-branch) .ensures)))
+    (omega (arith, (c .before .before .before .before .before .before .before .before .before .before .before .before .before .before .before .before .before .before .before .before .before .before .before .before .before .before .before .before .before .before .before .before) .pre .0), others g (an-if (g .ready .lawful) (g .known) ((c .before .before .before .before .before .before .before .before .before .before .before .before .before .before .before .before .before .before .before .before .before .before .before .before .before .before .before .before .before .before .before .before) .pre .1 .1)) (rw e at ((c .before .before .before .before .before .before .before .before .before .before .before .before .before .before .before .before .before .before .before .before .before .before .expression) .ensures)) (rw e at ((c .before .before .before .before .before .before .before .before .before .before .before .before .before .before .before .before .test-and-jump) .ensures)) (rw (b) at ((c .before .before .before .before .before .before .before .before .before .before .before .row) .ensures)) (rw e at ((c .before .before .before .before .before .end-branch) .ensures)) (behind-here (g .ready) (if-stands (g .ready .lawful) (g .known) ((c .before .before .before .before .before .before .before .before .before .before .before .before .before .before .before .before .before .before .before .before .before .before .before .before .before .before .before .before .before .before .before .before) .pre .1 .1) .1)))
 
 pub row-requires-2 : (t : ℕ) → lts.Need-row-requires-2 (claims t) (if-stmt-at t) if-stmt.Post
 row-requires-2 t c κs =
     let g = (c .before .before .before .before .before .before .before .before .before .before .before .before .before .before .before .before .before .before .before .before .before .before .before .before .before .before .before .before .before .before .before .before .before .before .before .before .before .before .before) .pre .1 .0 in
-    let e = (c .before .before .before .before .before .before .before .before .before .before .before .before .before .before .before .before .before .before .before .before .before .before .before .before .before .before .before .before .before .before .before .before .before .before .words-of) .ensures .0 in
+    let e = (c .before .before .before .before .before .before .before .before .before .before .before .before .before .before .before .before .before .before .before .before .before .before .before .before .before .before .before .before .before .before .before .before .before .before .three-of) .ensures .0 in
     let b = (c .before .before .before .before .before .before .before .before .before .before .before .before .before .before .before .before .before .before .before .before .before .before .before .before .before .before .before .before .before .before .before .before .branches-of) .ensures .0 in
     rw (b) (
       omega (arith, (c .before .before .before .before .before .before .before .before .before .before .before .before .before .before .before .before .before .before .before .before .before .before .before .before .before .before .before .before .before .before .before .before .before .before .before .before .before .before .before) .pre .0),
       elses g (an-if (g .ready .lawful) (g .known) ((c .before .before .before .before .before .before .before .before .before .before .before .before .before .before .before .before .before .before .before .before .before .before .before .before .before .before .before .before .before .before .before .before .before .before .before .before .before .before .before) .pre .1 .1)) (rw e at ((c .before .before .before .before .before .before .before .before .before .before .before .before .before .before .before .before .before .before .before .before .before .before .before .before .before .before .before .before .before .expression) .ensures)) (rw e at ((c .before .before .before .before .before .before .before .before .before .before .before .before .before .before .before .before .before .before .before .before .before .before .before .test-and-jump) .ensures)) (rw (b) at ((c .before .before .before .before .before .before .before .before .before .before .before .before .before .before .before .before .before .before .row) .ensures)) (rw e at ((c .before .before .before .before .before .before .before .before .before .before .before .before .end-branch) .ensures))
-          (rw (b, after-thens (word-of (fields (now ((c .before .before .before .before .before .before .before .before .before .before .before .before .before .before .before .before .before .before .before .before .before .before .before .before .before .before .before .before .before .before .before .before .before .before .before .before .before .before .before) .args .tree))) ((c .before .before .before .before .before .before .before .before .before .before .before .before .before .before .before .before .before .before .before .before .before .before .before .before .before .before .before .before .before .before .before .before .before .before .before .before .before .before .before) .args .node) 2)) at ((c .before .before .before .before .before .before .elifs) .ensures)),
+          (rw (b, after-thens (word-of (fields (now ((c .before .before .before .before .before .before .before .before .before .before .before .before .before .before .before .before .before .before .before .before .before .before .before .before .before .before .before .before .before .before .before .before .before .before .before .before .before .before .before) .args .tree))) ((c .before .before .before .before .before .before .before .before .before .before .before .before .before .before .before .before .before .before .before .before .before .before .before .before .before .before .before .before .before .before .before .before .before .before .before .before .before .before .before) .args .node) 2)) at ((c .before .before .before .before .before .before .elifs) .ensures)) (behind-here (g .ready) (if-stands (g .ready .lawful) (g .known) ((c .before .before .before .before .before .before .before .before .before .before .before .before .before .before .before .before .before .before .before .before .before .before .before .before .before .before .before .before .before .before .before .before .before .before .before .before .before .before .before) .pre .1 .1) .1)),
     )
 
 pub end-if-requires : (t : ℕ) → lts.Need-end-if-requires (claims t) (if-stmt-at t) if-stmt.Post
 end-if-requires t c κs =
     let g = (c .before .before .before .before .before .before .before .before .before .before .before .before .before .before .before .before .before .before .before .before .before .before .before .before .before .before .before .before .before .before .before .before .before .before .before .before .before .before .before .before .before .before .before .before .before) .pre .1 .0 in
-    let e = (c .before .before .before .before .before .before .before .before .before .before .before .before .before .before .before .before .before .before .before .before .before .before .before .before .before .before .before .before .before .before .before .before .before .before .before .before .before .before .before .before .words-of) .ensures .0 in
+    let e = (c .before .before .before .before .before .before .before .before .before .before .before .before .before .before .before .before .before .before .before .before .before .before .before .before .before .before .before .before .before .before .before .before .before .before .before .before .before .before .before .before .three-of) .ensures .0 in
     let b = (c .before .before .before .before .before .before .before .before .before .before .before .before .before .before .before .before .before .before .before .before .before .before .before .before .before .before .before .before .before .before .before .before .before .before .before .before .before .before .branches-of) .ensures .0 in
     at-end g (an-if (g .ready .lawful) (g .known) ((c .before .before .before .before .before .before .before .before .before .before .before .before .before .before .before .before .before .before .before .before .before .before .before .before .before .before .before .before .before .before .before .before .before .before .before .before .before .before .before .before .before .before .before .before .before) .pre .1 .1)) (rw e at ((c .before .before .before .before .before .before .before .before .before .before .before .before .before .before .before .before .before .before .before .before .before .before .before .before .before .before .before .before .before .before .before .before .before .before .before .expression) .ensures)) (rw e at ((c .before .before .before .before .before .before .before .before .before .before .before .before .before .before .before .before .before .before .before .before .before .before .before .before .before .before .before .before .before .test-and-jump) .ensures)) (rw (b) at ((c .before .before .before .before .before .before .before .before .before .before .before .before .before .before .before .before .before .before .before .before .before .before .before .before .row) .ensures)) (rw e at ((c .before .before .before .before .before .before .before .before .before .before .before .before .before .before .before .before .before .before .end-branch) .ensures))
     (rw (b, after-thens (word-of (fields (now ((c .before .before .before .before .before .before .before .before .before .before .before .before .before .before .before .before .before .before .before .before .before .before .before .before .before .before .before .before .before .before .before .before .before .before .before .before .before .before .before .before .before .before .before .before .before) .args .tree))) ((c .before .before .before .before .before .before .before .before .before .before .before .before .before .before .before .before .before .before .before .before .before .before .before .before .before .before .before .before .before .before .before .before .before .before .before .before .before .before .before .before .before .before .before .before .before) .args .node) 2)) at ((c .before .before .before .before .before .before .before .before .before .before .before .before .elifs) .ensures)) (rw (b) at ((c .before .before .before .before .before .row2) .ensures))
@@ -179,7 +182,7 @@ same-length-2 t c = (c .before .before .before .before .before .before .before .
 pub returns : (t : ℕ) → lts.Need-returns (claims t) (if-stmt-at t) if-stmt.Post
 returns t c =
     let g = (c .before .before .before .before .before .before .before .before .before .before .before .before .before .before .before .before .before .before .before .before .before .before .before .before .before .before .before .before .before .before .before .before .before .before .before .before .before .before .before .before .before .before .before .before .before .before .before .before) .pre .1 .0 in
-    let e = (c .before .before .before .before .before .before .before .before .before .before .before .before .before .before .before .before .before .before .before .before .before .before .before .before .before .before .before .before .before .before .before .before .before .before .before .before .before .before .before .before .before .before .before .words-of) .ensures .0 in
+    let e = (c .before .before .before .before .before .before .before .before .before .before .before .before .before .before .before .before .before .before .before .before .before .before .before .before .before .before .before .before .before .before .before .before .before .before .before .before .before .before .before .before .before .before .before .three-of) .ensures .0 in
     let b = (c .before .before .before .before .before .before .before .before .before .before .before .before .before .before .before .before .before .before .before .before .before .before .before .before .before .before .before .before .before .before .before .before .before .before .before .before .before .before .before .before .before .branches-of) .ensures .0 in
     lowers g (an-if (g .ready .lawful) (g .known) ((c .before .before .before .before .before .before .before .before .before .before .before .before .before .before .before .before .before .before .before .before .before .before .before .before .before .before .before .before .before .before .before .before .before .before .before .before .before .before .before .before .before .before .before .before .before .before .before .before) .pre .1 .1)) (rw e at ((c .before .before .before .before .before .before .before .before .before .before .before .before .before .before .before .before .before .before .before .before .before .before .before .before .before .before .before .before .before .before .before .before .before .before .before .before .before .before .expression) .ensures)) (rw e at ((c .before .before .before .before .before .before .before .before .before .before .before .before .before .before .before .before .before .before .before .before .before .before .before .before .before .before .before .before .before .before .before .before .test-and-jump) .ensures)) (rw (b) at ((c .before .before .before .before .before .before .before .before .before .before .before .before .before .before .before .before .before .before .before .before .before .before .before .before .before .before .before .row) .ensures)) (rw e at ((c .before .before .before .before .before .before .before .before .before .before .before .before .before .before .before .before .before .before .before .before .before .end-branch) .ensures))
     (rw (b, after-thens (word-of (fields (now ((c .before .before .before .before .before .before .before .before .before .before .before .before .before .before .before .before .before .before .before .before .before .before .before .before .before .before .before .before .before .before .before .before .before .before .before .before .before .before .before .before .before .before .before .before .before .before .before .before) .args .tree))) ((c .before .before .before .before .before .before .before .before .before .before .before .before .before .before .before .before .before .before .before .before .before .before .before .before .before .before .before .before .before .before .before .before .before .before .before .before .before .before .before .before .before .before .before .before .before .before .before .before) .args .node) 2)) at ((c .before .before .before .before .before .before .before .before .before .before .before .before .before .before .before .elifs) .ensures)) (rw (b) at ((c .before .before .before .before .before .before .before .before .row2) .ensures)) ((c .before .before .end-if) .ensures)

@@ -5,15 +5,15 @@ use Rattle.cycle.proofs.let_stmt.Reads as let-stmt
 use Rattle.cycle.proofs.+addi+arguments+binary+block+body+both+call+class+elifs+expr_stmt+expression+fn_stmt+for_in+for_loop+function+if_stmt+let_stmt+logical+methods+minus+return_stmt+row+statement+try_catch+unary+while_loop.Lts-let_stmt as lts
 use Rattle.code.proofs.emit_wide.Reads as emit-wide-reads
 use Rattle.cycle.proofs.reading.count_of.Reads as count-of-reads
-use Rattle.cycle.proofs.reading.words_of.Reads as words-of-reads
+use Rattle.cycle.proofs.reading.three_of.Reads as three-of-reads
 use Rattle.leaves.proofs.let_only.Reads as let-only-reads
 use Rattle.parts.proofs.new_global.Reads as new-global-reads
 use Rattle.store.proofs.allocate_register.Reads as allocate-register-reads
 use Rattle.store.proofs.is_global_context.Reads as is-global-context-reads
 use Rattle.cycle.proofs.+addi+arguments+binary+block+body+both+call+class+elifs+expr_stmt+expression+fn_stmt+for_in+for_loop+function+if_stmt+let_stmt+logical+methods+minus+return_stmt+row+statement+try_catch+unary+while_loop.Proof.Order.{expression-below, let-stmt-at}
-use Rattle.cycle.proofs.Nodes.{a-let}
+use Rattle.cycle.proofs.Nodes.{a-let, behind-here, let-stands}
 use Rattle.cycle.proofs.Sizes.{let-as-size, let-only-size}
-use Rattle.cycle.proofs.Way.{_▹_, arrive, ends, from, give-expr, keeps, leaf-lowers, meanwhile, next, next-leaf, on-node, readable, stand}
+use Rattle.cycle.proofs.Way.{_▹_, arrive, counted, ends, from, give-expr, headed, keeps, leaf-lowers, meanwhile, next, next-leaf, on-node, readable, stand}
 use Rattle.cycle.proofs.Visited.{let-as-visits, let-only-visits}
 use Rattle.cycle.specs.Cycle.{AskExpr, GivenStmt, LowersExpr, UnderStmt}
 use Rattle.forward.proofs.Chains.{let-as-chain}
@@ -94,10 +94,10 @@ module _ {t w : List ℕ} {p : Scope} {s : Step} {i : ℕ} (g : GivenStmt t w p 
 
 -- what each function that is called asks and promises; a member of the cycle at a smaller measure
 abbrev pub claims : ℕ → lts.Claims
-claims t = (count-of-reads.Asked, count-of-reads.Learnt, let-only-reads.Asked, let-only-reads.Learnt, words-of-reads.Asked, words-of-reads.Learnt, is-global-context-reads.Asked, is-global-context-reads.Learnt, new-global-reads.Asked, new-global-reads.Learnt, expression-below t, expression.Post, emit-wide-reads.Asked, emit-wide-reads.Learnt, allocate-register-reads.Asked, allocate-register-reads.Learnt)
+claims t = (count-of-reads.Asked, count-of-reads.Learnt, let-only-reads.Asked, let-only-reads.Learnt, three-of-reads.Asked, three-of-reads.Learnt, is-global-context-reads.Asked, is-global-context-reads.Learnt, new-global-reads.Asked, new-global-reads.Learnt, expression-below t, expression.Post, emit-wide-reads.Asked, emit-wide-reads.Learnt, allocate-register-reads.Asked, allocate-register-reads.Learnt)
 
 pub count-of-requires : (t : ℕ) → lts.Need-count-of-requires (claims t) (let-stmt-at t) let-stmt.Post
-count-of-requires t c κs = readable ((c .before .before .before .before) .pre .1 .0 .ready) ((c .before .before .before .before) .pre .1 .0 .known)
+count-of-requires t c κs = counted (readable ((c .before .before .before .before) .pre .1 .0 .ready) ((c .before .before .before .before) .pre .1 .0 .known)) (behind-here ((c .before .before .before .before) .pre .1 .0 .ready) (let-stands ((c .before .before .before .before) .pre .1 .0 .ready .lawful) ((c .before .before .before .before) .pre .1 .0 .known) ((c .before .before .before .before) .pre .1 .1) .1))
 
 pub let-only-requires : (t : ℕ) → lts.Need-let-only-requires (claims t) (let-stmt-at t) let-stmt.Post
 let-only-requires t c κs =
@@ -115,8 +115,8 @@ returns t c =
     let v = let-only-visits (a-let (g .ready .lawful) (g .known) ((c .before .before .before .before .before .before .before .before .before .before) .pre .1 .1)) (sym ((c .before .before .before .before .before .count-of) .ensures .0) ∙ (c .before .before .before .before .if1) .taken) in
     leaf-lowers _ _ _ (ap (λ n. 8 * n) n) n v ((c .before .before .let-only) .ensures)
 
-pub words-of-requires : (t : ℕ) → lts.Need-words-of-requires (claims t) (let-stmt-at t) let-stmt.Post
-words-of-requires t c κs = readable ((c .before .before .before .before .before .before .before) .pre .1 .0 .ready) ((c .before .before .before .before .before .before .before) .pre .1 .0 .known)
+pub three-of-requires : (t : ℕ) → lts.Need-three-of-requires (claims t) (let-stmt-at t) let-stmt.Post
+three-of-requires t c κs = headed ((c .before .before .before .before .before .before .before) .pre .1 .0 .ready) ((c .before .before .before .before .before .before .before) .pre .1 .0 .known) (let-stands ((c .before .before .before .before .before .before .before) .pre .1 .0 .ready .lawful) ((c .before .before .before .before .before .before .before) .pre .1 .0 .known) ((c .before .before .before .before .before .before .before) .pre .1 .1) .0)
 
 pub is-global-context-requires : (t : ℕ) → lts.Need-is-global-context-requires (claims t) (let-stmt-at t) let-stmt.Post
 is-global-context-requires t c κs = tt
@@ -126,23 +126,23 @@ new-global-requires t c κs =
     let g = (c .before .before .before .before .before .before .before .before .before .before .before) .pre .1 .0 in
     let x = a-let (g .ready .lawful) (g .known) ((c .before .before .before .before .before .before .before .before .before .before .before) .pre .1 .1) in
     let y = stand 0 0 0 (from (g .ready)) (omega arith) (omega arith) (omega arith) (omega arith) in
-    rw ((c .before .before .before .words-of) .ensures .0) (y .fine, y .room, only-block ((c .before .before .before .before .before .before .before .before .before .before .before) .args .scope) (sym ((c .before .before .is-global-context) .ensures .0) ∙ (c .before .if2) .taken), omega (arith, x .name))
+    rw ((c .before .before .before .three-of) .ensures .0) (y .fine, y .room, only-block ((c .before .before .before .before .before .before .before .before .before .before .before) .args .scope) (sym ((c .before .before .is-global-context) .ensures .0) ∙ (c .before .if2) .taken), omega (arith, x .name))
 
 pub expression-requires : (t : ℕ) → lts.Need-expression-requires (claims t) (let-stmt-at t) let-stmt.Post
 expression-requires t c κs =
     let g = (c .before .before .before .before .before .before .before .before .before .before .before .before .before .before .before .before) .pre .1 .0 in
     let x = a-let (g .ready .lawful) (g .known) ((c .before .before .before .before .before .before .before .before .before .before .before .before .before .before .before .before) .pre .1 .1) in
     let three = three-words x _ ((c .before .before .before .before .before .before .before .before .before .before .before .count-of) .ensures .0) ((c .before .before .before .before .before .before .before .before .before .before .if1) .left) in
-    let e = (c .before .before .before .before .before .before .before .before .words-of) .ensures .0 in
-    rw e (omega (arith, (c .before .before .before .before .before .before .before .before .before .before .before .before .before .before .before .before) .pre .0, x .value three .below), value-after g x three ((c .before .before .before .before .before .before .before .is-global-context) .ensures .1 _ _ (g .ready .fine .sound)) ((c .before .before .before .before .before .before .if2) .taken) (rw e at ((c .before .before .before .before .new-global) .ensures ((c .before .before .before .before .before .before .before .before .words-of) .result .b))))
+    let e = (c .before .before .before .before .before .before .before .before .three-of) .ensures .0 in
+    rw e (omega (arith, (c .before .before .before .before .before .before .before .before .before .before .before .before .before .before .before .before) .pre .0, x .value three .below), value-after g x three ((c .before .before .before .before .before .before .before .is-global-context) .ensures .1 _ _ (g .ready .fine .sound)) ((c .before .before .before .before .before .before .if2) .taken) (rw e at ((c .before .before .before .before .new-global) .ensures ((c .before .before .before .before .before .before .before .before .three-of) .result .b))))
 
 pub emit-wide-requires : (t : ℕ) → lts.Need-emit-wide-requires (claims t) (let-stmt-at t) let-stmt.Post
 emit-wide-requires t c κs =
     let g = (c .before .before .before .before .before .before .before .before .before .before .before .before .before .before .before .before .before .before .before .before .before .before) .pre .1 .0 in
     let x = a-let (g .ready .lawful) (g .known) ((c .before .before .before .before .before .before .before .before .before .before .before .before .before .before .before .before .before .before .before .before .before .before) .pre .1 .1) in
     let three = three-words x _ ((c .before .before .before .before .before .before .before .before .before .before .before .before .before .before .before .before .before .count-of) .ensures .0) ((c .before .before .before .before .before .before .before .before .before .before .before .before .before .before .before .before .if1) .left) in
-    let e = (c .before .before .before .before .before .before .before .before .before .before .before .before .before .before .words-of) .ensures .0 in
-    at-emit g x three ((c .before .before .before .before .before .before .before .before .before .before .before .before .before .is-global-context) .ensures .1 _ _ (g .ready .fine .sound)) ((c .before .before .before .before .before .before .before .before .before .before .before .before .if2) .taken) (rw e at ((c .before .before .before .before .before .before .before .before .before .before .new-global) .ensures ((c .before .before .before .before .before .before .before .before .before .before .before .before .before .before .words-of) .result .b))) (rw e at ((c .before .before .before .before .before .expression) .ensures))
+    let e = (c .before .before .before .before .before .before .before .before .before .before .before .before .before .before .three-of) .ensures .0 in
+    at-emit g x three ((c .before .before .before .before .before .before .before .before .before .before .before .before .before .is-global-context) .ensures .1 _ _ (g .ready .fine .sound)) ((c .before .before .before .before .before .before .before .before .before .before .before .before .if2) .taken) (rw e at ((c .before .before .before .before .before .before .before .before .before .before .new-global) .ensures ((c .before .before .before .before .before .before .before .before .before .before .before .before .before .before .three-of) .result .b))) (rw e at ((c .before .before .before .before .before .expression) .ensures))
 
 pub same-length-2 : (t : ℕ) → lts.Need-same-length-2 (claims t) (let-stmt-at t) let-stmt.Post
 same-length-2 t c = (c .before .before .emit-wide) .ensures .moves .kept .same ∙ (c .before .before .before .before .before .before .before .before .expression) .ensures .does .moves .kept .same ∙ (c .before .before .before .before .before .before .before .before .before .before .before .before .before .new-global) .ensures 0 .moves .kept .same
@@ -155,22 +155,22 @@ returns-2 t c =
     let g = (c .before .before .before .before .before .before .before .before .before .before .before .before .before .before .before .before .before .before .before .before .before .before .before .before .before) .pre .1 .0 in
     let x = a-let (g .ready .lawful) (g .known) ((c .before .before .before .before .before .before .before .before .before .before .before .before .before .before .before .before .before .before .before .before .before .before .before .before .before) .pre .1 .1) in
     let three = three-words x _ ((c .before .before .before .before .before .before .before .before .before .before .before .before .before .before .before .before .before .before .before .before .count-of) .ensures .0) ((c .before .before .before .before .before .before .before .before .before .before .before .before .before .before .before .before .before .before .before .if1) .left) in
-    let e = (c .before .before .before .before .before .before .before .before .before .before .before .before .before .before .before .before .before .words-of) .ensures .0 in
-    lowers-global g x three ((c .before .before .before .before .before .before .before .before .before .before .before .before .before .before .before .before .is-global-context) .ensures .1 _ _ (g .ready .fine .sound)) ((c .before .before .before .before .before .before .before .before .before .before .before .before .before .before .before .if2) .taken) (rw e at ((c .before .before .before .before .before .before .before .before .before .before .before .before .before .new-global) .ensures ((c .before .before .before .before .before .before .before .before .before .before .before .before .before .before .before .before .before .words-of) .result .b))) (rw e at ((c .before .before .before .before .before .before .before .before .expression) .ensures)) (rw e at ((c .before .before .emit-wide) .ensures))
+    let e = (c .before .before .before .before .before .before .before .before .before .before .before .before .before .before .before .before .before .three-of) .ensures .0 in
+    lowers-global g x three ((c .before .before .before .before .before .before .before .before .before .before .before .before .before .before .before .before .is-global-context) .ensures .1 _ _ (g .ready .fine .sound)) ((c .before .before .before .before .before .before .before .before .before .before .before .before .before .before .before .if2) .taken) (rw e at ((c .before .before .before .before .before .before .before .before .before .before .before .before .before .new-global) .ensures ((c .before .before .before .before .before .before .before .before .before .before .before .before .before .before .before .before .before .three-of) .result .b))) (rw e at ((c .before .before .before .before .before .before .before .before .expression) .ensures)) (rw e at ((c .before .before .emit-wide) .ensures))
 
 pub expression-requires-2 : (t : ℕ) → lts.Need-expression-requires-2 (claims t) (let-stmt-at t) let-stmt.Post
 expression-requires-2 t c κs =
     let g = (c .before .before .before .before .before .before .before .before .before .before .before .before) .pre .1 .0 in
     let x = a-let (g .ready .lawful) (g .known) ((c .before .before .before .before .before .before .before .before .before .before .before .before) .pre .1 .1) in
     let three = three-words x _ ((c .before .before .before .before .before .before .before .count-of) .ensures .0) ((c .before .before .before .before .before .before .if1) .left) in
-    rw ((c .before .before .before .before .words-of) .ensures .0) (omega (arith, (c .before .before .before .before .before .before .before .before .before .before .before .before) .pre .0, x .value three .below), value g x three)
+    rw ((c .before .before .before .before .three-of) .ensures .0) (omega (arith, (c .before .before .before .before .before .before .before .before .before .before .before .before) .pre .0, x .value three .below), value g x three)
 
 pub allocate-register-requires : (t : ℕ) → lts.Need-allocate-register-requires (claims t) (let-stmt-at t) let-stmt.Post
 allocate-register-requires t c κs =
     let g = (c .before .before .before .before .before .before .before .before .before .before .before .before .before .before .before .before .before .before) .pre .1 .0 in
     let x = a-let (g .ready .lawful) (g .known) ((c .before .before .before .before .before .before .before .before .before .before .before .before .before .before .before .before .before .before) .pre .1 .1) in
     let three = three-words x _ ((c .before .before .before .before .before .before .before .before .before .before .before .before .before .count-of) .ensures .0) ((c .before .before .before .before .before .before .before .before .before .before .before .before .if1) .left) in
-    let e = (c .before .before .before .before .before .before .before .before .before .before .words-of) .ensures .0 in
+    let e = (c .before .before .before .before .before .before .before .before .before .before .three-of) .ensures .0 in
     rw e (at-name g x three ((c .before .before .before .before .before .before .before .before .before .is-global-context) .ensures .1 _ _ (g .ready .fine .sound)) ((c .before .before .before .before .before .before .before .before .if2) .left) (rw e at ((c .before .before .before .before .before .expression2) .ensures)))
 
 pub same-length-4 : (t : ℕ) → lts.Need-same-length-4 (claims t) (let-stmt-at t) let-stmt.Post
@@ -184,5 +184,5 @@ returns-3 t c =
     let g = (c .before .before .before .before .before .before .before .before .before .before .before .before .before .before .before .before .before .before .before .before .before) .pre .1 .0 in
     let x = a-let (g .ready .lawful) (g .known) ((c .before .before .before .before .before .before .before .before .before .before .before .before .before .before .before .before .before .before .before .before .before) .pre .1 .1) in
     let three = three-words x _ ((c .before .before .before .before .before .before .before .before .before .before .before .before .before .before .before .before .count-of) .ensures .0) ((c .before .before .before .before .before .before .before .before .before .before .before .before .before .before .before .if1) .left) in
-    let e = (c .before .before .before .before .before .before .before .before .before .before .before .before .before .words-of) .ensures .0 in
+    let e = (c .before .before .before .before .before .before .before .before .before .before .before .before .before .three-of) .ensures .0 in
     lowers-local g x three ((c .before .before .before .before .before .before .before .before .before .before .before .before .is-global-context) .ensures .1 _ _ (g .ready .fine .sound)) ((c .before .before .before .before .before .before .before .before .before .before .before .if2) .left) (rw e at ((c .before .before .before .before .before .before .before .before .expression2) .ensures)) (rw e at ((c .before .before .allocate-register) .ensures))

@@ -8,10 +8,10 @@ use Rattle.code.proofs.test_and_jump.Reads as test-and-jump-reads
 use Rattle.cycle.proofs.operators.or_flag.Reads as or-flag-reads
 use Rattle.cycle.proofs.reading.words_of.Reads as words-of-reads
 use Rattle.cycle.proofs.+addi+arguments+binary+block+body+both+call+class+elifs+expr_stmt+expression+fn_stmt+for_in+for_loop+function+if_stmt+let_stmt+logical+methods+minus+return_stmt+row+statement+try_catch+unary+while_loop.Proof.Order.{expression-below, logical-at}
-use Rattle.cycle.proofs.Nodes.{a-logical}
+use Rattle.cycle.proofs.Nodes.{a-logical, logical-stands}
 use Rattle.cycle.proofs.Visited.{logical-visits}
 use Rattle.cycle.proofs.Sizes.{logical-size}
-use Rattle.cycle.proofs.Way.{_▹_, adds, arrive, ends, from, give-expr, meanwhile, next, next-leaf, readable, sets, stand, twice}
+use Rattle.cycle.proofs.Way.{_▹_, adds, arrive, ends, from, give-expr, headed, meanwhile, next, next-leaf, readable, sets, stand, twice}
 use Rattle.cycle.specs.Cycle.{AskExpr, GivenExpr, LowersExpr, UnderExpr}
 use Rattle.forward.proofs.Chains.{logical-chain}
 use Rattle.forward.specs.Forward.{end-logical, sure, test-and-jump}
@@ -82,7 +82,7 @@ abbrev pub claims : ℕ → lts.Claims
 claims t = (words-of-reads.Asked, words-of-reads.Learnt, expression-below t, expression.Post, or-flag-reads.Asked, or-flag-reads.Learnt, test-and-jump-reads.Asked, test-and-jump-reads.Learnt, end-logical-reads.Asked, end-logical-reads.Learnt)
 
 pub words-of-requires : (t : ℕ) → lts.Need-words-of-requires (claims t) (logical-at t) logical.Post
-words-of-requires t c κs = readable ((c .before .before .before .before) .pre .1 .0 .ready) ((c .before .before .before .before) .pre .1 .0 .known)
+words-of-requires t c κs = headed ((c .before .before .before .before) .pre .1 .0 .ready) ((c .before .before .before .before) .pre .1 .0 .known) (logical-stands ((c .before .before .before .before) .pre .1 .0 .ready .lawful) ((c .before .before .before .before) .pre .1 .0 .known) ((c .before .before .before .before) .pre .1 .1) .0)
 
 pub expression-requires : (t : ℕ) → lts.Need-expression-requires (claims t) (logical-at t) logical.Post
 expression-requires t c κs =

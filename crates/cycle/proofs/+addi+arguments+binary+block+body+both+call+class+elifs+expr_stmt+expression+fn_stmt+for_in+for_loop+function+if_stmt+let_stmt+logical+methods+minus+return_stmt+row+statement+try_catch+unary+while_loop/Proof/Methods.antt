@@ -9,8 +9,8 @@ use Rattle.nodes.proofs.child.Reads as child-reads
 use Rattle.parts.proofs.add_method.Reads as add-method-reads
 use Rattle.store.proofs.settle.Reads as settle-reads
 use Rattle.cycle.proofs.+addi+arguments+binary+block+body+both+call+class+elifs+expr_stmt+expression+fn_stmt+for_in+for_loop+function+if_stmt+let_stmt+logical+methods+minus+return_stmt+row+statement+try_catch+unary+while_loop.Proof.Order.{fn-stmt-below, methods-at}
-use Rattle.cycle.proofs.Way.{after-ticked, from}
-use Rattle.cycle.proofs.Nodes.{a-define}
+use Rattle.cycle.proofs.Way.{after-ticked, from, headed, inside, placed}
+use Rattle.cycle.proofs.Nodes.{a-define, define-stands}
 use Rattle.cycle.proofs.Sizes.{fun-size, funs-size, funs-size-none}
 use Rattle.cycle.proofs.Turns.{Turning, closed, none-turned, turned}
 use Rattle.cycle.proofs.Way.{_▹_, arrive, meanwhile, next-leaf, readable, small, spends, stand}
@@ -37,6 +37,7 @@ use lib.Dec.{lit<}
 use mathlib.Core.List.{List}
 use mathlib.Core.Path.{_∙_, _≡_, ap}
 use native.Mathlib.Omega.{arith}
+use Rattle.cycle.proofs.Counts.{few-words}
 
 pub record Methoding (t w0 o0 : List ℕ) (p : Scope) (s0 : Step) (i from to mark op class : ℕ) (w o : List ℕ) (s : Step) (k : ℕ) : Type 0 where
   pub low : from ≤ k
@@ -46,7 +47,7 @@ pub record Methoding (t w0 o0 : List ℕ) (p : Scope) (s0 : Step) (i from to mar
   pub count : seen + visits-funs (funs-at (fields t) i k to) ≡ visits-funs (funs-at (fields t) i from to)
   pub turning : Turning w0 o0 p s0 w o s (takes (8 * done) done seen) (fwd-code (lower-methods (p .mode) (funs-at (fields t) i from to) i mark op class (class + 1))) (fwd-code (lower-methods (p .mode) (funs-at (fields t) i k to) i mark op class (class + 1)))
 
-module _ {t w0 : List ℕ} {p : Scope} {s0 : Step} {i f g op class : ℕ} (r : AskMethods t w0 p s0 i f g op class) (mark : ℕ) where
+module _ {t w0 : List ℕ} {p : Scope} {s0 : Step} {i f g skew op class : ℕ} (r : AskMethods t w0 p s0 i f g skew op class) (mark : ℕ) where
   start : {o0 : List ℕ} → Methoding t w0 o0 p s0 i f g mark op class w0 o0 s0 f
   start = record { low = omega arith; done = 0; size = omega arith; seen = 0; count = omega arith; turning = none-turned (r .0 .ready .fine) }
 
@@ -118,10 +119,10 @@ abbrev pub claims : ℕ → lts.Claims
 claims t = (payload-of-reads.Asked, payload-of-reads.Learnt, child-reads.Asked, child-reads.Learnt, words-of-reads.Asked, words-of-reads.Learnt, fn-stmt-below t, fn-stmt.Post, add-method-reads.Asked, add-method-reads.Learnt, visit-reads.Asked, visit-reads.Learnt, settle-reads.Asked, settle-reads.Learnt)
 
 abbrev pub Inv-loop : lts.InvT-loop
-Inv-loop tree work₀ out₀ scope node from to mark op class payload last₀ k₀ work out last k = Methoding tree work₀ out₀ scope last₀ node from to mark op class work out last k
+Inv-loop tree work₀ out₀ scope node from to skew mark op class payload last₀ k₀ work out last k = Methoding tree work₀ out₀ scope last₀ node from to mark op class work out last k
 
 abbrev pub μ-loop : lts.MeasureT-loop
-μ-loop tree work₀ out₀ scope node from to mark op class payload last₀ k₀ work out last k = to - k
+μ-loop tree work₀ out₀ scope node from to skew mark op class payload last₀ k₀ work out last k = to - k
 
 pub payload-of-requires : (t : ℕ) → lts.Need-payload-of-requires (claims t) (methods-at t) methods.Post Inv-loop μ-loop
 payload-of-requires t c κs = readable ((c .before .before .before .before) .pre .1 .0 .ready) ((c .before .before .before .before) .pre .1 .0 .known)
@@ -129,19 +130,24 @@ payload-of-requires t c κs = readable ((c .before .before .before .before) .pre
 pub loop-holds : (t : ℕ) → lts.Need-loop-holds (claims t) (methods-at t) methods.Post Inv-loop μ-loop
 loop-holds t c = start ((c .before .before .before .before .before) .pre .1) _
 
+pub add-child : (t : ℕ) → lts.Need-add-child (claims t) (methods-at t) methods.Post Inv-loop μ-loop
+add-child t c =
+    let r = (c .before .before .before .before .before .before .before) .pre .1 .0 in
+    omega (arith, (c .loop-test) .taken, r .ends, r .behind .size, few-words _ _ (λ j. omega (arith, (c .before .before .before .before .before .before .shared-slice-known) .given j)) (inside (r .ready .lawful) (r .known)))
+
 pub child-requires : (t : ℕ) → lts.Need-child-requires (claims t) (methods-at t) methods.Post Inv-loop μ-loop
-child-requires t c κs = rw ((c .before .before .payload-of) .ensures) (omega (arith, (c .loop-test) .taken, (c .before .before .before .before .before .before .before) .pre .1 .0 .ends))
+child-requires t c κs = rw ((c .before .before .payload-of) .ensures) (omega (arith, (c .loop-test) .taken, (c .before .before .before .before .before .before .before) .pre .1 .0 .ends, (c .before .before .before .before .before .before .before) .pre .1 .0 .behind .size))
 
 pub words-of-requires : (t : ℕ) → lts.Need-words-of-requires (claims t) (methods-at t) methods.Post Inv-loop μ-loop
 words-of-requires t c κs =
-    let e = rw ((c .before .before .before .before .payload-of) .ensures) at ((c .before .child) .ensures .0) in
+    let e = placed ((c .before .before .before .before .before .before .before .before .before) .pre .1 .0) ((c .before .before .before .loop) .inv .low) (rw ((c .before .before .before .before .payload-of) .ensures) at ((c .before .child) .ensures .0)) in
     let g = child ((c .before .before .before .before .before .before .before .before .before) .pre .1) _ ((c .before .before .before .loop) .inv) ((c .before .before .loop-test) .taken) in
-    rw e (readable (g .0 .ready) (g .0 .known))
+    rw e (headed (g .0 .ready) (g .0 .known) (define-stands (g .0 .ready .lawful) (g .0 .known) (g .1) .0))
 
 pub fn-stmt-requires : (t : ℕ) → lts.Need-fn-stmt-requires (claims t) (methods-at t) methods.Post Inv-loop μ-loop
 fn-stmt-requires t c κs =
     let h = (c .before .before .before .before .before .loop-test) .taken in
-    let e = rw ((c .before .before .before .before .before .before .before .payload-of) .ensures) at ((c .before .before .before .before .child) .ensures .0) in
+    let e = placed ((c .before .before .before .before .before .before .before .before .before .before .before .before) .pre .1 .0) ((c .before .before .before .before .before .before .loop) .inv .low) (rw ((c .before .before .before .before .before .before .before .payload-of) .ensures) at ((c .before .before .before .before .child) .ensures .0)) in
     rw e (omega (arith, (c .before .before .before .before .before .before .before .before .before .before .before .before) .pre .0, below ((c .before .before .before .before .before .before .before .before .before .before .before .before) .pre .1) _ ((c .before .before .before .before .before .before .loop) .inv) h .below), child ((c .before .before .before .before .before .before .before .before .before .before .before .before) .pre .1) _ ((c .before .before .before .before .before .before .loop) .inv) h)
 
 pub add-add-method : (t : ℕ) → lts.Need-add-add-method (claims t) (methods-at t) methods.Post Inv-loop μ-loop
@@ -149,9 +155,9 @@ add-add-method t c = omega (arith, (c .before .before .before .before .before .b
 
 pub add-method-requires : (t : ℕ) → lts.Need-add-method-requires (claims t) (methods-at t) methods.Post Inv-loop μ-loop
 add-method-requires t c κs =
-    let e = rw ((c .before .before .before .before .before .before .before .before .before .before .before .before .before .payload-of) .ensures) at ((c .before .before .before .before .before .before .before .before .before .before .child) .ensures .0) in
+    let e = placed ((c .before .before .before .before .before .before .before .before .before .before .before .before .before .before .before .before .before .before) .pre .1 .0) ((c .before .before .before .before .before .before .before .before .before .before .before .before .loop) .inv .low) (rw ((c .before .before .before .before .before .before .before .before .before .before .before .before .before .payload-of) .ensures) at ((c .before .before .before .before .before .before .before .before .before .before .child) .ensures .0)) in
     let y = at-add ((c .before .before .before .before .before .before .before .before .before .before .before .before .before .before .before .before .before .before) .pre .1) _ ((c .before .before .before .before .before .before .before .before .before .before .before .before .loop) .inv) ((c .before .before .before .before .before .before .before .before .before .before .before .loop-test) .taken) (rw e at ((c .before .before .before .before .before .fn-stmt) .ensures)) in
-    (y .0, y .1, (c .before .before .before .before .before .before .before .before .words-of) .ensures .1, y .2)
+    (y .0, y .1, ((c .before .before .before .before .before .before .before .before .words-of) .ensures .1 .0 (λ z. omega arith)), y .2)
 
 pub visit-requires : (t : ℕ) → lts.Need-visit-requires (claims t) (methods-at t) methods.Post Inv-loop μ-loop
 visit-requires t c κs = omega (arith, (c .before .before .before .add-method) .ensures .moves .fine .sound .long)
@@ -164,7 +170,7 @@ loop-less t c = omega (arith, (c .before .before .before .before .before .before
 
 pub loop-again : (t : ℕ) → lts.Need-loop-again (claims t) (methods-at t) methods.Post Inv-loop μ-loop
 loop-again t c =
-    let e = rw ((c .before .before .before .before .before .before .before .before .before .before .before .before .before .before .before .before .before .before .before .before .payload-of) .ensures) at ((c .before .before .before .before .before .before .before .before .before .before .before .before .before .before .before .before .before .child) .ensures .0) in
+    let e = placed ((c .before .before .before .before .before .before .before .before .before .before .before .before .before .before .before .before .before .before .before .before .before .before .before .before .before) .pre .1 .0) ((c .before .before .before .before .before .before .before .before .before .before .before .before .before .before .before .before .before .before .before .loop) .inv .low) (rw ((c .before .before .before .before .before .before .before .before .before .before .before .before .before .before .before .before .before .before .before .before .payload-of) .ensures) at ((c .before .before .before .before .before .before .before .before .before .before .before .before .before .before .before .before .before .child) .ensures .0)) in
     turn ((c .before .before .before .before .before .before .before .before .before .before .before .before .before .before .before .before .before .before .before .before .before .before .before .before .before) .pre .1) _ ((c .before .before .before .before .before .before .before .before .before .before .before .before .before .before .before .before .before .before .before .loop) .inv) ((c .before .before .before .before .before .before .before .before .before .before .before .before .before .before .before .before .before .before .loop-test) .taken) (rw e at ((c .before .before .before .before .before .before .before .before .before .before .before .before .fn-stmt) .ensures)) (rw ((c .before .before .before .before .before .before .before .before .before .before .before .before .before .before .before .words-of) .ensures .0, e) at ((c .before .before .before .before .before .before .add-method) .ensures)) ((c .before .before .visit) .ensures)
 
 pub settle-requires : (t : ℕ) → lts.Need-settle-requires (claims t) (methods-at t) methods.Post Inv-loop μ-loop

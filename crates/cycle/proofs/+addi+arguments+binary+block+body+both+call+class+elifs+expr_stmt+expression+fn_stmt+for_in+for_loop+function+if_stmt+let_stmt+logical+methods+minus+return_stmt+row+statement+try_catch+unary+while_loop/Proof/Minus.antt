@@ -9,9 +9,9 @@ use Rattle.cycle.proofs.reading.words_of.Reads as words-of-reads
 use Rattle.store.proofs.next_register.Reads as next-register-reads
 use Rattle.cycle.proofs.+addi+arguments+binary+block+body+both+call+class+elifs+expr_stmt+expression+fn_stmt+for_in+for_loop+function+if_stmt+let_stmt+logical+methods+minus+return_stmt+row+statement+try_catch+unary+while_loop.Proof.Order.{both-below, expression-below, minus-at}
 use Rattle.cycle.proofs.Dropped.{Rolls, next-rolled, rolled, rolls}
-use Rattle.cycle.proofs.Nodes.{a-binary}
+use Rattle.cycle.proofs.Nodes.{a-binary, binary-stands}
 use Rattle.cycle.proofs.Sizes.{binary-size}
-use Rattle.cycle.proofs.Way.{Way, _▹_, arrive, ends, from, give-expr, next, next-leaf, readable, stand}
+use Rattle.cycle.proofs.Way.{Way, _▹_, arrive, ends, from, give-expr, headed, next, next-leaf, readable, stand}
 use Rattle.cycle.specs.Cycle.{AskExpr, GivenExpr, LowersBoth, LowersExpr, LowersMinus, seen}
 use Rattle.forward.proofs.Chains.{minus-chain}
 use Rattle.forward.specs.Forward.{fwd-number}
@@ -60,7 +60,7 @@ abbrev pub claims : ℕ → lts.Claims
 claims t = (words-of-reads.Asked, words-of-reads.Learnt, expression-below t, expression.Post, next-register-reads.Asked, next-register-reads.Learnt, roll-back-reads.Asked, roll-back-reads.Learnt, both-below t, both.Post)
 
 pub words-of-requires : (t : ℕ) → lts.Need-words-of-requires (claims t) (minus-at t) minus.Post
-words-of-requires t c κs = readable ((c .before .before .before .before) .pre .1 .0 .ready) ((c .before .before .before .before) .pre .1 .0 .known)
+words-of-requires t c κs = headed ((c .before .before .before .before) .pre .1 .0 .ready) ((c .before .before .before .before) .pre .1 .0 .known) (binary-stands ((c .before .before .before .before) .pre .1 .0 .ready .lawful) ((c .before .before .before .before) .pre .1 .0 .known) ((c .before .before .before .before) .pre .1 .1) .0)
 
 pub expression-requires : (t : ℕ) → lts.Need-expression-requires (claims t) (minus-at t) minus.Post
 expression-requires t c κs =

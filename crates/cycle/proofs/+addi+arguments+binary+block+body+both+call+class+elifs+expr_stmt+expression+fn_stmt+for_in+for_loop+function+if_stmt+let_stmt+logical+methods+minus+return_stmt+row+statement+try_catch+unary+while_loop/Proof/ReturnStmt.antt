@@ -5,13 +5,13 @@ use Rattle.cycle.proofs.return_stmt.Reads as return-stmt
 use Rattle.cycle.proofs.+addi+arguments+binary+block+body+both+call+class+elifs+expr_stmt+expression+fn_stmt+for_in+for_loop+function+if_stmt+let_stmt+logical+methods+minus+return_stmt+row+statement+try_catch+unary+while_loop.Lts-return_stmt as lts
 use Rattle.code.proofs.end_return.Reads as end-return-reads
 use Rattle.cycle.proofs.reading.count_of.Reads as count-of-reads
-use Rattle.cycle.proofs.reading.words_of.Reads as words-of-reads
+use Rattle.cycle.proofs.reading.three_of.Reads as three-of-reads
 use Rattle.leaves.proofs.return_none.Reads as return-none-reads
 use Rattle.cycle.proofs.+addi+arguments+binary+block+body+both+call+class+elifs+expr_stmt+expression+fn_stmt+for_in+for_loop+function+if_stmt+let_stmt+logical+methods+minus+return_stmt+row+statement+try_catch+unary+while_loop.Proof.Order.{expression-below, return-stmt-at}
 use Rattle.meaning.proofs.Reading.{Return as ReturnNode}
-use Rattle.cycle.proofs.Nodes.{a-return}
+use Rattle.cycle.proofs.Nodes.{a-return, behind-here, return-stands}
 use Rattle.cycle.proofs.Sizes.{return-none-size, return-size}
-use Rattle.cycle.proofs.Way.{_▹_, arrive, ends, from, give-expr, leaf-lowers, next-leaf, on-node, readable, sets-by, stand}
+use Rattle.cycle.proofs.Way.{_▹_, arrive, counted, ends, from, give-expr, headed, leaf-lowers, next-leaf, on-node, readable, sets-by, stand}
 use Rattle.cycle.proofs.Visited.{return-none-visits, return-visits}
 use Rattle.cycle.specs.Cycle.{AskExpr, GivenStmt, LowersExpr, UnderStmt}
 use Rattle.forward.proofs.Chains.{return-chain}
@@ -67,10 +67,10 @@ module _ {t w : List ℕ} {p : Scope} {s : Step} {i : ℕ} (g : GivenStmt t w p 
 
 -- what each function that is called asks and promises; a member of the cycle at a smaller measure
 abbrev pub claims : ℕ → lts.Claims
-claims t = (count-of-reads.Asked, count-of-reads.Learnt, return-none-reads.Asked, return-none-reads.Learnt, words-of-reads.Asked, words-of-reads.Learnt, expression-below t, expression.Post, end-return-reads.Asked, end-return-reads.Learnt)
+claims t = (count-of-reads.Asked, count-of-reads.Learnt, return-none-reads.Asked, return-none-reads.Learnt, three-of-reads.Asked, three-of-reads.Learnt, expression-below t, expression.Post, end-return-reads.Asked, end-return-reads.Learnt)
 
 pub count-of-requires : (t : ℕ) → lts.Need-count-of-requires (claims t) (return-stmt-at t) return-stmt.Post
-count-of-requires t c κs = readable ((c .before .before .before .before) .pre .1 .0 .ready) ((c .before .before .before .before) .pre .1 .0 .known)
+count-of-requires t c κs = counted (readable ((c .before .before .before .before) .pre .1 .0 .ready) ((c .before .before .before .before) .pre .1 .0 .known)) (behind-here ((c .before .before .before .before) .pre .1 .0 .ready) (return-stands ((c .before .before .before .before) .pre .1 .0 .ready .lawful) ((c .before .before .before .before) .pre .1 .0 .known) ((c .before .before .before .before) .pre .1 .1) .1))
 
 pub return-none-requires : (t : ℕ) → lts.Need-return-none-requires (claims t) (return-stmt-at t) return-stmt.Post
 return-none-requires t c κs =
@@ -89,21 +89,21 @@ returns t c =
     let v = return-none-visits (a-return (g .ready .lawful) (g .known) ((c .before .before .before .before .before .before .before .before .before .before) .pre .1 .1)) (sym ((c .before .before .before .before .before .count-of) .ensures .0) ∙ (c .before .before .before .before .if1) .taken) in
     leaf-lowers _ _ _ (ap (λ n. 8 * n) n) n v ((c .before .before .return-none) .ensures)
 
-pub words-of-requires : (t : ℕ) → lts.Need-words-of-requires (claims t) (return-stmt-at t) return-stmt.Post
-words-of-requires t c κs = readable ((c .before .before .before .before .before .before .before) .pre .1 .0 .ready) ((c .before .before .before .before .before .before .before) .pre .1 .0 .known)
+pub three-of-requires : (t : ℕ) → lts.Need-three-of-requires (claims t) (return-stmt-at t) return-stmt.Post
+three-of-requires t c κs = headed ((c .before .before .before .before .before .before .before) .pre .1 .0 .ready) ((c .before .before .before .before .before .before .before) .pre .1 .0 .known) (return-stands ((c .before .before .before .before .before .before .before) .pre .1 .0 .ready .lawful) ((c .before .before .before .before .before .before .before) .pre .1 .0 .known) ((c .before .before .before .before .before .before .before) .pre .1 .1) .0)
 
 pub expression-requires : (t : ℕ) → lts.Need-expression-requires (claims t) (return-stmt-at t) return-stmt.Post
 expression-requires t c κs =
     let g = (c .before .before .before .before .before .before .before .before .before .before) .pre .1 .0 in
     let x = a-return (g .ready .lawful) (g .known) ((c .before .before .before .before .before .before .before .before .before .before) .pre .1 .1) in
     let two = two-words x _ ((c .before .before .before .before .before .count-of) .ensures .0) ((c .before .before .before .before .if1) .left) in
-    rw ((c .before .before .words-of) .ensures .0) (omega (arith, (c .before .before .before .before .before .before .before .before .before .before) .pre .0, x .value two .below), value g x two)
+    rw ((c .before .before .three-of) .ensures .0) (omega (arith, (c .before .before .before .before .before .before .before .before .before .before) .pre .0, x .value two .below), value g x two)
 
 pub end-return-requires : (t : ℕ) → lts.Need-end-return-requires (claims t) (return-stmt-at t) return-stmt.Post
 end-return-requires t c κs =
     let g = (c .before .before .before .before .before .before .before .before .before .before .before .before .before .before .before .before) .pre .1 .0 in
     let x = a-return (g .ready .lawful) (g .known) ((c .before .before .before .before .before .before .before .before .before .before .before .before .before .before .before .before) .pre .1 .1) in
-    at-end g x (two-words x _ ((c .before .before .before .before .before .before .before .before .before .before .before .count-of) .ensures .0) ((c .before .before .before .before .before .before .before .before .before .before .if1) .left)) (rw ((c .before .before .before .before .before .before .before .before .words-of) .ensures .0) at ((c .before .before .before .before .before .expression) .ensures))
+    at-end g x (two-words x _ ((c .before .before .before .before .before .before .before .before .before .before .before .count-of) .ensures .0) ((c .before .before .before .before .before .before .before .before .before .before .if1) .left)) (rw ((c .before .before .before .before .before .before .before .before .three-of) .ensures .0) at ((c .before .before .before .before .before .expression) .ensures))
 
 pub same-length-2 : (t : ℕ) → lts.Need-same-length-2 (claims t) (return-stmt-at t) return-stmt.Post
 same-length-2 t c = (c .before .before .end-return) .ensures .moves .kept .same ∙ (c .before .before .before .before .before .before .before .before .expression) .ensures .does .moves .kept .same
@@ -115,5 +115,5 @@ pub returns-2 : (t : ℕ) → lts.Need-returns-2 (claims t) (return-stmt-at t) r
 returns-2 t c =
     let g = (c .before .before .before .before .before .before .before .before .before .before .before .before .before .before .before .before .before .before .before) .pre .1 .0 in
     let x = a-return (g .ready .lawful) (g .known) ((c .before .before .before .before .before .before .before .before .before .before .before .before .before .before .before .before .before .before .before) .pre .1 .1) in
-    let e = (c .before .before .before .before .before .before .before .before .before .before .before .words-of) .ensures .0 in
+    let e = (c .before .before .before .before .before .before .before .before .before .before .before .three-of) .ensures .0 in
     lowers g x (two-words x _ ((c .before .before .before .before .before .before .before .before .before .before .before .before .before .before .count-of) .ensures .0) ((c .before .before .before .before .before .before .before .before .before .before .before .before .before .if1) .left)) (rw e at ((c .before .before .before .before .before .before .before .before .expression) .ensures)) (rw e at ((c .before .before .end-return) .ensures))

@@ -6,7 +6,7 @@ use Rattle.cycle.proofs.statement.Reads as statement′
 use Rattle.cycle.proofs.reading.payload_of.Reads as payload-of-reads
 use Rattle.nodes.proofs.child.Reads as child-reads
 use Rattle.cycle.proofs.+addi+arguments+binary+block+body+both+call+class+elifs+expr_stmt+expression+fn_stmt+for_in+for_loop+function+if_stmt+let_stmt+logical+methods+minus+return_stmt+row+statement+try_catch+unary+while_loop.Proof.Order.{row-at, statement-below}
-use Rattle.cycle.proofs.Way.{from}
+use Rattle.cycle.proofs.Way.{from, inside, placed}
 use Rattle.cycle.proofs.Sizes.{stmts-size, stmts-size-none}
 use Rattle.cycle.proofs.Turns.{Turning, none-turned, turned}
 use Rattle.cycle.proofs.Way.{_▹_, give-stmt, readable, spends}
@@ -27,6 +27,7 @@ use Rattle.store.specs.declared.Step.{Step}
 use mathlib.Core.List.{List}
 use mathlib.Core.Path.{_∙_, _≡_}
 use native.Mathlib.Omega.{arith}
+use Rattle.cycle.proofs.Counts.{few-words}
 
 pub record Rowing (t w0 o0 : List ℕ) (p : Scope) (s0 : Step) (i from to : ℕ) (w o : List ℕ) (s : Step) (k : ℕ) : Type 0 where
   pub low : from ≤ k
@@ -37,7 +38,7 @@ pub record Rowing (t w0 o0 : List ℕ) (p : Scope) (s0 : Step) (i from to : ℕ)
   pub turning : Turning w0 o0 p s0 w o s (takes (8 * done) done seen) (fwd-row (lower-stmts (p .mode) (stmts-at (fields t) i from to))) (fwd-row (lower-stmts (p .mode) (stmts-at (fields t) i k to)))
   pub small : Small s0 → Small s
 
-module _ {t w0 : List ℕ} {p : Scope} {s0 : Step} {i f g : ℕ} (r : AskRow t w0 p s0 i f g) where
+module _ {t w0 : List ℕ} {p : Scope} {s0 : Step} {i f g d : ℕ} (r : AskRow t w0 p s0 i f g d) where
   start : {o0 : List ℕ} → Rowing t w0 o0 p s0 i f g w0 o0 s0 f
   start = record { low = omega arith; done = 0; size = omega arith; seen = 0; count = omega arith; turning = none-turned (r .ready .fine); small = λ m. m }
 
@@ -97,10 +98,10 @@ abbrev pub claims : ℕ → lts.Claims
 claims t = (payload-of-reads.Asked, payload-of-reads.Learnt, child-reads.Asked, child-reads.Learnt, statement-below t, statement′.Post)
 
 abbrev pub Inv-loop : lts.InvT-loop
-Inv-loop tree work₀ out₀ scope node from to payload last₀ k₀ work out last k = Rowing tree work₀ out₀ scope last₀ node from to work out last k
+Inv-loop tree work₀ out₀ scope node from to skew payload last₀ k₀ work out last k = Rowing tree work₀ out₀ scope last₀ node from to work out last k
 
 abbrev pub μ-loop : lts.MeasureT-loop
-μ-loop tree work₀ out₀ scope node from to payload last₀ k₀ work out last k = to - k
+μ-loop tree work₀ out₀ scope node from to skew payload last₀ k₀ work out last k = to - k
 
 pub payload-of-requires : (t : ℕ) → lts.Need-payload-of-requires (claims t) (row-at t) row.Post Inv-loop μ-loop
 payload-of-requires t c κs = readable ((c .before .before .before .before) .pre .1 .ready) ((c .before .before .before .before) .pre .1 .known)
@@ -108,13 +109,18 @@ payload-of-requires t c κs = readable ((c .before .before .before .before) .pre
 pub loop-holds : (t : ℕ) → lts.Need-loop-holds (claims t) (row-at t) row.Post Inv-loop μ-loop
 loop-holds t c = start ((c .before .before .before .before .before) .pre .1)
 
+pub add-child : (t : ℕ) → lts.Need-add-child (claims t) (row-at t) row.Post Inv-loop μ-loop
+add-child t c =
+    let r = (c .before .before .before .before .before .before .before) .pre .1 in
+    omega (arith, (c .loop-test) .taken, r .ends, r .behind .size, few-words _ _ (λ j. omega (arith, (c .before .before .before .before .before .before .shared-slice-known) .given j)) (inside (r .ready .lawful) (r .known)))
+
 pub child-requires : (t : ℕ) → lts.Need-child-requires (claims t) (row-at t) row.Post Inv-loop μ-loop
-child-requires t c κs = rw ((c .before .before .payload-of) .ensures) (omega (arith, (c .loop-test) .taken, (c .before .before .before .before .before .before .before) .pre .1 .ends))
+child-requires t c κs = rw ((c .before .before .payload-of) .ensures) (omega (arith, (c .loop-test) .taken, (c .before .before .before .before .before .before .before) .pre .1 .ends, (c .before .before .before .before .before .before .before) .pre .1 .behind .size))
 
 pub statement-requires : (t : ℕ) → lts.Need-statement-requires (claims t) (row-at t) row.Post Inv-loop μ-loop
 statement-requires t c κs =
     let h = (c .before .before .before .loop-test) .taken in
-    let e = rw ((c .before .before .before .before .before .payload-of) .ensures) at ((c .before .before .child) .ensures .0) in
+    let e = placed ((c .before .before .before .before .before .before .before .before .before .before) .pre .1) ((c .before .before .before .before .loop) .inv .low) (rw ((c .before .before .before .before .before .payload-of) .ensures) at ((c .before .before .child) .ensures .0)) in
     rw e (omega (arith, (c .before .before .before .before .before .before .before .before .before .before) .pre .0, below ((c .before .before .before .before .before .before .before .before .before .before) .pre .1) ((c .before .before .before .before .loop) .inv) h .below), child ((c .before .before .before .before .before .before .before .before .before .before) .pre .1) ((c .before .before .before .before .loop) .inv) h)
 
 pub add-k : (t : ℕ) → lts.Need-add-k (claims t) (row-at t) row.Post Inv-loop μ-loop
@@ -124,7 +130,7 @@ pub loop-less : (t : ℕ) → lts.Need-loop-less (claims t) (row-at t) row.Post 
 loop-less t c = omega (arith, (c .before .before .before .before .before .before .before .before .loop-test) .taken)
 
 pub loop-again : (t : ℕ) → lts.Need-loop-again (claims t) (row-at t) row.Post Inv-loop μ-loop
-loop-again t c = turn ((c .before .before .before .before .before .before .before .before .before .before .before .before .before .before .before) .pre .1) ((c .before .before .before .before .before .before .before .before .before .loop) .inv) ((c .before .before .before .before .before .before .before .before .loop-test) .taken) (rw (rw ((c .before .before .before .before .before .before .before .before .before .before .payload-of) .ensures) at ((c .before .before .before .before .before .before .before .child) .ensures .0)) at ((c .before .before .before .before .statement) .ensures))
+loop-again t c = turn ((c .before .before .before .before .before .before .before .before .before .before .before .before .before .before .before) .pre .1) ((c .before .before .before .before .before .before .before .before .before .loop) .inv) ((c .before .before .before .before .before .before .before .before .loop-test) .taken) (rw (placed ((c .before .before .before .before .before .before .before .before .before .before .before .before .before .before .before) .pre .1) ((c .before .before .before .before .before .before .before .before .before .loop) .inv .low) (rw ((c .before .before .before .before .before .before .before .before .before .before .payload-of) .ensures) at ((c .before .before .before .before .before .before .before .child) .ensures .0))) at ((c .before .before .before .before .statement) .ensures))
 
 pub same-length : (t : ℕ) → lts.Need-same-length (claims t) (row-at t) row.Post Inv-loop μ-loop
 same-length t c = (c .before .loop) .inv .turning .moves .kept .same

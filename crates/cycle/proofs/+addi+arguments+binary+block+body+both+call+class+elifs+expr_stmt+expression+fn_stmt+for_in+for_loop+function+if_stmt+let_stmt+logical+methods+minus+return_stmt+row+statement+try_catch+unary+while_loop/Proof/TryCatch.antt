@@ -11,10 +11,10 @@ use Rattle.parts.proofs.open_catch.Reads as open-catch-reads
 use Rattle.store.proofs.enter_block.Reads as enter-block-reads
 use Rattle.store.proofs.leave_block.Reads as leave-block-reads
 use Rattle.cycle.proofs.+addi+arguments+binary+block+body+both+call+class+elifs+expr_stmt+expression+fn_stmt+for_in+for_loop+function+if_stmt+let_stmt+logical+methods+minus+return_stmt+row+statement+try_catch+unary+while_loop.Proof.Order.{statement-below, try-catch-at}
-use Rattle.cycle.proofs.Nodes.{a-try}
+use Rattle.cycle.proofs.Nodes.{a-try, try-stands}
 use Rattle.cycle.proofs.Visited.{try-visits}
 use Rattle.cycle.proofs.Sizes.{try-size}
-use Rattle.cycle.proofs.Way.{_▹_, adds, arrive, ends, from, give-stmt, meanwhile, next, next-leaf, next-left, readable, sets, stand, stand-at, to, twice}
+use Rattle.cycle.proofs.Way.{_▹_, adds, arrive, ends, from, give-stmt, headed, meanwhile, next, next-leaf, next-left, readable, sets, stand, stand-at, to, twice}
 use Rattle.cycle.specs.Cycle.{AskStmt, GivenStmt, LowersStmt, Ready, UnderStmt}
 use Rattle.forward.proofs.Chains.{try-chain}
 use Rattle.forward.specs.Forward.{end-try, end-try-body, fwd-unit, open-catch, open-try-body, sure}
@@ -57,7 +57,7 @@ module _ {t w : List ℕ} {p : Scope} {s : Step} {i : ℕ} (g : GivenStmt t w p 
           inner-ready : Ready t w4 (deeper p) s3 (size-stmt (stmt-at (fields t) (word-of (fields t) i 3))) 2 0
           inner-ready =
               let n = try-size x in
-              stand-at _ 2 0 (to (deeper p) refl (omega arith) (omega arith) (from (g .ready) ▹ d1 .moves ▹ d2 .does .moves ▹ d3 .moves) (d4 .moves)) (omega arith) (omega arith) (omega arith) (omega (arith, g .ready .blocks)) (omega (arith, g .ready .loops))
+              stand-at _ 2 0 (to (deeper p) refl refl (omega arith) (omega arith) (from (g .ready) ▹ d1 .moves ▹ d2 .does .moves ▹ d3 .moves) (d4 .moves)) (omega arith) (omega arith) (omega arith) (omega (arith, g .ready .blocks)) (omega (arith, g .ready .loops))
 
           at-catch : Fine w4 (deeper p) s3 × Room w4 (deeper p) s3 0 2 0 × (word-of (fields t) i 1 < 65536)
           at-catch = let y = stand 0 2 0 (from inner-ready) (omega arith) (omega arith) (omega arith) (omega arith) in (y .fine, y .room, omega (arith, x .name))
@@ -101,7 +101,7 @@ abbrev pub claims : ℕ → lts.Claims
 claims t = (words-of-reads.Asked, words-of-reads.Learnt, open-try-body-reads.Asked, open-try-body-reads.Learnt, statement-below t, statement′.Post, end-try-body-reads.Asked, end-try-body-reads.Learnt, enter-block-reads.Asked, enter-block-reads.Learnt, open-catch-reads.Asked, open-catch-reads.Learnt, leave-block-reads.Asked, leave-block-reads.Learnt, end-try-reads.Asked, end-try-reads.Learnt)
 
 pub words-of-requires : (t : ℕ) → lts.Need-words-of-requires (claims t) (try-catch-at t) try-catch.Post
-words-of-requires t c κs = readable ((c .before .before .before .before) .pre .1 .0 .ready) ((c .before .before .before .before) .pre .1 .0 .known)
+words-of-requires t c κs = headed ((c .before .before .before .before) .pre .1 .0 .ready) ((c .before .before .before .before) .pre .1 .0 .known) (try-stands ((c .before .before .before .before) .pre .1 .0 .ready .lawful) ((c .before .before .before .before) .pre .1 .0 .known) ((c .before .before .before .before) .pre .1 .1))
 
 pub open-try-body-requires : (t : ℕ) → lts.Need-open-try-body-requires (claims t) (try-catch-at t) try-catch.Post
 open-try-body-requires t c κs =

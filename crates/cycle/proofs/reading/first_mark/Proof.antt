@@ -1,32 +1,24 @@
--- `cycle::reading::first_mark` meets its contract: the first pair's second word.
-use native.Mathlib.Omega.{arith}
+-- `cycle::reading::first_mark` meets its contract: the mark of the first pair.
 use mathlib.Core.Path.{_≡_, sym, ap, _∙_}
+use mathlib.Core.List.{List}
 use Prim.Native.Nat.{ℕ}
-use mathlib.Core.List.{List, []}
-use lib.Seq.{slice-empty}
-use Rattle.meaning.specs.Fields.{words}
-use Rattle.meaning.specs.Read.{tokens}
+use native.Mathlib.Omega.{arith}
+use borrow.Author.Needs.{needs}
 use Rattle.meaning.specs.Functions.{first-mark}
+use Rattle.store.specs.declared.Scope.{Scope}
 use Rattle.parts.specs.Parts.{tokens-from}
-use Rattle.parts.proofs.Tokens.{first-token}
+use Rattle.parts.proofs.Tokens.{first-token, none-left}
 use Rattle.cycle.proofs.reading.first_mark.Statement.{statement}
 use Rattle.cycle.proofs.reading.first_mark.Tie as tie
 
-none : (p : List ℕ) → tokens-from p 1 0 ≡ []
-unfolding tokens-from
-none p = ap tokens (slice-empty 1 (words p))
+no-parameter : (p : Scope) (l : List ℕ) (n : ℕ) → n ≡ 0 → 4294967295 ≡ first-mark (tokens-from p l 1 n)
+no-parameter p l n e = rw (none-left p l 1 n e)
 
-no-parameter : (p : List ℕ) (n : ℕ) → n ≡ 0 → 65535 ≡ first-mark (tokens-from p 1 n)
-no-parameter p n e = rw (e, none p)
+returns : tie.Need-returns
+returns c = no-parameter _ _ _ (c .if1 .taken)
 
 returns-2 : tie.Need-returns-2
-returns-2 c h = let n = c .before .if1 .left in c .word-at .ensures .0 ∙ sym (ap first-mark (first-token _ 1 _ h (omega arith)))
+returns-2 c = let n = c .before .if1 .left in c .mark .ensures ∙ sym (ap first-mark (first-token _ _ 1 _ (omega arith)))
 
 pub first-mark-spec : {M : Type 1} → statement M
-first-mark-spec =
-    tie.close
-    (tie.spec
-    (λ c κs. tt)
-    (λ c. omega (arith, c .word-at .ensures .1))
-    (λ c h. no-parameter _ _ (c .if1 .taken))
-    returns-2)
+first-mark-spec = tie.close (tie.spec (λ c κs. search needs) returns returns-2)

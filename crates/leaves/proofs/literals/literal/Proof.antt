@@ -6,7 +6,7 @@ use native.Mathlib.Omega.{arith}
 use lib.Dec.{lit<}
 use denote.Ref.{now}
 use Rattle.meaning.specs.Fields.{fields, words}
-use Rattle.meaning.specs.Read.{words-at}
+use Rattle.meaning.specs.At.{file-words}
 use Rattle.meaning.specs.Lower.{lower-expr}
 use Rattle.values.specs.Literals.{constant-at}
 use Rattle.forward.proofs.Chains.{literal-chain}
@@ -54,7 +54,7 @@ returns c =
     let d = put-wide .ensures in
     let given = start .pre .0 in
     let is = literal-is (given .lawful) (given .known) (start .pre .1) (start .pre .2) in
-    let value = literal-of .ensures .1 .0 ∙ ap (λ p. constant-at (tag-of .result) (words p)) (payload-of .ensures) ∙ ap (λ k. constant-at k (words-at (fields (now (start .args .tree))) (start .args .node))) (tag-of .ensures) in
+    let value = literal-of .ensures .1 .0 ∙ ap (λ p. constant-at (tag-of .result) (words p)) (payload-of .ensures) ∙ ap (λ k. constant-at k (file-words (fields (now (start .args .tree))) (start .args .node))) (tag-of .ensures) in
     gives (uses 8 0 0) (one a ▹ one b ▹ one d) (omega arith) (omega arith) (omega arith) (λ z. omega arith) (omega arith)
     (λ ps. rw (is, ← value) (literal-chain _ _ _ _ (a .runs ps) _ (known _ _ _ ps) _ (b .runs ps) _ (known _ _ _ ps) _ (d .runs ps)))
     (small-put d (next-register .ensures .1))

@@ -10,7 +10,7 @@ use Rattle.meaning.specs.Read.{bits}
 use Rattle.meaning.proofs.Reading.{number-node}
 use Rattle.meaning.specs.Constant.{small as small-test}
 use Rattle.values.specs.Literals.{small-as, small-constant}
-use Rattle.leaves.proofs.Held.{inside, readable, plain-operand, is-small, not-small}
+use Rattle.leaves.proofs.Held.{inside, readable, literal-words, plain-operand, is-small, not-small}
 use Rattle.leaves.proofs.literals.small_operand.Statement.{statement}
 use Rattle.leaves.proofs.literals.small_operand.Tie as tie
 
@@ -40,8 +40,9 @@ returns-2 c =
     let small = c .before .before .small in
     let number-of = c .before .before .before .number-of in
     let enum-told = c .enum-told in
-    let held = number-node (fields (now (start .args .tree))) (start .pre .0 .shapes) (start .args .node) (inside (start .pre .0) (start .pre .1)) (sym (tag-of .ensures) ∙ if1 .left) in
-    let n = bits-at .ensures ∙ ap (λ p. bits (words p)) (payload-of .ensures) in
+    let tag = sym (tag-of .ensures) ∙ if1 .left in
+    let held = number-node (fields (now (start .args .tree))) (start .pre .0 .shapes) (start .args .node) (inside (start .pre .0) (start .pre .1)) tag in
+    let n = bits-at .ensures ∙ ap (λ p. bits (words p)) (payload-of .ensures) ∙ ap bits (sym (literal-words (start .pre .0) (start .pre .1) (omega arith) (omega arith))) in
     let found = small .ensures ∙ ap small-constant (number-of .ensures .1 .0) ∙ ap (λ b. small-as (small-test b)) n in
     rw (held .is) (not-small _ (sym (enum-told .given .1) ∙ found))
 
@@ -56,8 +57,9 @@ returns-3 c =
     let small = c .before .before .before .small in
     let number-of = c .before .before .before .before .number-of in
     let found = c .before .found in
-    let held = number-node (fields (now (start .args .tree))) (start .pre .0 .shapes) (start .args .node) (inside (start .pre .0) (start .pre .1)) (sym (tag-of .ensures) ∙ if1 .left) in
-    let n = bits-at .ensures ∙ ap (λ p. bits (words p)) (payload-of .ensures) in
+    let tag = sym (tag-of .ensures) ∙ if1 .left in
+    let held = number-node (fields (now (start .args .tree))) (start .pre .0 .shapes) (start .args .node) (inside (start .pre .0) (start .pre .1)) tag in
+    let n = bits-at .ensures ∙ ap (λ p. bits (words p)) (payload-of .ensures) ∙ ap bits (sym (literal-words (start .pre .0) (start .pre .1) (omega arith) (omega arith))) in
     let is = small .ensures ∙ ap small-constant (number-of .ensures .1 .0) ∙ ap (λ b. small-as (small-test b)) n in
     rw (held .is, lt-ltb (found .given .0 .0) 256 (omega arith)) (is-small _ _ (sym (found .given .1) ∙ is))
 

@@ -9,16 +9,15 @@ use Rattle.meaning.specs.Lower.{lower-stmt}
 use Rattle.meaning.proofs.Reading.{break-node, continue-node}
 use Rattle.store.specs.Promise.{uses}
 use Rattle.store.proofs.Compose.{room-by}
-use Rattle.leaves.proofs.Held.{inside, readable, jump-size}
+use Rattle.leaves.proofs.Held.{inside, readable, jump-mark}
 use Rattle.leaves.proofs.Line.{one, gives}
 use Rattle.leaves.proofs.statements.jump.Statement.{statement}
 use Rattle.leaves.proofs.statements.jump.Tie as tie
 
-word-of-requires : tie.Need-word-of-requires
-word-of-requires c κs =
+mark-of-requires : tie.Need-mark-of-requires
+mark-of-requires c κs =
     let start = c .before .before .before .before in
-    let given = start .pre .0 in
-    (readable (given .lawful) (given .known), omega (arith, jump-size (given .lawful) (given .known) (start .pre .1) (start .pre .2)))
+    readable (start .pre .0 .lawful) (start .pre .0 .known)
 
 tag-of-requires : tie.Need-tag-of-requires
 tag-of-requires c κs =
@@ -37,11 +36,12 @@ returns c =
     let tag-of = c .before .before .before .before .before .tag-of in
     let if1 = c .before .before .before .before .if1 in
     let visit-jump = c .before .before .visit-jump in
-    let word-of = c .before .before .before .before .before .before .before .word-of in
+    let mark-of = c .before .before .before .before .before .before .before .mark-of in
     let given = start .pre .0 in
     let held = break-node (fields (now (start .args .tree))) (given .lawful .shapes) (start .args .node) (inside (given .lawful) (given .known)) (sym (tag-of .ensures) ∙ if1 .taken) in
+    let mark = mark-of .ensures ∙ jump-mark (given .lawful) (given .known) (given .width) (start .pre .1) (start .pre .2) in
     let d = visit-jump .ensures in
-    gives (uses 8 1 0) (one (d .leaf)) (omega arith) (omega arith) (omega arith) (λ z. omega arith) (omega arith) (λ ps. rw (held .is) (rw (word-of .ensures .0) at (d .leaf .runs ps))) (d .small)
+    gives (uses 8 1 0) (one (d .leaf)) (omega arith) (omega arith) (omega arith) (λ z. omega arith) (omega arith) (λ ps. rw (held .is) (rw mark at (d .leaf .runs ps))) (d .small)
 
 visit-jump-requires-2 : tie.Need-visit-jump-requires-2
 visit-jump-requires-2 c κs =
@@ -55,11 +55,12 @@ returns-2 c =
     let tag-of = c .before .before .before .before .before .tag-of in
     let if1 = c .before .before .before .before .if1 in
     let visit-jump2 = c .before .before .visit-jump2 in
-    let word-of = c .before .before .before .before .before .before .before .word-of in
+    let mark-of = c .before .before .before .before .before .before .before .mark-of in
     let given = start .pre .0 in
     let held = continue-node (fields (now (start .args .tree))) (given .lawful .shapes) (start .args .node) (inside (given .lawful) (given .known)) (omega (arith, tag-of .ensures, if1 .left, start .pre .1, start .pre .2)) in
+    let mark = mark-of .ensures ∙ jump-mark (given .lawful) (given .known) (given .width) (start .pre .1) (start .pre .2) in
     let d = visit-jump2 .ensures in
-    gives (uses 8 1 0) (one (d .leaf)) (omega arith) (omega arith) (omega arith) (λ z. omega arith) (omega arith) (λ ps. rw (held .is) (rw (word-of .ensures .0) at (d .leaf .runs ps))) (d .small)
+    gives (uses 8 1 0) (one (d .leaf)) (omega arith) (omega arith) (omega arith) (λ z. omega arith) (omega arith) (λ ps. rw (held .is) (rw mark at (d .leaf .runs ps))) (d .small)
 
 pub jump-spec : {M : Type 1} → statement M
 jump-spec =
@@ -67,7 +68,7 @@ jump-spec =
     (tie.spec
     (λ c. search needs)
     (λ c. search needs)
-    word-of-requires
+    mark-of-requires
     tag-of-requires
     visit-jump-requires
     (λ c. search needs)

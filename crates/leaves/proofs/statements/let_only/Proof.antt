@@ -1,12 +1,12 @@
 -- A global by its name's constant, a register, LoadNil and SetGlobal; a local by a register alone.
 use borrow.Author.Needs.{needs}
 use Prim.Native.Nat.{_<_}
-use mathlib.Core.Path.{sym, ap, _∙_}
+use mathlib.Core.Path.{sym, _∙_}
 use native.Mathlib.Omega.{arith}
 use lib.Dec.{lit<}
 use denote.Ref.{now}
-use Rattle.meaning.specs.Fields.{fields, words}
-use Rattle.meaning.specs.Read.{at, token}
+use Rattle.meaning.specs.Fields.{fields}
+use Rattle.meaning.specs.Read.{token}
 use Rattle.meaning.specs.Lower.{lower-stmt}
 use Rattle.meaning.proofs.Reading.{let-node}
 use Rattle.forward.proofs.Chains.{let-only-chain}
@@ -14,7 +14,7 @@ use Rattle.store.specs.Promise.{uses}
 use Rattle.store.proofs.Compose.{known, room-by}
 use Rattle.store.proofs.Pools.{global-here}
 use Rattle.code.specs.Words.{Bytes}
-use Rattle.leaves.proofs.Held.{inside, readable}
+use Rattle.leaves.proofs.Held.{inside, readable, let-named}
 use Rattle.leaves.proofs.Line.{one, _▹_, room-after, always, small-put, gives}
 use Rattle.leaves.proofs.statements.let_only.Statement.{statement}
 use Rattle.leaves.proofs.statements.let_only.Tie as tie
@@ -26,15 +26,15 @@ payload-of-requires c κs =
 
 child-requires : tie.Need-child-requires
 child-requires c κs =
-    let payload-of = c .payload-of in
     let start = c .before .before .before .before .before in
-    rw (payload-of .ensures) (omega (arith, start .pre .2))
+    let given = start .pre .0 in
+    omega (arith, let-named (given .lawful) (given .known) (given .width) (c .payload-of .ensures) (start .pre .1) .some)
 
-word-requires : tie.Need-word-requires
-word-requires c κs =
-    let payload-of = c .before .payload-of in
+mark-there-requires : tie.Need-mark-there-requires
+mark-there-requires c κs =
     let start = c .before .before .before .before .before .before in
-    rw (payload-of .ensures) (omega (arith, start .pre .2))
+    let given = start .pre .0 in
+    (let-named (given .lawful) (given .known) (given .width) (c .before .payload-of .ensures) (start .pre .1) .some, lit< tt)
 
 new-global-requires : tie.Need-new-global-requires
 new-global-requires c κs =
@@ -79,7 +79,7 @@ returns c =
     let start = c .before .before .before .before .before .before .before .before .before .before .before .before .before .before .before .before .before .before .before .before .before .before .before .before .before in
     let child = c .before .before .before .before .before .before .before .before .before .before .before .before .before .before .before .before .before .before .before .child in
     let payload-of = c .before .before .before .before .before .before .before .before .before .before .before .before .before .before .before .before .before .before .before .before .payload-of in
-    let word = c .before .before .before .before .before .before .before .before .before .before .before .before .before .before .before .before .before .before .word in
+    let mark = c .before .before .before .before .before .before .before .before .before .before .before .before .before .before .before .before .before .before .mark-there in
     let new-global = c .before .before .before .before .before .before .before .before .before .before .before .before .before .before .new-global in
     let next-register = c .before .before .before .before .before .before .before .before .before .before .next-register in
     let emit = c .before .before .before .before .before .before .emit in
@@ -88,14 +88,13 @@ returns c =
     let if1 = c .before .before .before .before .before .before .before .before .before .before .before .before .before .before .before .before .if1 in
     let given = start .pre .0 in
     let held = let-node (fields (now (start .args .tree))) (given .lawful .shapes) (start .args .node) (inside (given .lawful) (given .known)) (start .pre .1) in
-    let name = child .ensures .0 ∙ ap (λ p. at (words p) 0) (payload-of .ensures) in
-    let mark = word .ensures .0 ∙ ap (λ p. at (words p) 1) (payload-of .ensures) in
-    let k = new-global .ensures (word .result) in
+    let told = let-named (given .lawful) (given .known) (given .width) (payload-of .ensures) (start .pre .1) in
+    let k = new-global .ensures (mark .result) in
     let a = next-register .ensures .0 in
     let b = emit .ensures in
     let d = put-wide .ensures in
     gives (uses 8 1 0) (one k ▹ one a ▹ one b ▹ one d) (omega arith) (omega arith) (omega arith) (λ z. omega arith) (omega arith)
-    (λ ps. rw (held .is-only (start .pre .2)) (rw (name, mark) at (let-only-chain _ _ _ _ _ (is-global-context .ensures .1 _ (start .args .step) (given .fine .sound) ps) .0 (if1 .taken) _ (k .runs ps) _ (known _ _ _ ps) _ (a .runs ps) _ (known _ _ _ ps) _ (b .runs ps) _ (d .runs ps))))
+    (λ ps. rw (held .is-only (start .pre .2)) (rw (child .ensures .0 ∙ told .name, mark .ensures ∙ told .mark) at (let-only-chain _ _ _ _ _ (is-global-context .ensures .1 _ (start .args .step) (given .fine .sound) ps) .0 (if1 .taken) _ (k .runs ps) _ (known _ _ _ ps) _ (a .runs ps) _ (known _ _ _ ps) _ (b .runs ps) _ (d .runs ps))))
     (small-put d (lit< tt))
 
 allocate-register-requires : tie.Need-allocate-register-requires
@@ -112,19 +111,18 @@ returns-2 c =
     let start = c .before .before .before .before .before .before .before .before .before .before .before .before .before .before .before .before .before in
     let child = c .before .before .before .before .before .before .before .before .before .before .before .child in
     let payload-of = c .before .before .before .before .before .before .before .before .before .before .before .before .payload-of in
-    let word = c .before .before .before .before .before .before .before .before .before .before .word in
+    let mark = c .before .before .before .before .before .before .before .before .before .before .mark-there in
     let next-register2 = c .before .before .before .before .before .before .next-register2 in
     let allocate-register = c .before .before .allocate-register in
     let is-global-context = c .before .before .before .before .before .before .before .before .before .is-global-context in
     let if1 = c .before .before .before .before .before .before .before .before .if1 in
     let given = start .pre .0 in
     let held = let-node (fields (now (start .args .tree))) (given .lawful .shapes) (start .args .node) (inside (given .lawful) (given .known)) (start .pre .1) in
-    let name = child .ensures .0 ∙ ap (λ p. at (words p) 0) (payload-of .ensures) in
-    let mark = word .ensures .0 ∙ ap (λ p. at (words p) 1) (payload-of .ensures) in
+    let told = let-named (given .lawful) (given .known) (given .width) (payload-of .ensures) (start .pre .1) in
     let a = next-register2 .ensures .0 in
     let d = allocate-register .ensures in
     gives (uses 8 1 0) (one a ▹ one d) (omega arith) (omega arith) (omega arith) (λ z. omega arith) (omega arith)
-    (λ ps. rw (held .is-only (start .pre .2)) (rw (name, mark) at (let-only-chain _ (token (child .result) (word .result)) _ _ _ (is-global-context .ensures .1 _ (start .args .step) (given .fine .sound) ps) .1 (if1 .left) _ (a .runs ps) _ (known _ _ _ ps) _ (d .runs ps))))
+    (λ ps. rw (held .is-only (start .pre .2)) (rw (child .ensures .0 ∙ told .name, mark .ensures ∙ told .mark) at (let-only-chain _ (token (child .result) (mark .result)) _ _ _ (is-global-context .ensures .1 _ (start .args .step) (given .fine .sound) ps) .1 (if1 .left) _ (a .runs ps) _ (known _ _ _ ps) _ (d .runs ps))))
     (always (next-register2 .result .outcome) (next-register2 .ensures .1))
 
 pub let-only-spec : {M : Type 1} → statement M
@@ -135,7 +133,7 @@ let-only-spec =
     (λ c. search needs)
     payload-of-requires
     child-requires
-    word-requires
+    mark-there-requires
     (λ c κs. search needs)
     new-global-requires
     next-register-requires

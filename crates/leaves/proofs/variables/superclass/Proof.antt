@@ -4,8 +4,7 @@ use mathlib.Core.Path.{_≡_, sym, ap, _∙_}
 use native.Mathlib.Omega.{arith}
 use lib.Dec.{lit<}
 use denote.Ref.{now}
-use Rattle.meaning.specs.Fields.{fields, words}
-use Rattle.meaning.specs.Read.{at}
+use Rattle.meaning.specs.Fields.{fields}
 use Rattle.meaning.specs.At.{word-of, expr-at}
 use Rattle.meaning.specs.Weight.{weight-super}
 use Rattle.meaning.specs.Visits.{visits-super}
@@ -16,7 +15,7 @@ use Rattle.store.specs.Promise.{nothing, takes}
 use Rattle.store.proofs.Visiting.{ticked-runs}
 use Rattle.store.proofs.Compose.{known}
 use Rattle.code.specs.Words.{Bytes}
-use Rattle.leaves.proofs.Held.{inside, readable, lawful-kept, super-none, super-some}
+use Rattle.leaves.proofs.Held.{inside, readable, lawful-kept, class-named, super-none, super-some}
 use Rattle.leaves.proofs.Line.{one, counting, _▹_, room-after, always, small-emit, gives}
 use Rattle.leaves.proofs.variables.superclass.Statement.{statement}
 use Rattle.leaves.proofs.variables.superclass.Tie as tie
@@ -26,57 +25,43 @@ payload-of-requires c κs =
     let start = c .before .before .before .before in
     readable (start .pre .0 .lawful) (start .pre .0 .known)
 
-word-requires : tie.Need-word-requires
-word-requires c κs =
-    let start = c .before .before .before .before .before in
-    let payload-of = c .payload-of in
-    let given = start .pre .0 in
-    let held = class-node (fields (now (start .args .tree))) (given .lawful .shapes) (start .args .node) (inside (given .lawful) (given .known)) (start .pre .1) in
-    rw (payload-of .ensures) (omega (arith, held .size))
-
-child-requires : tie.Need-child-requires
-child-requires c κs =
-    let start = c .before .before .before .before .before .before in
-    let payload-of = c .before .payload-of in
-    let given = start .pre .0 in
-    let held = class-node (fields (now (start .args .tree))) (given .lawful .shapes) (start .args .node) (inside (given .lawful) (given .known)) (start .pre .1) in
-    rw (payload-of .ensures) (omega (arith, held .size))
-
 visit-requires : tie.Need-visit-requires
 visit-requires c κs =
-    let start = c .before .before .before .before .before .before .before .before .before in
+    let start = c .before .before .before .before .before .before .before .before .before .before in
     omega (arith, start .pre .0 .fine .sound .long)
 
 variable-requires : tie.Need-variable-requires
 unfolding weight-super
 variable-requires c κs =
-    let start = c .before .before .before .before .before .before .before .before .before .before .before .before .before in
-    let child = c .before .before .before .before .before .before .child in
-    let payload-of = c .before .before .before .before .before .before .before .before .payload-of in
+    let start = c .before .before .before .before .before .before .before .before .before .before .before .before .before .before in
+    let word = c .before .before .before .before .before .before .word in
+    let third-place = c .before .before .before .before .before .before .before .third-place in
+    let payload-of = c .before .before .before .before .before .before .before .before .before .payload-of in
     let if1 = c .before .before .before .before .before .if1 in
     let visit = c .before .before .before .visit in
     let given = start .pre .0 in
     let fs = fields (now (start .args .tree)) in
     let held = class-node fs (given .lawful .shapes) (start .args .node) (inside (given .lawful) (given .known)) (start .pre .1) in
-    let parent = child .ensures .0 ∙ ap (λ p. at (words p) 2) (payload-of .ensures) in
+    let parent = word .ensures .0 ∙ class-named (given .lawful) (given .known) (given .width) (payload-of .ensures) (start .pre .1) .third _ (third-place .ensures) in
     let below = held .superclass (λ e. if1 .taken (parent ∙ e)) in
     let is = super-some fs (word-of fs (start .args .node) 2) (λ e. if1 .taken (parent ∙ e)) in
     let line = counting (given .fine) (visit .ensures) in
-    (record { lawful = lawful-kept (given .lawful) (line .moves .kept); fine = line .moves .fine; room = room-after 1 0 0 line (rw is at (given .room)) (omega arith) (omega arith) (omega arith); known = omega (arith, parent, below .below, given .known) }, rw parent (below .tag))
+    (record { lawful = lawful-kept (given .lawful) (line .moves .kept); fine = line .moves .fine; room = room-after 1 0 0 line (rw is at (given .room)) (omega arith) (omega arith) (omega arith); known = omega (arith, parent, below .below, given .known); width = given .width }, rw parent (below .tag))
 
 returns : tie.Need-returns
 unfolding lower-expr weight-super visits-super
 returns c =
-    let start = c .before .before .before .before .before .before .before .before .before .before .before .before .before .before .before .before in
-    let child = c .before .before .before .before .before .before .before .before .before .child in
-    let payload-of = c .before .before .before .before .before .before .before .before .before .before .before .payload-of in
+    let start = c .before .before .before .before .before .before .before .before .before .before .before .before .before .before .before .before .before in
+    let word = c .before .before .before .before .before .before .before .before .before .word in
+    let third-place = c .before .before .before .before .before .before .before .before .before .before .third-place in
+    let payload-of = c .before .before .before .before .before .before .before .before .before .before .before .before .payload-of in
     let if1 = c .before .before .before .before .before .before .before .before .if1 in
     let visit = c .before .before .before .before .before .before .visit in
     let variable = c .before .before .variable in
     let given = start .pre .0 in
     let fs = fields (now (start .args .tree)) in
     let held = class-node fs (given .lawful .shapes) (start .args .node) (inside (given .lawful) (given .known)) (start .pre .1) in
-    let parent = child .ensures .0 ∙ ap (λ p. at (words p) 2) (payload-of .ensures) in
+    let parent = word .ensures .0 ∙ class-named (given .lawful) (given .known) (given .width) (payload-of .ensures) (start .pre .1) .third _ (third-place .ensures) in
     let some : word-of fs (start .args .node) 2 ≡ 65535 → ⊥ = λ e. if1 .taken (parent ∙ e) in
     let below = held .superclass some in
     let known = inside {i = word-of fs (start .args .node) 2} (given .lawful) (omega (arith, below .below, given .known)) in
@@ -89,7 +74,7 @@ returns c =
 
 emit-requires : tie.Need-emit-requires
 emit-requires c κs =
-    let start = c .before .before .before .before .before .before .before .before .before .before .before .before .before in
+    let start = c .before .before .before .before .before .before .before .before .before .before .before .before .before .before in
     let next-register = c .before .before .before .next-register in
     let line = one (next-register .ensures .0) in
     let register = next-register .result .result in
@@ -100,21 +85,23 @@ emit-requires c κs =
 returns-2 : tie.Need-returns-2
 unfolding weight-super visits-super
 returns-2 c =
-    let start = c .before .before .before .before .before .before .before .before .before .before .before .before .before .before .before .before in
-    let payload-of = c .before .before .before .before .before .before .before .before .before .before .before .payload-of in
-    let word = c .before .before .before .before .before .before .before .before .before .before .word in
-    let child = c .before .before .before .before .before .before .before .before .before .child in
+    let start = c .before .before .before .before .before .before .before .before .before .before .before .before .before .before .before .before .before in
+    let payload-of = c .before .before .before .before .before .before .before .before .before .before .before .before .payload-of in
+    let mark = c .before .before .before .before .before .before .before .before .before .before .before .mark in
+    let word = c .before .before .before .before .before .before .before .before .before .word in
+    let third-place = c .before .before .before .before .before .before .before .before .before .before .third-place in
     let if1 = c .before .before .before .before .before .before .before .before .if1 in
     let next-register = c .before .before .before .before .before .before .next-register in
     let emit = c .before .before .emit in
+    let given = start .pre .0 in
     let fs = fields (now (start .args .tree)) in
-    let parent = child .ensures .0 ∙ ap (λ p. at (words p) 2) (payload-of .ensures) in
-    let mark = word .ensures .0 ∙ ap (λ p. at (words p) 1) (payload-of .ensures) in
+    let told = class-named (given .lawful) (given .known) (given .width) (payload-of .ensures) (start .pre .1) in
+    let parent = word .ensures .0 ∙ told .third _ (third-place .ensures) in
     let a = next-register .ensures .0 in
     let d = emit .ensures in
     rw (super-none fs (word-of fs (start .args .node) 2) (sym parent ∙ if1 .left))
     (gives nothing (one a ▹ one d) (omega arith) (omega arith) (omega arith) (λ z. omega arith) (omega arith)
-    (λ ps. super-none-chain _ _ _ _ (a .runs ps) _ (known _ _ _ ps) _ (rw mark at (d .runs ps)))
+    (λ ps. super-none-chain _ _ _ _ (a .runs ps) _ (known _ _ _ ps) _ (rw (mark .ensures ∙ told .mark) at (d .runs ps)))
     (small-emit d (next-register .ensures .1)))
 
 pub superclass-spec : {M : Type 1} → statement M
@@ -124,8 +111,9 @@ superclass-spec =
     (λ c. search needs)
     (λ c. search needs)
     payload-of-requires
-    word-requires
-    child-requires
+    (λ c κs. lit< tt)
+    (λ c κs. search needs)
+    (λ c κs. search needs)
     visit-requires
     variable-requires
     (λ c. search needs)

@@ -1,15 +1,15 @@
 -- Two words: the name and its mark.
 use borrow.Author.Needs.{needs}
-use mathlib.Core.Path.{ap, _∙_}
+use mathlib.Core.Path.{_∙_}
 use native.Mathlib.Omega.{arith}
+use lib.Dec.{lit<}
 use denote.Ref.{now}
-use Rattle.meaning.specs.Fields.{fields, words}
-use Rattle.meaning.specs.Read.{at}
+use Rattle.meaning.specs.Fields.{fields}
 use Rattle.meaning.specs.Lower.{lower-expr}
 use Rattle.meaning.proofs.Reading.{variable-node}
 use Rattle.store.specs.Promise.{uses}
 use Rattle.store.proofs.Compose.{room-by}
-use Rattle.leaves.proofs.Held.{inside, readable}
+use Rattle.leaves.proofs.Held.{inside, readable, variable-named}
 use Rattle.leaves.proofs.Line.{one, gives}
 use Rattle.leaves.proofs.variables.variable.Statement.{statement}
 use Rattle.leaves.proofs.variables.variable.Tie as tie
@@ -22,18 +22,14 @@ payload-of-requires c κs =
 child-requires : tie.Need-child-requires
 child-requires c κs =
     let start = c .before .before .before .before .before in
-    let payload-of = c .payload-of in
     let given = start .pre .0 in
-    let held = variable-node (fields (now (start .args .tree))) (given .lawful .shapes) (start .args .node) (inside (given .lawful) (given .known)) (start .pre .1) in
-    rw (payload-of .ensures) (omega (arith, held .size))
+    omega (arith, variable-named (given .lawful) (given .known) (given .width) (c .payload-of .ensures) (start .pre .1) .some)
 
-word-requires : tie.Need-word-requires
-word-requires c κs =
+mark-there-requires : tie.Need-mark-there-requires
+mark-there-requires c κs =
     let start = c .before .before .before .before .before .before in
-    let payload-of = c .before .payload-of in
     let given = start .pre .0 in
-    let held = variable-node (fields (now (start .args .tree))) (given .lawful .shapes) (start .args .node) (inside (given .lawful) (given .known)) (start .pre .1) in
-    rw (payload-of .ensures) (omega (arith, held .size))
+    (variable-named (given .lawful) (given .known) (given .width) (c .before .payload-of .ensures) (start .pre .1) .some, lit< tt)
 
 visit-variable-expr-requires : tie.Need-visit-variable-expr-requires
 visit-variable-expr-requires c κs =
@@ -47,14 +43,13 @@ returns c =
     let start = c .before .before .before .before .before .before .before .before .before .before .before in
     let child = c .before .before .before .before .before .child in
     let payload-of = c .before .before .before .before .before .before .payload-of in
-    let word = c .before .before .before .before .word in
+    let mark = c .before .before .before .before .mark-there in
     let visit-variable-expr = c .before .before .visit-variable-expr in
     let given = start .pre .0 in
     let held = variable-node (fields (now (start .args .tree))) (given .lawful .shapes) (start .args .node) (inside (given .lawful) (given .known)) (start .pre .1) in
-    let name = child .ensures .0 ∙ ap (λ p. at (words p) 0) (payload-of .ensures) in
-    let mark = word .ensures .0 ∙ ap (λ p. at (words p) 1) (payload-of .ensures) in
+    let told = variable-named (given .lawful) (given .known) (given .width) (payload-of .ensures) (start .pre .1) in
     let d = visit-variable-expr .ensures in
-    gives (uses 8 0 0) (one (d .leaf)) (omega arith) (omega arith) (omega arith) (λ z. omega arith) (omega arith) (λ ps. rw (held .is) (rw (name, mark) at (d .leaf .runs ps))) (d .small)
+    gives (uses 8 0 0) (one (d .leaf)) (omega arith) (omega arith) (omega arith) (λ z. omega arith) (omega arith) (λ ps. rw (held .is) (rw (child .ensures .0 ∙ told .name, mark .ensures ∙ told .mark) at (d .leaf .runs ps))) (d .small)
 
 pub variable-spec : {M : Type 1} → statement M
 variable-spec =
@@ -64,7 +59,7 @@ variable-spec =
     (λ c. search needs)
     payload-of-requires
     child-requires
-    word-requires
+    mark-there-requires
     visit-variable-expr-requires
     (λ c. search needs)
     returns)

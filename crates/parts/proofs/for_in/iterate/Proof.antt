@@ -16,15 +16,15 @@ use Rattle.parts.proofs.for_in.iterate.Statement.{statement}
 use Rattle.parts.proofs.for_in.iterate.Tie as tie
 
 iterate-one-requires : tie.Need-iterate-one-requires
-iterate-one-requires c κs = let start = c .before .before .before .before .before in (start .pre .0, start .pre .1, c .before .child .ensures .1, start .pre .5, start .pre .6)
+iterate-one-requires c κs = let start = c .before .before .before .before .before in (start .pre .0, start .pre .1, c .before .word .ensures .1, start .pre .5, start .pre .6)
 
 returns : tie.Need-returns
 returns c =
     let start = c .before .before .before .before .before .before .before .before in
     let s = start .args in
-    let child = c .before .before .before .before .child .ensures in
+    let child = c .before .before .before .before .word .ensures in
     let one = rw (child .0) at (c .before .before .iterate-one .ensures) in
-    rw (one-token (s .payload .now) (s .from) (s .n) (start .pre .3) (c .before .before .before .before .before .if1 .taken)) (one (s .node) _)
+    rw (one-token (s .scope) (s .payload .now) (s .from) (s .n) (c .before .before .before .before .before .if1 .taken)) (one (s .node) _)
 
 several : (node mark element collection counter : ℕ) (xs : List Token) → 2 ≤ length xs → (r : Run) → Chain (iterate-many-calls node mark element collection counter xs) r (fwd-code (iterate node mark element collection counter xs))
 several node mark element collection counter [] h = absurd (omega arith)
@@ -51,13 +51,13 @@ returns-2 c =
     let last = c .before .before .iterate-each .ensures in
     let more : 2 ≤ s .n = omega (arith, start .pre .2, c .before .before .before .before .before .before .before .before .if1 .left) in
     ends _ (from (start .pre .0) (start .pre .1) ▹ gotten ▹ last) (search needs)
-    (λ ps. several (s .node) (s .mark) (s .counter + 3) (s .collection) (s .counter) _ (two-tokens (s .payload .now) (s .from) (s .n) (start .pre .3) more) _ _ (gotten .runs ps) _ (last .runs ps))
+    (λ ps. several (s .node) (s .mark) (s .counter + 3) (s .collection) (s .counter) _ (two-tokens (s .scope) (s .payload .now) (s .from) (s .n) more) _ _ (gotten .runs ps) _ (last .runs ps))
 
 pub iterate-spec : {M : Type 1} → statement M
 iterate-spec =
     tie.close
     (tie.spec
-    (λ c κs. omega arith)
+    (λ c κs. search needs)
     iterate-one-requires
     (λ c. search needs)
     returns

@@ -2,7 +2,6 @@
 use Prim.Native.Nat.{_-_}
 use native.Mathlib.Omega.{arith}
 use borrow.Author.Needs.{needs}
-use Rattle.nodes.proofs.Words.{words-count}
 use Rattle.forward.proofs.Chains.{iterate-each-end}
 use Rattle.store.proofs.Runs.{due}
 use Rattle.parts.proofs.Line.{_▹_, room, here, settling, ends}
@@ -22,7 +21,7 @@ loop-holds c = no-turn (c .before .before .pre .0) (c .before .before .pre .1)
 declare-parameter-requires : tie.Need-declare-parameter-requires Inv-loop μ-loop
 declare-parameter-requires c κs =
     let line = c .before .before .before .loop .inv .line in
-    (line .moves .fine, room 0 0 line (search needs), c .before .child .ensures .1)
+    (line .moves .fine, room 0 0 line (search needs), c .before .pair .ensures .1)
 
 emit-requires : tie.Need-emit-requires Inv-loop μ-loop
 emit-requires c κs =
@@ -46,7 +45,7 @@ loop-again c =
     let start = c .before .before .before .before .before .before .before .before .before .before .before .before .before in
     let s = start .args in
     let inv = c .before .before .before .before .before .before .before .before .before .before .loop .inv in
-    name-turn (s .node) (s .mark) (s .element) _ inv (start .pre .2) (omega (arith, c .before .before .before .before .before .before .before .before .before .loop-test .taken)) (c .before .before .before .before .before .before .before .before .child .ensures .0)
+    name-turn (s .node) (s .mark) (s .element) _ inv (omega (arith, c .before .before .before .before .before .before .before .before .before .loop-test .taken)) (c .before .before .before .before .before .before .before .before .pair .ensures .0)
     (c .before .before .before .before .before .before .declare-parameter .ensures .0) (c .before .before .emit .ensures)
 
 returns : tie.Need-returns Inv-loop μ-loop
@@ -63,9 +62,7 @@ iterate-each-spec =
     Inv-loop
     μ-loop
     loop-holds
-    (λ c. omega (arith, words-count (c .before .before .before .before .args .payload .now)))
-    (λ c. omega (arith, words-count (c .before .before .before .before .args .payload .now)))
-    (λ c κs. omega arith)
+    (λ c κs. let h = c .before .before .before .before .pre in (h .2, omega (arith, h .3)))
     declare-parameter-requires
     (λ c. omega arith)
     emit-requires

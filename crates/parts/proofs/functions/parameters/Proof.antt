@@ -2,7 +2,6 @@
 use Prim.Native.Nat.{_-_}
 use native.Mathlib.Omega.{arith}
 use borrow.Author.Needs.{needs}
-use Rattle.nodes.proofs.Words.{words-count}
 use Rattle.forward.proofs.Chains.{parameter-end}
 use Rattle.parts.proofs.Line.{_▹_, room, settling, ends}
 use Rattle.parts.proofs.Loop.{Turned, all-parameters, no-turn, parameter-turn, all-turned}
@@ -21,13 +20,13 @@ loop-holds c = no-turn (c .before .before .pre .0) (c .before .before .pre .1)
 declare-parameter-requires : tie.Need-declare-parameter-requires Inv-loop μ-loop
 declare-parameter-requires c κs =
     let line = c .before .before .before .loop .inv .line in
-    (line .moves .fine, room 0 0 line (search needs), c .before .child .ensures .1)
+    (line .moves .fine, room 0 0 line (search needs), c .before .pair .ensures .1)
 
 loop-again : tie.Need-loop-again Inv-loop μ-loop
 loop-again c =
     let start = c .before .before .before .before .before .before .before .before .before in
     let loop = c .before .before .before .before .before .before .loop in
-    parameter-turn (start .args .node) _ (loop .inv) (start .pre .2) (omega arith) (c .before .before .before .before .child .ensures .0) (c .before .before .declare-parameter .ensures .0)
+    parameter-turn (start .args .node) _ (loop .inv) (omega arith) (c .before .before .before .before .pair .ensures .0) (c .before .before .declare-parameter .ensures .0)
 
 returns : tie.Need-returns Inv-loop μ-loop
 returns c =
@@ -43,9 +42,7 @@ parameters-spec =
     Inv-loop
     μ-loop
     loop-holds
-    (λ c. omega (arith, words-count (c .before .before .before .before .args .payload .now)))
-    (λ c. omega (arith, words-count (c .before .before .before .before .args .payload .now)))
-    (λ c κs. omega arith)
+    (λ c κs. let h = c .before .before .before .before .pre .2 in (h .0, omega (arith, h .1)))
     declare-parameter-requires
     (λ c. omega arith)
     (λ c. omega arith)

@@ -14,7 +14,7 @@ returns-2 c = simp (le-ltb _ _ (c .before .if1 .left), lt-ltb _ _ (c .if2 .taken
 
 returns-3 : tie.Need-returns-3
 unfolding names
-returns-3 c = simp (le-ltb _ _ (c .before .if1 .left), le-ltb _ _ (c .if2 .left))
+returns-3 c = simp (le-ltb _ _ (c .before .if1 .left), le-ltb _ _ (c .if2 .left), lt-ltb _ _ (c .before .before .pre))
 
 pub is-child-spec : {M : Type 1} → statement M
 is-child-spec =

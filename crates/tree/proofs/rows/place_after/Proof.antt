@@ -12,8 +12,8 @@ use Rattle.tree.proofs.rows.place_after.Tie as tie
 returns : tie.Need-returns
 unfolding next-left next-row
 returns c =
-    let flow : c .before .args .row / 262144 % 4 ≡ 0 = omega (arith, c .if1 .taken) in
-    let next : c .before .args .row / 16 ≡ c .before .args .row / 16 % 128 = omega (arith, c .if1 .taken) in
+    let flow : c .before .args .row / 1048576 % 4 ≡ 0 = omega (arith, c .if1 .taken) in
+    let next : c .before .args .row / 16 ≡ c .before .args .row / 16 % 256 = omega (arith, c .if1 .taken) in
     (simp (eq-eqb _ _ flow), next ∙ simp (eq-eqb _ _ flow))
 
 returns-2 : tie.Need-returns-2
