@@ -275,8 +275,9 @@ unfoldable pub due-words : (wide : Bool) → List Item → List ℕ → List ℕ
 due-words wide is [] = []
 due-words wide is (v ∷ []) = cond (wide && marked is) (v * 65536 ∷ []) (short is v ∷ [])
 due-words wide is (v ∷ u ∷ vs) =
-    cond (wide && marked is) ((v * 65536 + u) ∷ due-words wide (due-after is (v * 65536 + u)) vs)
-    (short is v ∷ due-words wide (due-after is (short is v)) (u ∷ vs))
+    let long = due-words wide (due-after is (v * 65536 + u)) vs in
+    let next = due-words wide (due-after is (short is v)) (u ∷ vs) in
+    cond (wide && marked is) ((v * 65536 + u) ∷ long) (short is v ∷ next)
 
 -- the words of a node
 unfoldable pub words-of : (wide : Bool) → Field → List ℕ
