@@ -30,15 +30,9 @@ fn started(room: &mut [u8]) {
     }
 }
 
-// Never: no process has the number 0. A function that calls itself behind this test is compiled apart, with a frame of its own on the stack;
-// its array would otherwise be a part of main's frame, in every run.
-fn never() -> bool {
-    libc::getpid() == 0
-}
-
 // One byte more than 256 prototypes of 13 bytes, each with 65,535 captures of 5 and as many instructions of 11, and 1,024 constants of 11.
 fn large(read: &[u8], turns: usize) {
-    if never() && 0 < turns {
+    if programs::never() && 0 < turns {
         large(read, turns - 1);
     }
     let mut room = [0u8; 268445953];
@@ -46,29 +40,10 @@ fn large(read: &[u8], turns: usize) {
 }
 
 fn more(read: &[u8], room: &mut [u8]) {
-    let n = filled(read, room);
+    let n = programs::filled(read, room);
     if n < room.len() {
         told(&room[0..n], true);
     }
-}
-
-// What was read so far goes to the front of the room, what follows on standard input behind it.
-fn filled(read: &[u8], room: &mut [u8]) -> usize
-    ensures { λ r. ⌜ r ≤ length (now (room .entry)) ⌝ }
-{
-    let n = copied(read, room);
-    n + io::read_full(0, &mut room[n..])
-}
-
-fn copied(read: &[u8], room: &mut [u8]) -> usize
-    ensures { λ r. ⌜ r ≤ length (now (room .entry)) ⌝ }
-{
-    let mut n: usize = 0;
-    while n < read.len() && n < room.len() {
-        room[n] = read[n];
-        n += 1;
-    }
-    n
 }
 
 // The text is for a line.

@@ -5,13 +5,13 @@ mod mode;
 mod words;
 
 use meaning::Reply;
-use mode::Told;
+use programs::Spelled;
 ghost use Prim.Native.Nat.{_≤_};
 ghost use lib.ListN.{length};
 
 fn main() {
     let said = mode::said();
-    let Told::Mode(mode) = said else {
+    let Spelled::Number(mode) = said else {
         words::say(b"the mode is no decimal number of 64 bits, in 20 digits at most");
         return;
     };
@@ -37,7 +37,7 @@ fn started(mode: u64) {
 }
 
 fn small(room: &mut [u8], mode: u64) {
-    let n = filled(b"", room);
+    let n = programs::filled(b"", room);
     if n < room.len() {
         lowered(&room[0..n], mode);
         return;
@@ -45,15 +45,9 @@ fn small(room: &mut [u8], mode: u64) {
     medium(room, 1, mode);
 }
 
-// Never: no process has the number 0. A function that calls itself behind this test is compiled apart, with a frame of its own on the stack;
-// its array would otherwise be a part of main's frame, in every run.
-fn never() -> bool {
-    libc::getpid() == 0
-}
-
 // A longer tree is refused in any case. The next rooms are for the number and the place.
 fn medium(read: &[u8], turns: usize, mode: u64) {
-    if never() && 0 < turns {
+    if programs::never() && 0 < turns {
         medium(read, turns - 1, mode);
     }
     let mut room = [0u8; 134217728];
@@ -61,7 +55,7 @@ fn medium(read: &[u8], turns: usize, mode: u64) {
 }
 
 fn more(read: &[u8], room: &mut [u8], mode: u64) {
-    let n = filled(read, room);
+    let n = programs::filled(read, room);
     if n < room.len() {
         lowered(&room[0..n], mode);
         return;
@@ -71,7 +65,7 @@ fn more(read: &[u8], room: &mut [u8], mode: u64) {
 
 // The compiler takes 2 GiB of locals in a function at most, so this room is 131,072 bytes short of 32,768 fields of the greatest length.
 fn large(read: &[u8], turns: usize, mode: u64) {
-    if never() && 0 < turns {
+    if programs::never() && 0 < turns {
         large(read, turns - 1, mode);
     }
     let mut room = [0u8; 2147418112];
@@ -79,31 +73,12 @@ fn large(read: &[u8], turns: usize, mode: u64) {
 }
 
 fn most(read: &[u8], room: &mut [u8], mode: u64) {
-    let n = filled(read, room);
+    let n = programs::filled(read, room);
     if n < room.len() {
         lowered(&room[0..n], mode);
         return;
     }
     words::say(b"refused: too long: a tree of 2,147,418,112 bytes or more is not read");
-}
-
-// What was read so far goes to the front of the room, what follows on standard input behind it.
-fn filled(read: &[u8], room: &mut [u8]) -> usize
-    ensures { λ r. ⌜ r ≤ length (now (room .entry)) ⌝ }
-{
-    let n = copied(read, room);
-    n + io::read_full(0, &mut room[n..])
-}
-
-fn copied(read: &[u8], room: &mut [u8]) -> usize
-    ensures { λ r. ⌜ r ≤ length (now (room .entry)) ⌝ }
-{
-    let mut n: usize = 0;
-    while n < read.len() && n < room.len() {
-        room[n] = read[n];
-        n += 1;
-    }
-    n
 }
 
 fn lowered(tree: &[u8], mode: u64) {
@@ -123,7 +98,7 @@ fn first(tree: &[u8], out: &mut [u8], mode: u64) {
 
 // 256 prototypes of 13 bytes, each with 255 captures of 5 and 32,767 instructions of 9, and 1,024 constants of 11.
 fn full(tree: &[u8], turns: usize, mode: u64) {
-    if never() && 0 < turns {
+    if programs::never() && 0 < turns {
         full(tree, turns - 1, mode);
     }
     let mut out = [0u8; 92612864];

@@ -26,15 +26,9 @@ fn few(image: &[u8]) {
     told(image, &mut out, &mut list);
 }
 
-// Never: no process has the number 0. A function that calls itself behind this test is compiled apart, with a frame of its own on the stack;
-// its array would otherwise be a part of main's frame, in every run.
-fn never() -> bool {
-    libc::getpid() == 0
-}
-
 // One byte more than 256 prototypes of 13 bytes, each with 65,535 captures of 5 and as many instructions of 11, and 1,024 constants of 11.
 fn large(read: &[u8], turns: usize) {
-    if never() && 0 < turns {
+    if programs::never() && 0 < turns {
         large(read, turns - 1);
     }
     let mut room = [0u8; 268445953];
@@ -42,7 +36,7 @@ fn large(read: &[u8], turns: usize) {
 }
 
 fn more(read: &[u8], room: &mut [u8]) {
-    let n = filled(read, room);
+    let n = programs::filled(read, room);
     if n < room.len() {
         many(&room[0..n], 1);
     }
@@ -50,31 +44,12 @@ fn more(read: &[u8], room: &mut [u8]) {
 
 // 256 prototypes of 65,535 instructions have 16,776,960 entries at most.
 fn many(image: &[u8], turns: usize) {
-    if never() && 0 < turns {
+    if programs::never() && 0 < turns {
         many(image, turns - 1);
     }
     let mut out = [0u8; 268445953];
     let mut list = [0u8; 134215680];
     told(image, &mut out, &mut list);
-}
-
-// What was read so far goes to the front of the room, what follows on standard input behind it.
-fn filled(read: &[u8], room: &mut [u8]) -> usize
-    ensures { λ r. ⌜ r ≤ length (now (room .entry)) ⌝ }
-{
-    let n = copied(read, room);
-    n + io::read_full(0, &mut room[n..])
-}
-
-fn copied(read: &[u8], room: &mut [u8]) -> usize
-    ensures { λ r. ⌜ r ≤ length (now (room .entry)) ⌝ }
-{
-    let mut n: usize = 0;
-    while n < read.len() && n < room.len() {
-        room[n] = read[n];
-        n += 1;
-    }
-    n
 }
 
 fn told(image: &[u8], out: &mut [u8], list: &mut [u8]) {

@@ -27,7 +27,7 @@ fn started(asked: Asked) {
 }
 
 fn small(room: &mut [u8], asked: Asked) {
-    let n = filled(b"", room);
+    let n = programs::filled(b"", room);
     if n < room.len() {
         walked(&room[0..n], asked);
         return;
@@ -35,16 +35,10 @@ fn small(room: &mut [u8], asked: Asked) {
     large(room, 1, asked);
 }
 
-// Never: no process has the number 0. A function that calls itself behind this test is compiled apart, with a frame of its own on the stack;
-// its array would otherwise be a part of main's frame, in every run.
-fn never() -> bool {
-    libc::getpid() == 0
-}
-
 // The compiler takes 2 GiB of locals in a function at most. An image that is taken has 268,445,952 bytes at most, so there is room for more than
 // 1,870,000,000 bytes of decisions and strikes.
 fn large(read: &[u8], turns: usize, asked: Asked) {
-    if never() && 0 < turns {
+    if programs::never() && 0 < turns {
         large(read, turns - 1, asked);
     }
     let mut room = [0u8; 2147418112];
@@ -52,29 +46,10 @@ fn large(read: &[u8], turns: usize, asked: Asked) {
 }
 
 fn more(read: &[u8], room: &mut [u8], asked: Asked) {
-    let n = filled(read, room);
+    let n = programs::filled(read, room);
     if n < room.len() {
         walked(&room[0..n], asked);
     }
-}
-
-// What was read so far goes to the front of the room, what follows on standard input behind it.
-fn filled(read: &[u8], room: &mut [u8]) -> usize
-    ensures { λ r. ⌜ r ≤ length (now (room .entry)) ⌝ }
-{
-    let n = copied(read, room);
-    n + io::read_full(0, &mut room[n..])
-}
-
-fn copied(read: &[u8], room: &mut [u8]) -> usize
-    ensures { λ r. ⌜ r ≤ length (now (room .entry)) ⌝ }
-{
-    let mut n: usize = 0;
-    while n < read.len() && n < room.len() {
-        room[n] = read[n];
-        n += 1;
-    }
-    n
 }
 
 // The decisions stand first, then the strikes, then the image.
@@ -106,7 +81,7 @@ fn few(decisions: &[u8], strikes: &[u8], image: &[u8], asked: Asked) {
 
 // 16,777,216 strikes at most.
 fn many(decisions: &[u8], strikes: &[u8], image: &[u8], asked: Asked, turns: usize) {
-    if never() && 0 < turns {
+    if programs::never() && 0 < turns {
         many(decisions, strikes, image, asked, turns - 1);
     }
     let mut room = [0u64; 16777216];

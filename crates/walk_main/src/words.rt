@@ -1,4 +1,5 @@
 // What the program is asked, by its arguments.
+use programs::Spelled;
 
 // A walk of a prototype, `budget` steps at most, with so many decisions and strikes; and whether the lent bytes are to be told.
 pub(crate) struct Asked {
@@ -14,24 +15,19 @@ pub(crate) enum Said {
     Wrong,
 }
 
-enum Told {
-    Number(u64),
-    Wrong,
-}
-
 // Four numbers, and perhaps the word `visited`.
 pub(crate) fn heard() -> Said {
     let count = os::arg_count();
-    let Told::Number(prototype) = number(1) else {
+    let Spelled::Number(prototype) = number(1) else {
         return Said::Wrong;
     };
-    let Told::Number(budget) = number(2) else {
+    let Spelled::Number(budget) = number(2) else {
         return Said::Wrong;
     };
-    let Told::Number(decisions) = number(3) else {
+    let Spelled::Number(decisions) = number(3) else {
         return Said::Wrong;
     };
-    let Told::Number(strikes) = number(4) else {
+    let Spelled::Number(strikes) = number(4) else {
         return Said::Wrong;
     };
     let visited = is_visited(5);
@@ -64,36 +60,11 @@ fn is_visited(k: usize) -> bool {
 }
 
 // An argument in decimal. Twenty digits hold every number of 64 bits.
-fn number(k: usize) -> Told {
+fn number(k: usize) -> Spelled {
     let mut word = [0u8; 20];
     let n = os::arg(k, &mut word);
     if os::errno() != 0 {
-        return Told::Wrong;
+        return Spelled::Wrong;
     }
-    decimal(&word[..n])
-}
-
-// The number that a word spells, digits alone and one at least.
-fn decimal(word: &[u8]) -> Told {
-    if word.len() == 0 {
-        return Told::Wrong;
-    }
-    let mut value: u64 = 0;
-    let mut i: usize = 0;
-    while i < word.len() {
-        let digit = wide(word[i]);
-        if digit < 48 || 57 < digit {
-            return Told::Wrong;
-        }
-        if (18446744073709551615 - (digit - 48)) / 10 < value {
-            return Told::Wrong;
-        }
-        value = value * 10 + (digit - 48);
-        i += 1;
-    }
-    Told::Number(value)
-}
-
-fn wide(x: u8) -> u64 {
-    x as u64
+    programs::decimal(&word[..n])
 }

@@ -9,7 +9,7 @@ use borrow.Fn.PlainCycle.{Measures, is, falls, and}
 use Rattle.list_main.proofs.large.Reads as large
 use Rattle.list_main.proofs.large.Kinds as large-kinds
 use Rattle.list_main.proofs.+large.Lts-large as large-lts
-use Rattle.list_main.proofs.never.Reads as never-reads
+use Rattle.programs.proofs.never.Reads as never-reads
 use Rattle.list_main.proofs.more.Reads as more-reads
 use Rattle.list_main.proofs.+large.{statement}
 use Rattle.list_main.proofs.+large.Tie.{close}

@@ -9,7 +9,7 @@ use borrow.Fn.PlainCycle.{Measures, is, falls, and}
 use Rattle.lower_main.proofs.full.Reads as full
 use Rattle.lower_main.proofs.full.Kinds as full-kinds
 use Rattle.lower_main.proofs.+full.Lts-full as full-lts
-use Rattle.lower_main.proofs.never.Reads as never-reads
+use Rattle.programs.proofs.never.Reads as never-reads
 use Rattle.lower_main.proofs.second.Reads as second-reads
 use Rattle.lower_main.proofs.+full.{statement}
 use Rattle.lower_main.proofs.+full.Tie.{close}

@@ -9,7 +9,7 @@ use borrow.Fn.PlainCycle.{Measures, is, falls, and}
 use Rattle.lower_main.proofs.large.Reads as large
 use Rattle.lower_main.proofs.large.Kinds as large-kinds
 use Rattle.lower_main.proofs.+large.Lts-large as large-lts
-use Rattle.lower_main.proofs.never.Reads as never-reads
+use Rattle.programs.proofs.never.Reads as never-reads
 use Rattle.lower_main.proofs.most.Reads as most-reads
 use Rattle.lower_main.proofs.+large.{statement}
 use Rattle.lower_main.proofs.+large.Tie.{close}

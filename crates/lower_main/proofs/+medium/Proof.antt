@@ -9,7 +9,7 @@ use borrow.Fn.PlainCycle.{Measures, is, falls, and}
 use Rattle.lower_main.proofs.medium.Reads as medium
 use Rattle.lower_main.proofs.medium.Kinds as medium-kinds
 use Rattle.lower_main.proofs.+medium.Lts-medium as medium-lts
-use Rattle.lower_main.proofs.never.Reads as never-reads
+use Rattle.programs.proofs.never.Reads as never-reads
 use Rattle.lower_main.proofs.more.Reads as more-reads
 use Rattle.lower_main.proofs.+medium.{statement}
 use Rattle.lower_main.proofs.+medium.Tie.{close}

@@ -9,7 +9,7 @@ use borrow.Fn.PlainCycle.{Measures, is, falls, and}
 use Rattle.mend_main.proofs.many.Reads as many
 use Rattle.mend_main.proofs.many.Kinds as many-kinds
 use Rattle.mend_main.proofs.+many.Lts-many as many-lts
-use Rattle.mend_main.proofs.never.Reads as never-reads
+use Rattle.programs.proofs.never.Reads as never-reads
 use Rattle.mend_main.proofs.told.Reads as told-reads
 use Rattle.mend_main.proofs.+many.{statement}
 use Rattle.mend_main.proofs.+many.Tie.{close}

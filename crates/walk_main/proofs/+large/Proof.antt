@@ -9,7 +9,7 @@ use borrow.Fn.PlainCycle.{Measures, is, falls, and}
 use Rattle.walk_main.proofs.large.Reads as large
 use Rattle.walk_main.proofs.large.Kinds as large-kinds
 use Rattle.walk_main.proofs.+large.Lts-large as large-lts
-use Rattle.walk_main.proofs.never.Reads as never-reads
+use Rattle.programs.proofs.never.Reads as never-reads
 use Rattle.walk_main.proofs.more.Reads as more-reads
 use Rattle.walk_main.proofs.+large.{statement}
 use Rattle.walk_main.proofs.+large.Tie.{close}

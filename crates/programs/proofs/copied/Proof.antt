@@ -4,8 +4,8 @@ use Prim.Native.Nat.{_≤_, _-_}
 use native.Mathlib.Omega.{arith}
 use lib.ListN.{length, length-set}
 use borrow.Author.Tests.{ltb-true}
-use Rattle.mend_main.proofs.copied.Statement.{statement}
-use Rattle.mend_main.proofs.copied.Tie as tie
+use Rattle.programs.proofs.copied.Statement.{statement}
+use Rattle.programs.proofs.copied.Tie as tie
 
 abbrev Inv-loop : tie.InvT-loop
 Inv-loop read room₀ n₀ room n = (n ≤ length room₀) × (length room ≡ length room₀)

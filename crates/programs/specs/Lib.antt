@@ -1,0 +1,2 @@
+-- Words of a command line.
+pub mod Words
