@@ -2,6 +2,7 @@
 ghost use mathlib.Core.Path.{_≡_};
 ghost use Prim.Native.Nat.{_<_};
 ghost use Rattle.meaning.specs.Read.{token};
+ghost use Rattle.meaning.specs.State.{is-builtin-var};
 ghost use Rattle.meaning.specs.Fields.{fields};
 ghost use Rattle.meaning.specs.At.{tag-of};
 ghost use Rattle.meaning.specs.Expressions.{named, visit-outside, visit-variable};
@@ -49,6 +50,13 @@ fn named(
     )
 }
 
+// fn is_builtin_var: the names 0 to 8.
+fn is_builtin_var(name: usize) -> bool
+    ensures { λ r. ⌜ r ≡ is-builtin-var name ⌝ }
+{
+    name <= 8
+}
+
 // fn visit_variable_expr, after the current function's locals and the captures: 9 Undefined.
 fn visit_outside(
     work: &mut [u32],
@@ -61,7 +69,7 @@ fn visit_outside(
     requires { ⌜ Fine (now work) scope step × Room (now work) scope step 0 0 0 × (name < 65536) ⌝ }
     ensures { λ r. ⌜ Gives (now (work .entry)) scope step (now (work .exit)) r nothing (fwd (visit-outside node (token name mark))) ⌝ }
 {
-    if name <= 8 {
+    if is_builtin_var(name) {
         return named(work, step, scope, GET_BUILTIN, node, name, mark);
     }
     if store::is_global_var(work, step, scope, name) {
