@@ -4,28 +4,26 @@ use mathlib.Core.Path.{_≡_, refl, sym, ap, _∙_}
 use mathlib.Core.List.{List, [], _∷_, _++_}
 use Prim.Native.Nat.{ℕ, _+_, _*_, _-_, _<_, _≤_}
 use native.Mathlib.Omega.{arith}
-use lib.ListN.{length, getD, set, length-append}
+use lib.ListN.{length, set, length-append}
 use Rattle.store.specs.declared.Step.{Step}
 use Rattle.store.specs.declared.Scope.{Scope}
 use Rattle.store.specs.Table.{tab}
 use Rattle.store.specs.Layout.{edge, top, inst-at}
 use Rattle.store.specs.Store.{state-of, config-of, run-by, run, while-going, result-limit, advanced, refused-step, Fine}
 use Rattle.store.specs.Promise.{uses, Cost, Room, Leaf}
-use Rattle.store.proofs.Tables.{tab-length, tab-getD}
+use Rattle.store.proofs.Tables.{tab-length}
 use Rattle.store.proofs.Regions.{Same, Only, below, same-count, constants-same, globals-same}
 use Rattle.store.proofs.Runs.{due, promised, goes}
 use Rattle.store.proofs.Steps.{refused-moves, shallow}
 use Rattle.store.proofs.Compose.{taken-few}
 use Rattle.store.proofs.Steady.{Clear, sound-apart, kept-apart, edge-apart, open-apart, around-apart, taken-apart}
-use Rattle.meaning.specs.Opcode.{inst, wide, back, Jmp}
-use Rattle.meaning.specs.Chunk.{patch-loop}
+use Rattle.meaning.specs.Opcode.{wide, Jmp}
 use Rattle.meaning.specs.State.{State, Proto}
 use Rattle.meaning.specs.declared.Cause.{Cause}
 use Rattle.meaning.specs.declared.Outcome.{Outcome}
 use Rattle.meaning.specs.declared.Outcome.the-variants.{Accepted, Refused}
 use Rattle.meaning.specs.declared.Instruction.{Instruction}
 use Rattle.forward.specs.Forward.{Config, config, Run, stopped, going, bind, give, jump-here}
-use Rattle.code.specs.Words.{mended, closed-loop}
 use Rattle.code.proofs.Writing.{Spelled, spelled}
 
 -- a fact that is due, where nothing is refused
@@ -134,17 +132,3 @@ unfolding jump-here
 jumped f k test mark v r i t =
     let n : k - test ≡ length (tab f k ++ i ∷ []) - (test + 1) = simp length-append (omega (arith, tab-length f k)) in
     ap (λ n. going (config (set (tab f k ++ i ∷ []) (test + 1) (wide Jmp 0 n mark)) v t)) n
-
--- ---- the end of a loop, of a body
-
-pub closed-is : (f : ℕ → Instruction) (k goal first condition test mark : ℕ)
-    → mended (patch-loop goal) first (set (tab f k ++ wide Jmp 0 (back (k - condition)) mark ∷ []) (test + 1) (wide Jmp 0 (k - test) mark)) ≡ closed-loop goal first condition test mark (tab f k)
-closed-is f k goal first condition test mark =
-    let n : length (tab f k ++ wide Jmp 0 (back (k - condition)) mark ∷ []) - (test + 1) ≡ k - test = simp length-append (omega (arith, tab-length f k)) in
-    rw (tab-length f k, n)
-
--- the mark of the last instruction
-pub last-mark : (w : List ℕ) (n k : ℕ) → 1 ≤ k → getD w (top n - (2 * k - 1)) 0 ≡ getD (tab (inst-at w n) k) (length (tab (inst-at w n) k) - 1) (inst 0 0 0 0 0) .mark
-last-mark w n k h =
-    let e : 2 * k - 1 ≡ 2 * (k - 1) + 1 = omega arith in
-    rw (tab-length (inst-at w n) k, e) (sym (ap (λ i. i .mark) (tab-getD (inst-at w n) k (k - 1) (inst 0 0 0 0 0) (omega arith))))

@@ -2,12 +2,11 @@
 use Prim.Native.Nat.{ℕ, _+_, _-_, _*_, _<_, _≤_}
 use mathlib.Core.Path.{_≡_}
 use mathlib.Core.Bool.{Bool, true, false}
-use mathlib.Core.List.{List, [], _∷_, _++_}
+use mathlib.Core.List.{List, _++_}
 use lib.ListN.{length, getD, set, take, drop}
 use Rattle.store.specs.Table.{tab}
 use Rattle.store.specs.Layout.{top, unpacked, inst-at}
-use Rattle.meaning.specs.Opcode.{wide, back, Jmp}
-use Rattle.meaning.specs.Chunk.{each-at, patch-jump, patch-loop, patch-end}
+use Rattle.meaning.specs.Chunk.{each-at, patch-jump, patch-end}
 use Rattle.meaning.specs.declared.Instruction.{Instruction}
 
 -- operands that fit their bytes
@@ -51,9 +50,3 @@ patch-by false goal = patch-end
 -- every instruction in turn
 abbrev pub patched : Bool → (goal : ℕ) → List Instruction → List Instruction
 patched looped goal code = each-at (patch-by looped goal (length code)) 0 code
-
--- the code of a loop, at its end: the jump back, the jump out, breaks and continues
-abbrev pub closed-loop : (goal first condition test mark : ℕ) → List Instruction → List Instruction
-closed-loop goal first condition test mark l =
-    let m : List Instruction = l ++ wide Jmp 0 (back (length l - condition)) mark ∷ [] in
-    mended (patch-loop goal) first (set m (test + 1) (wide Jmp 0 (length m - (test + 1)) mark))

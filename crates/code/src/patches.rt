@@ -78,7 +78,7 @@ fn patch_each(work: &mut [u32], nodes: usize, first: usize, end: usize, looped: 
 }
 
 // The continues and breaks of a loop; continues go to its instruction `goal`.
-pub(crate) fn patch_loop(work: &mut [u32], nodes: usize, first: usize, end: usize, goal: usize)
+pub fn patch_loop(work: &mut [u32], nodes: usize, first: usize, end: usize, goal: usize)
     requires { ⌜ (top nodes ≤ length (now work)) × (2 * end ≤ top nodes) × (first ≤ end) × (nodes ≤ 32768) ⌝ }
     ensures { λ _. ⌜ Recoded (now (work .entry)) nodes end end (mended (patch-loop goal) first) (now (work .exit)) ⌝ }
 {
@@ -86,7 +86,7 @@ pub(crate) fn patch_loop(work: &mut [u32], nodes: usize, first: usize, end: usiz
 }
 
 // The jumps to the end of an if.
-pub(crate) fn patch_ends(work: &mut [u32], nodes: usize, first: usize, end: usize)
+pub fn patch_ends(work: &mut [u32], nodes: usize, first: usize, end: usize)
     requires { ⌜ (top nodes ≤ length (now work)) × (2 * end ≤ top nodes) × (first ≤ end) × (nodes ≤ 32768) ⌝ }
     ensures { λ _. ⌜ Recoded (now (work .entry)) nodes end end (mended patch-ends first) (now (work .exit)) ⌝ }
 {
@@ -94,7 +94,7 @@ pub(crate) fn patch_ends(work: &mut [u32], nodes: usize, first: usize, end: usiz
 }
 
 // The first jump to the end of a try.
-pub(crate) fn patch_first(work: &mut [u32], nodes: usize, first: usize, end: usize, offset: usize)
+pub fn patch_first(work: &mut [u32], nodes: usize, first: usize, end: usize, offset: usize)
     requires { ⌜ (top nodes ≤ length (now work)) × (2 * end ≤ top nodes) × (first ≤ end) × (nodes ≤ 32768) ⌝ }
     ensures { λ _. ⌜ Recoded (now (work .entry)) nodes end end (mended (patch-first offset) first) (now (work .exit)) ⌝ }
 {

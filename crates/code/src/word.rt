@@ -8,7 +8,7 @@ use crate::JMP;
 use store::TOP;
 
 // Four bytes in a word.
-pub(crate) fn pack(op: u32, a: u32, b: u32, c: u32) -> u32
+pub fn pack(op: u32, a: u32, b: u32, c: u32) -> u32
     requires { ⌜ Bytes op a b c ⌝ }
     ensures { λ r. ⌜ Packs r (inst op a b c) ⌝ }
 {
@@ -16,7 +16,7 @@ pub(crate) fn pack(op: u32, a: u32, b: u32, c: u32) -> u32
 }
 
 // The same with a 16-bit number, high byte first.
-pub(crate) fn pack_wide(op: u32, a: u32, n: usize) -> u32
+pub fn pack_wide(op: u32, a: u32, n: usize) -> u32
     requires { ⌜ (op < 256) × (a < 256) ⌝ }
     ensures { λ r. ⌜ Packs r (wide op a n) ⌝ }
 {
@@ -25,7 +25,7 @@ pub(crate) fn pack_wide(op: u32, a: u32, n: usize) -> u32
 }
 
 // A jump back over n instructions.
-pub(crate) fn jump_back(n: usize) -> u32
+pub fn jump_back(n: usize) -> u32
     ensures { λ r. ⌜ Packs r (wide Jmp 0 (back n)) ⌝ }
 {
     let h = instruction::backward(n);
@@ -33,7 +33,7 @@ pub(crate) fn jump_back(n: usize) -> u32
 }
 
 // Instruction `at`, by its packed word and its mark.
-pub(crate) fn write(work: &mut [u32], nodes: usize, at: usize, word: u32, mark: u32)
+pub fn write(work: &mut [u32], nodes: usize, at: usize, word: u32, mark: u32)
     requires { ⌜ (top nodes ≤ length (now work)) × (2 * at + 2 ≤ top nodes) × (nodes ≤ 32768) ⌝ }
     ensures { λ _. ⌜ Wrote (now (work .entry)) nodes at word mark (now (work .exit)) ⌝ }
 {

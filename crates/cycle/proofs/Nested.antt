@@ -15,7 +15,7 @@ use Rattle.store.specs.Opening.{Enters}
 use Rattle.store.proofs.Runs.{due, promised, kept-in}
 use Rattle.store.proofs.Steady.{taken-by}
 use Rattle.code.specs.Cuts.{cut-step, Leaves}
-use Rattle.parts.specs.Parts.{Spare, Owing}
+use Rattle.routines.specs.Pieces.{Spare, Owing}
 use Rattle.cycle.specs.Cycle.{Ready}
 
 -- a cost with n visits more: those inside the function

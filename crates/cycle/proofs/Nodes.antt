@@ -11,7 +11,7 @@ use Rattle.meaning.specs.Fields.{Field, fields}
 use Rattle.meaning.specs.Grammar.{grammar, items-of, wide-marks, shape-at}
 use Rattle.meaning.specs.At.{tag-of, word-of, count-of, file-words, tokens-at, extra, pairs-in, Behind, Heads}
 use Rattle.meaning.proofs.Reading.{Number, number-node, Text, text-node, Other, other-node, Variable, variable-node, Unary, unary-node, Binary, binary-node, Logical, logical-node, Call, call-node, Function, function-node, Expression, expression-node, Let, let-node, Block, block-node, While, while-node, For, for-node, ForIn, for-in-node, Break, break-node, Continue, continue-node, Return, return-node, Elif, elif-node, Try, try-node, Define, define-node, Class, class-node, If, if-node}
-use Rattle.leaves.specs.Node.{Lawful}
+use Rattle.routines.specs.Node.{Lawful}
 use Rattle.meaning.specs.Weight.{size-expr, size-stmt}
 use Rattle.meaning.specs.At.{expr-at, stmt-at}
 use Rattle.meaning.proofs.Lists.{lt-or-le}

@@ -10,7 +10,7 @@ use Rattle.meaning.specs.At.{word-of, count-of, expr-at, stmt-at, fun-at, exprs
 use Rattle.meaning.specs.Weight.{weight-expr, size-expr, size-exprs, size-stmt, size-stmts, size-elifs, size-fun, size-funs, size-super}
 use Rattle.meaning.proofs.Reading.{Number, Text, Other, Variable, Unary, Binary, Logical, Call, Function, Expression, Let, Block, While, For, ForIn, Break, Continue, Return, If, Elif, Try, Define, Class}
 use Rattle.forward.proofs.FunctionsForward.{stmt-count}
-use Rattle.parts.specs.Parts.{tokens-from}
+use Rattle.routines.specs.Pieces.{tokens-from}
 use Rattle.store.specs.declared.Scope.{Scope}
 use Rattle.cycle.specs.Cycle.{Width}
 use Rattle.cycle.proofs.Way.{wide-is}

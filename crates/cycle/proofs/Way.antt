@@ -28,9 +28,9 @@ use Rattle.store.proofs.Compose.{none-moved, moves-then, moves-by, leaf-after, 
 use Rattle.store.proofs.Around.{loop-entered}
 use Rattle.store.proofs.Visiting.{ticked-moves, ticked-runs}
 use Rattle.code.specs.Words.{Bytes}
-use Rattle.parts.specs.Parts.{Small}
-use Rattle.leaves.specs.Node.{Lawful, OnNode, Gives}
-use Rattle.leaves.proofs.Held.{lawful-kept}
+use Rattle.routines.specs.Pieces.{Small}
+use Rattle.routines.specs.Node.{Lawful, OnNode, Gives}
+use Rattle.routines.proofs.Held.{lawful-kept}
 use Rattle.cycle.specs.Cycle.{Ready, Given, AskExpr, AskStmt, Headed, Children, AskRow, Lowers}
 
 -- ---- the way

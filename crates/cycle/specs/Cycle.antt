@@ -21,8 +21,8 @@ use Rattle.store.specs.declared.Step.{Step}
 use Rattle.store.specs.declared.Scope.{Scope}
 use Rattle.store.specs.Store.{is-wide, while-going, Fine}
 use Rattle.store.specs.Promise.{Cost, takes, Room, Does}
-use Rattle.parts.specs.Parts.{Small}
-use Rattle.leaves.specs.Node.{Lawful}
+use Rattle.routines.specs.Pieces.{Small}
+use Rattle.routines.specs.Node.{Lawful}
 use Rattle.cycle.specs.declared.Three.{Three}
 use Rattle.cycle.specs.declared.Words.{Words}
 use Rattle.cycle.specs.declared.Branches.{Branches}

@@ -136,14 +136,14 @@ fn try_catch(
     ensures { λ r. ⌜ UnderStmt (now (tree .entry)) node (now (work .entry)) (now (out .entry)) scope step (now (work .exit)) (now (out .exit)) r ⌝ }
 {
     let x = words_of(tree, work, scope, node, 2);
-    let opened = code::open_try_body(work, step, scope);
+    let opened = routines::open_try_body(work, step, scope);
     let body = statement(tree, work, out, opened, scope, x.child0);
-    let ended = code::end_try_body(work, body, scope);
+    let ended = routines::end_try_body(work, body, scope);
     let inside = store::enter_block(work, scope);
-    let caught = parts::open_catch(work, ended, inside, node, x.child1, x.c);
+    let caught = routines::open_catch(work, ended, inside, node, x.child1, x.c);
     let last = statement(tree, work, out, caught, inside, x.child3);
     store::leave_block(work, scope);
-    code::end_try(work, last, scope, step.code, body.code)
+    routines::end_try(work, last, scope, step.code, body.code)
 }
 
 // fn visit_classic_for_stmt: the body is lowered before the increment
@@ -175,7 +175,7 @@ fn for_loop(
     let tested = code::test_and_jump(work, condition, scope, 0, x.a);
     let body = statement(tree, work, out, tested, in_loop(scope), x.child4);
     let last = expression(tree, work, out, body, scope, x.child3);
-    code::end_loop(
+    routines::end_loop(
         work,
         last,
         scope,
@@ -203,10 +203,10 @@ fn for_in(
     let wide = scope.wide;
     let x = three_of(tree, work, scope, node, 0);
     let payload = payload_of(tree, work, scope, node);
-    let counter = parts::open_for_in(work, step, scope, node, x.a);
+    let counter = routines::open_for_in(work, step, scope, node, x.a);
     let collection = expression(tree, work, out, counter, scope, x.child1);
     let names = names_in(payload, scope);
-    let head = parts::head_for_in(
+    let head = routines::head_for_in(
         payload,
         work,
         collection,
@@ -218,7 +218,7 @@ fn for_in(
         x.a,
     );
     let body = statement(tree, work, out, head, in_loop(scope), x.child2);
-    code::end_for_in(
+    routines::end_for_in(
         work,
         body,
         scope,
@@ -244,11 +244,11 @@ fn let_stmt(
     let wide = scope.wide;
     let n = count_of(tree, work, scope, node, wide);
     if n == 2 {
-        return leaves::let_only(tree, work, step, scope, node);
+        return routines::let_only(tree, work, step, scope, node);
     }
     let x = three_of(tree, work, scope, node, 1);
     if store::is_global_context(scope) {
-        let name = parts::new_global(work, step, scope, node, x.child0);
+        let name = routines::new_global(work, step, scope, node, x.child0);
         let value = expression(tree, work, out, name, scope, x.child2);
         return code::emit_wide(
             work,
@@ -300,7 +300,7 @@ fn while_loop(
     let condition = expression(tree, work, out, step, scope, x.child1);
     let tested = code::test_and_jump(work, condition, scope, 0, x.a);
     let body = statement(tree, work, out, tested, in_loop(scope), x.child2);
-    code::end_loop(
+    routines::end_loop(
         work,
         body,
         scope,
@@ -328,11 +328,11 @@ fn return_stmt(
     let wide = scope.wide;
     let n = count_of(tree, work, scope, node, wide);
     if n == 1 {
-        return leaves::return_none(tree, work, step, scope, node);
+        return routines::return_none(tree, work, step, scope, node);
     }
     let x = three_of(tree, work, scope, node, 0);
     let value = expression(tree, work, out, step, scope, x.child1);
-    code::end_return(work, value, scope, node, x.a)
+    routines::end_return(work, value, scope, node, x.a)
 }
 
 // fn visit_if_stmt: "if branches .. open no block"
@@ -353,7 +353,7 @@ fn if_stmt(
     let condition = expression(tree, work, out, step, scope, x.child1);
     let tested = code::test_and_jump(work, condition, scope, 0, x.a);
     let then = row(tree, work, out, tested, scope, node, 3, ends.thens, wide);
-    let branch = code::end_branch(work, then, scope, condition.code, x.a);
+    let branch = routines::end_branch(work, then, scope, condition.code, x.a);
     let others = elifs(
         tree,
         work,
@@ -376,7 +376,7 @@ fn if_stmt(
         ends.all,
         wide,
     );
-    code::end_if(work, last, scope, step.code)
+    routines::end_if(work, last, scope, step.code)
 }
 
 // fn visit_if_stmt, `for elif in &stmt.elifs`
@@ -404,7 +404,7 @@ fn elifs(
         let condition = expression(tree, work, out, last, scope, x.child0);
         let tested = code::test_and_jump(work, condition, scope, 0, NO_MARK);
         let then = row(tree, work, out, tested, scope, child, 1, n, 0);
-        last = code::end_branch(work, then, scope, condition.code, NO_MARK);
+        last = routines::end_branch(work, then, scope, condition.code, NO_MARK);
         store::visit(work);
         k += 1;
     }
@@ -426,9 +426,9 @@ fn fn_stmt(
     let wide = scope.wide;
     let x = three_of(tree, work, scope, node, 1);
     let payload = payload_of(tree, work, scope, node);
-    let own = parts::declare(work, step, scope, node, x.child0);
+    let own = routines::declare(work, step, scope, node, x.child0);
     let entered = store::enter_function(work, own, scope, node, x.child0);
-    let opened = parts::open_fun(
+    let opened = routines::open_fun(
         payload,
         work,
         entered.step,
@@ -449,7 +449,7 @@ fn fn_stmt(
         3 + 2 * x.child2,
         wide + x.child2 * wide,
     );
-    parts::end_fun(
+    routines::end_fun(
         work,
         out,
         last,
@@ -478,9 +478,9 @@ fn class(
     let wide = scope.wide;
     let x = words_of(tree, work, scope, node, 1);
     let n = count_of(tree, work, scope, node, wide);
-    let own = parts::open_class(work, step, scope, node, x.child0, x.b);
-    let above = leaves::superclass(tree, work, own, scope, node);
-    let made = code::make_class(work, above, scope, own.result, x.b);
+    let own = routines::open_class(work, step, scope, node, x.child0, x.b);
+    let above = routines::superclass(tree, work, own, scope, node);
+    let made = routines::make_class(work, above, scope, own.result, x.b);
     let inside = store::enter_block(work, scope);
     let statics = 4 + x.child3;
     let plain = methods(
@@ -512,7 +512,7 @@ fn class(
         own.result,
     );
     store::leave_block(work, scope);
-    parts::end_class(work, last, scope, node, x.child0, x.b, own.result)
+    routines::end_class(work, last, scope, node, x.child0, x.b, own.result)
 }
 
 // fn visit_class_stmt, `for method in &stmt.methods` and `&stmt.static_methods`
@@ -540,7 +540,7 @@ fn methods(
         let child = nodes::child(payload, k + skew);
         let x = words_of(tree, work, scope, child, 1);
         let method = fn_stmt(tree, work, out, last, scope, child);
-        last = parts::add_method(
+        last = routines::add_method(
             work,
             method,
             scope,
@@ -576,7 +576,7 @@ fn function(
     let payload = payload_of(tree, work, scope, node);
     let own = store::next_register(work, step, scope, node);
     let entered = store::enter_function(work, own, scope, node, NO_NAME);
-    let opened = parts::open_function(payload, work, entered.step, entered.scope, node, 1, n);
+    let opened = routines::open_function(payload, work, entered.step, entered.scope, node, 1, n);
     let last = body(
         tree,
         work,
@@ -587,7 +587,7 @@ fn function(
         1 + 2 * n,
         n * wide,
     );
-    parts::end_function(
+    routines::end_function(
         work,
         out,
         last,
@@ -617,7 +617,7 @@ fn body(
     let n = count_of(tree, work, scope, node, skew);
     let inside = store::enter_block(work, scope);
     let last = row(tree, work, out, step, inside, node, from, n, skew);
-    let ended = code::end_body(work, last, inside, n - from, step.code, node);
+    let ended = routines::end_body(work, last, inside, n - from, step.code, node);
     store::leave_block(work, scope);
     ended
 }
@@ -727,9 +727,9 @@ fn call(
     let x = three_of(tree, work, scope, node, 1);
     let n = arguments_in(tree, work, scope, node);
     let callee = expression(tree, work, out, step, scope, x.child0);
-    let opened = parts::open_call(work, callee, scope, node, n, x.b);
+    let opened = routines::open_call(work, callee, scope, node, n, x.b);
     let last = arguments(tree, work, out, opened, scope, node, opened.result + 1);
-    parts::end_call(work, last, scope, node, n, opened.result, x.b)
+    routines::end_call(work, last, scope, node, n, opened.result, x.b)
 }
 
 // fn visit_call_expr, `for (i, expr) in (&expr.arguments).iter().enumerate()`
@@ -777,7 +777,7 @@ fn logical(
     let left = expression(tree, work, out, step, scope, x.child2);
     let tested = code::test_and_jump(work, left, scope, or_flag(x.a), x.b);
     let right = expression(tree, work, out, tested, scope, x.child3);
-    code::end_logical(work, right, scope, left.code, left.result, x.b)
+    routines::end_logical(work, right, scope, left.code, left.result, x.b)
 }
 
 // fn visit_unary_expr
@@ -836,7 +836,7 @@ fn statement(
         0x1B => try_catch(tree, work, out, step, scope, node),
         0x1C => fn_stmt(tree, work, out, step, scope, node),
         0x1D => class(tree, work, out, step, scope, node),
-        _ => leaves::jump(tree, work, step, scope, node),
+        _ => routines::jump(tree, work, step, scope, node),
     }
 }
 
@@ -859,12 +859,12 @@ fn expression(
     let tag = tag_of(tree, work, scope, node);
     store::visit(work);
     match tag {
-        0x04 => leaves::variable(tree, work, step, scope, node),
+        0x04 => routines::variable(tree, work, step, scope, node),
         0x05 => unary(tree, work, out, step, scope, node),
         0x06 => binary(tree, work, out, step, scope, node),
         0x07 => logical(tree, work, out, step, scope, node),
         0x08 => call(tree, work, out, step, scope, node),
         0x09 => function(tree, work, out, step, scope, node),
-        _ => leaves::literal(tree, work, step, scope, node),
+        _ => routines::literal(tree, work, step, scope, node),
     }
 }

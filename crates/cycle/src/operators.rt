@@ -7,7 +7,7 @@ ghost use Rattle.meaning.specs.At.{expr-at};
 ghost use Rattle.meaning.specs.Syntax.{small-if};
 ghost use Rattle.meaning.specs.Opcode.{unary-opcode, binary-opcode, or};
 ghost use Rattle.meaning.specs.Expressions.{or-flag};
-ghost use Rattle.leaves.specs.Node.{Lawful, small-of};
+ghost use Rattle.routines.specs.Node.{Lawful, small-of};
 use instruction::OpCode;
 use store::Scope;
 
@@ -91,7 +91,7 @@ pub(crate) fn immediate(
     ensures { λ r. ⌜ small-if (eqb op asked) (expr-at (fields (now (tree .entry))) child) ≡ small-of r ⌝ }
 {
     if op == asked {
-        leaves::small_operand(tree, work, scope, child)
+        routines::small_operand(tree, work, scope, child)
     } else {
         256
     }

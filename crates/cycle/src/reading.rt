@@ -9,7 +9,7 @@ ghost use Rattle.meaning.specs.Read.{at};
 ghost use Rattle.meaning.specs.At.{tag-of, word-of, count-of, file-words, Behind};
 ghost use Rattle.meaning.specs.Functions.{first-mark};
 ghost use Rattle.nodes.specs.Offsets.{Readable};
-ghost use Rattle.parts.specs.Parts.{tokens-from};
+ghost use Rattle.routines.specs.Pieces.{tokens-from};
 ghost use Rattle.store.specs.Store.{is-wide};
 ghost use Rattle.cycle.specs.Cycle.{head-word, Headed, Below, BelowThree, first-three, first-words, branches-of};
 use crate::Branches;

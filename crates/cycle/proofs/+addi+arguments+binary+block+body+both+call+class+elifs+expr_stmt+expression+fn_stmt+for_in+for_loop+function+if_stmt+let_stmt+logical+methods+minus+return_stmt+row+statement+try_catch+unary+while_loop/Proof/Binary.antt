@@ -12,7 +12,7 @@ use Rattle.meaning.specs.Opcode.{minus}
 use Rattle.cycle.proofs.Nodes.{a-binary, binary-stands}
 use Rattle.cycle.proofs.Way.{headed, likewise, readable, recounted}
 use Rattle.meaning.specs.Visits.{under-expr, visits-expr}
-use Rattle.leaves.specs.Node.{small-of}
+use Rattle.routines.specs.Node.{small-of}
 use Rattle.meaning.proofs.Reading.{Binary}
 use Rattle.meaning.specs.At.{expr-at, word-of}
 use Rattle.meaning.specs.Expressions.{visit-addi, visit-binary, visit-both}

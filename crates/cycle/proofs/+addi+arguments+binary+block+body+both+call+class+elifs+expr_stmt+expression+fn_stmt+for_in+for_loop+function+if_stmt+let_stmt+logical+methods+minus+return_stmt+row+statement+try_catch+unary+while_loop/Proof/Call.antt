@@ -6,8 +6,8 @@ use Rattle.cycle.proofs.+addi+arguments+binary+block+body+both+call+cla
 use Rattle.cycle.proofs.expression.Reads as expression
 use Rattle.cycle.proofs.reading.arguments_in.Reads as arguments-in-reads
 use Rattle.cycle.proofs.reading.three_of.Reads as three-of-reads
-use Rattle.parts.proofs.end_call.Reads as end-call-reads
-use Rattle.parts.proofs.open_call.Reads as open-call-reads
+use Rattle.routines.proofs.end_call.Reads as end-call-reads
+use Rattle.routines.proofs.open_call.Reads as open-call-reads
 use Rattle.cycle.proofs.+addi+arguments+binary+block+body+both+call+class+elifs+expr_stmt+expression+fn_stmt+for_in+for_loop+function+if_stmt+let_stmt+logical+methods+minus+return_stmt+row+statement+try_catch+unary+while_loop.Proof.Order.{arguments-below, call-at, expression-below}
 use Rattle.meaning.proofs.Reading as reading
 use Rattle.cycle.proofs.Nodes.{a-call, behind-here, call-stands}
@@ -21,7 +21,7 @@ use Rattle.meaning.proofs.Rows.{arguments-at}
 use Rattle.meaning.specs.At.{Behind, count-of, word-of}
 use Rattle.meaning.specs.Fields.{fields}
 use Rattle.meaning.specs.Lower.{lower-expr}
-use Rattle.parts.specs.Parts.{Small}
+use Rattle.routines.specs.Pieces.{Small}
 use Rattle.store.proofs.Compose.{known}
 use Rattle.store.proofs.Runs.{due}
 use Rattle.store.specs.Promise.{Leaf, Room, a-register, both, some-registers, uses}

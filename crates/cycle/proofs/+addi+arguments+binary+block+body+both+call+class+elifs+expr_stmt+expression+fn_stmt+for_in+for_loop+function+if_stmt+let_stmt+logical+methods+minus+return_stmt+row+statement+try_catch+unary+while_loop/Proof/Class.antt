@@ -3,12 +3,12 @@ use Prim.Native.Nat.{ℕ, _+_, _*_, _<_, _≤_}
 use Rattle.cycle.proofs.class.Reads as class
 use Rattle.cycle.proofs.+addi+arguments+binary+block+body+both+call+class+elifs+expr_stmt+expression+fn_stmt+for_in+for_loop+function+if_stmt+let_stmt+logical+methods+minus+return_stmt+row+statement+try_catch+unary+while_loop.Lts-class as lts
 use Rattle.cycle.proofs.methods.Reads as methods
-use Rattle.code.proofs.make_class.Reads as make-class-reads
+use Rattle.routines.proofs.make_class.Reads as make-class-reads
 use Rattle.cycle.proofs.reading.count_of.Reads as count-of-reads
 use Rattle.cycle.proofs.reading.words_of.Reads as words-of-reads
-use Rattle.leaves.proofs.superclass.Reads as superclass-reads
-use Rattle.parts.proofs.end_class.Reads as end-class-reads
-use Rattle.parts.proofs.open_class.Reads as open-class-reads
+use Rattle.routines.proofs.superclass.Reads as superclass-reads
+use Rattle.routines.proofs.end_class.Reads as end-class-reads
+use Rattle.routines.proofs.open_class.Reads as open-class-reads
 use Rattle.store.proofs.enter_block.Reads as enter-block-reads
 use Rattle.store.proofs.leave_block.Reads as leave-block-reads
 use Rattle.cycle.proofs.+addi+arguments+binary+block+body+both+call+class+elifs+expr_stmt+expression+fn_stmt+for_in+for_loop+function+if_stmt+let_stmt+logical+methods+minus+return_stmt+row+statement+try_catch+unary+while_loop.Proof.Order.{class-at, methods-below}
@@ -21,14 +21,14 @@ use Rattle.meaning.specs.Visits.{visits-funs}
 use Rattle.cycle.specs.Cycle.{AskMethods, GivenStmt, LowersMethods, Ready, UnderStmt}
 use Rattle.forward.proofs.Chains.{class-chain}
 use Rattle.forward.specs.Forward.{end-class, fwd-unit, make-class, open-class, sure}
-use Rattle.leaves.specs.Node.{GivesSuper, OnNode, super-of}
+use Rattle.routines.specs.Node.{GivesSuper, OnNode, super-of}
 use Rattle.meaning.specs.At.{Behind, count-of, funs-at, word-of}
 use Rattle.meaning.specs.Fields.{fields}
 use Rattle.meaning.specs.Lower.{lower-expr}
 use Rattle.meaning.specs.Read.{token}
 use Rattle.meaning.specs.State.{enter-block}
 use Rattle.meaning.specs.Weight.{size-funs, size-super}
-use Rattle.parts.specs.Parts.{Small}
+use Rattle.routines.specs.Pieces.{Small}
 use Rattle.store.proofs.Around.{block-around}
 use Rattle.store.proofs.Leaving.{left-runs}
 use Rattle.store.proofs.Compose.{known, leaf-after}

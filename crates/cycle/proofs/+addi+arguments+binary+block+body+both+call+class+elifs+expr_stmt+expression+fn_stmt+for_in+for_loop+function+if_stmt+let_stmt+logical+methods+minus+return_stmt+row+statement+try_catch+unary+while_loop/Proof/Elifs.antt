@@ -4,7 +4,7 @@ use Rattle.cycle.proofs.elifs.Reads as elifs
 use Rattle.cycle.proofs.+addi+arguments+binary+block+body+both+call+class+elifs+expr_stmt+expression+fn_stmt+for_in+for_loop+function+if_stmt+let_stmt+logical+methods+minus+return_stmt+row+statement+try_catch+unary+while_loop.Lts-elifs as lts
 use Rattle.cycle.proofs.expression.Reads as expression
 use Rattle.cycle.proofs.row.Reads as row
-use Rattle.code.proofs.end_branch.Reads as end-branch-reads
+use Rattle.routines.proofs.end_branch.Reads as end-branch-reads
 use Rattle.code.proofs.test_and_jump.Reads as test-and-jump-reads
 use Rattle.cycle.proofs.reading.count_of.Reads as count-of-reads
 use Rattle.cycle.proofs.reading.payload_of.Reads as payload-of-reads

@@ -5,9 +5,9 @@ use Rattle.cycle.proofs.fn_stmt.Reads as fn-stmt
 use Rattle.cycle.proofs.+addi+arguments+binary+block+body+both+call+class+elifs+expr_stmt+expression+fn_stmt+for_in+for_loop+function+if_stmt+let_stmt+logical+methods+minus+return_stmt+row+statement+try_catch+unary+while_loop.Lts-fn_stmt as lts
 use Rattle.cycle.proofs.reading.payload_of.Reads as payload-of-reads
 use Rattle.cycle.proofs.reading.three_of.Reads as three-of-reads
-use Rattle.parts.proofs.declare.Reads as declare-reads
-use Rattle.parts.proofs.end_fun.Reads as end-fun-reads
-use Rattle.parts.proofs.open_fun.Reads as open-fun-reads
+use Rattle.routines.proofs.declare.Reads as declare-reads
+use Rattle.routines.proofs.end_fun.Reads as end-fun-reads
+use Rattle.routines.proofs.open_fun.Reads as open-fun-reads
 use Rattle.store.proofs.enter_function.Reads as enter-function-reads
 use Rattle.cycle.proofs.+addi+arguments+binary+block+body+both+call+class+elifs+expr_stmt+expression+fn_stmt+for_in+for_loop+function+if_stmt+let_stmt+logical+methods+minus+return_stmt+row+statement+try_catch+unary+while_loop.Proof.Order.{body-below, fn-stmt-at}
 use Rattle.code.specs.Cuts.{Ends, cut-step}
@@ -26,7 +26,7 @@ use Rattle.meaning.specs.Fields.{field-at, fields}
 use Rattle.meaning.specs.Lower.{lower-expr}
 use Rattle.meaning.specs.Read.{token}
 use Rattle.meaning.specs.Weight.{size-stmts}
-use Rattle.parts.specs.Parts.{Owing, Small, a-name, a-name-back, tokens-from}
+use Rattle.routines.specs.Pieces.{Owing, Small, a-name, a-name-back, tokens-from}
 use Rattle.store.proofs.Compose.{known, leaf-after, moves-then}
 use Rattle.store.proofs.Inside.{leavable}
 use Rattle.store.proofs.Runs.{due}

@@ -4,13 +4,13 @@ use Rattle.cycle.proofs.expression.Reads as expression
 use Rattle.cycle.proofs.for_in.Reads as for-in
 use Rattle.cycle.proofs.+addi+arguments+binary+block+body+both+call+class+elifs+expr_stmt+expression+fn_stmt+for_in+for_loop+function+if_stmt+let_stmt+logical+methods+minus+return_stmt+row+statement+try_catch+unary+while_loop.Lts-for_in as lts
 use Rattle.cycle.proofs.statement.Reads as statement′
-use Rattle.code.proofs.end_for_in.Reads as end-for-in-reads
+use Rattle.routines.proofs.end_for_in.Reads as end-for-in-reads
 use Rattle.cycle.proofs.scopes.in_loop.Reads as in-loop-reads
 use Rattle.cycle.proofs.reading.names_in.Reads as names-in-reads
 use Rattle.cycle.proofs.reading.payload_of.Reads as payload-of-reads
 use Rattle.cycle.proofs.reading.three_of.Reads as three-of-reads
-use Rattle.parts.proofs.head_for_in.Reads as head-for-in-reads
-use Rattle.parts.proofs.open_for_in.Reads as open-for-in-reads
+use Rattle.routines.proofs.head_for_in.Reads as head-for-in-reads
+use Rattle.routines.proofs.open_for_in.Reads as open-for-in-reads
 use Rattle.cycle.proofs.+addi+arguments+binary+block+body+both+call+class+elifs+expr_stmt+expression+fn_stmt+for_in+for_loop+function+if_stmt+let_stmt+logical+methods+minus+return_stmt+row+statement+try_catch+unary+while_loop.Proof.Order.{expression-below, for-in-at, statement-below}
 use Rattle.cycle.proofs.Counts.{few-words}
 use Rattle.cycle.proofs.Nodes.{a-for-in, for-in-stands}
@@ -29,7 +29,7 @@ use Rattle.meaning.specs.State.{Res, done, refused}
 use Rattle.meaning.specs.Statements.{iterate}
 use Rattle.meaning.specs.Syntax.{Token}
 use Rattle.meaning.specs.declared.Instruction.{Instruction}
-use Rattle.parts.specs.Parts.{tokens-from}
+use Rattle.routines.specs.Pieces.{tokens-from}
 use Rattle.store.proofs.Around.{loop-around, loop-entered, loop-left}
 use Rattle.store.proofs.Compose.{known, leaf-after}
 use Rattle.store.proofs.Runs.{due}

@@ -5,7 +5,7 @@ use Rattle.cycle.proofs.for_loop.Reads as for-loop
 use Rattle.cycle.proofs.+addi+arguments+binary+block+body+both+call+class+elifs+expr_stmt+expression+fn_stmt+for_in+for_loop+function+if_stmt+let_stmt+logical+methods+minus+return_stmt+row+statement+try_catch+unary+while_loop.Lts-for_loop as lts
 use Rattle.cycle.proofs.row.Reads as row
 use Rattle.cycle.proofs.statement.Reads as statement′
-use Rattle.code.proofs.end_loop.Reads as end-loop-reads
+use Rattle.routines.proofs.end_loop.Reads as end-loop-reads
 use Rattle.code.proofs.test_and_jump.Reads as test-and-jump-reads
 use Rattle.cycle.proofs.scopes.in_loop.Reads as in-loop-reads
 use Rattle.cycle.proofs.reading.initializer_end.Reads as initializer-end-reads

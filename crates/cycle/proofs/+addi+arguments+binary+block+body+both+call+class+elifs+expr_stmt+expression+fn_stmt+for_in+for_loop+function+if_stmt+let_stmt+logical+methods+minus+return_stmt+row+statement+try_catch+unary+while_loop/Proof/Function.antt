@@ -6,8 +6,8 @@ use Rattle.cycle.proofs.+addi+arguments+binary+block+body+both+call+cla
 use Rattle.cycle.proofs.reading.first_mark.Reads as first-mark-reads
 use Rattle.cycle.proofs.reading.payload_of.Reads as payload-of-reads
 use Rattle.cycle.proofs.reading.params_of.Reads as params-of-reads
-use Rattle.parts.proofs.end_function.Reads as end-function-reads
-use Rattle.parts.proofs.open_function.Reads as open-function-reads
+use Rattle.routines.proofs.end_function.Reads as end-function-reads
+use Rattle.routines.proofs.open_function.Reads as open-function-reads
 use Rattle.store.proofs.enter_function.Reads as enter-function-reads
 use Rattle.store.proofs.next_register.Reads as next-register-reads
 use Rattle.cycle.proofs.+addi+arguments+binary+block+body+both+call+class+elifs+expr_stmt+expression+fn_stmt+for_in+for_loop+function+if_stmt+let_stmt+logical+methods+minus+return_stmt+row+statement+try_catch+unary+while_loop.Proof.Order.{body-below, function-at}
@@ -28,7 +28,7 @@ use Rattle.meaning.specs.Functions.{first-mark}
 use Rattle.meaning.specs.Lower.{lower-expr}
 use Rattle.meaning.specs.State.{next-register}
 use Rattle.meaning.specs.Weight.{size-stmts}
-use Rattle.parts.specs.Parts.{Small, tokens-from}
+use Rattle.routines.specs.Pieces.{Small, tokens-from}
 use Rattle.store.proofs.Compose.{known, leaf-after, moves-then}
 use Rattle.store.proofs.Inside.{leavable}
 use Rattle.store.specs.Opening.{Enters, Leavable}

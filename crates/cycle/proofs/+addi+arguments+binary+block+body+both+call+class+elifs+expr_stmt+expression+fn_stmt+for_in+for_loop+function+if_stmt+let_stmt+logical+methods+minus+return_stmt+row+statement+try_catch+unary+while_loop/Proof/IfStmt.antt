@@ -5,8 +5,8 @@ use Rattle.cycle.proofs.expression.Reads as expression
 use Rattle.cycle.proofs.if_stmt.Reads as if-stmt
 use Rattle.cycle.proofs.+addi+arguments+binary+block+body+both+call+class+elifs+expr_stmt+expression+fn_stmt+for_in+for_loop+function+if_stmt+let_stmt+logical+methods+minus+return_stmt+row+statement+try_catch+unary+while_loop.Lts-if_stmt as lts
 use Rattle.cycle.proofs.row.Reads as row
-use Rattle.code.proofs.end_branch.Reads as end-branch-reads
-use Rattle.code.proofs.end_if.Reads as end-if-reads
+use Rattle.routines.proofs.end_branch.Reads as end-branch-reads
+use Rattle.routines.proofs.end_if.Reads as end-if-reads
 use Rattle.code.proofs.test_and_jump.Reads as test-and-jump-reads
 use Rattle.cycle.proofs.reading.branches_of.Reads as branches-of-reads
 use Rattle.cycle.proofs.reading.three_of.Reads as three-of-reads

@@ -6,8 +6,8 @@ use Rattle.cycle.proofs.+addi+arguments+binary+block+body+both+call+cla
 use Rattle.code.proofs.emit_wide.Reads as emit-wide-reads
 use Rattle.cycle.proofs.reading.count_of.Reads as count-of-reads
 use Rattle.cycle.proofs.reading.three_of.Reads as three-of-reads
-use Rattle.leaves.proofs.let_only.Reads as let-only-reads
-use Rattle.parts.proofs.new_global.Reads as new-global-reads
+use Rattle.routines.proofs.let_only.Reads as let-only-reads
+use Rattle.routines.proofs.new_global.Reads as new-global-reads
 use Rattle.store.proofs.allocate_register.Reads as allocate-register-reads
 use Rattle.store.proofs.is_global_context.Reads as is-global-context-reads
 use Rattle.cycle.proofs.+addi+arguments+binary+block+body+both+call+class+elifs+expr_stmt+expression+fn_stmt+for_in+for_loop+function+if_stmt+let_stmt+logical+methods+minus+return_stmt+row+statement+try_catch+unary+while_loop.Proof.Order.{expression-below, let-stmt-at}

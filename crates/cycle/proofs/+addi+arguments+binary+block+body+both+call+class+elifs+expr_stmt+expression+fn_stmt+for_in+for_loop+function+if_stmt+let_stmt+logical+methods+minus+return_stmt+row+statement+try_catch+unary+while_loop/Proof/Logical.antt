@@ -3,7 +3,7 @@ use Prim.Native.Nat.{ℕ, _+_, _<_, _≤_}
 use Rattle.cycle.proofs.expression.Reads as expression
 use Rattle.cycle.proofs.logical.Reads as logical
 use Rattle.cycle.proofs.+addi+arguments+binary+block+body+both+call+class+elifs+expr_stmt+expression+fn_stmt+for_in+for_loop+function+if_stmt+let_stmt+logical+methods+minus+return_stmt+row+statement+try_catch+unary+while_loop.Lts-logical as lts
-use Rattle.code.proofs.end_logical.Reads as end-logical-reads
+use Rattle.routines.proofs.end_logical.Reads as end-logical-reads
 use Rattle.code.proofs.test_and_jump.Reads as test-and-jump-reads
 use Rattle.cycle.proofs.operators.or_flag.Reads as or-flag-reads
 use Rattle.cycle.proofs.reading.words_of.Reads as words-of-reads

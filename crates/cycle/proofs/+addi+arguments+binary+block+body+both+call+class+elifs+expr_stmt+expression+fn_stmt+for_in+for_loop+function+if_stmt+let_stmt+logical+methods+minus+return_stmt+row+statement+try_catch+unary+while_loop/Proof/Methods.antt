@@ -6,7 +6,7 @@ use Rattle.cycle.proofs.+addi+arguments+binary+block+body+both+call+cla
 use Rattle.cycle.proofs.reading.payload_of.Reads as payload-of-reads
 use Rattle.cycle.proofs.reading.words_of.Reads as words-of-reads
 use Rattle.nodes.proofs.child.Reads as child-reads
-use Rattle.parts.proofs.add_method.Reads as add-method-reads
+use Rattle.routines.proofs.add_method.Reads as add-method-reads
 use Rattle.store.proofs.settle.Reads as settle-reads
 use Rattle.cycle.proofs.+addi+arguments+binary+block+body+both+call+class+elifs+expr_stmt+expression+fn_stmt+for_in+for_loop+function+if_stmt+let_stmt+logical+methods+minus+return_stmt+row+statement+try_catch+unary+while_loop.Proof.Order.{fn-stmt-below, methods-at}
 use Rattle.cycle.proofs.Way.{after-ticked, from, headed, inside, placed}

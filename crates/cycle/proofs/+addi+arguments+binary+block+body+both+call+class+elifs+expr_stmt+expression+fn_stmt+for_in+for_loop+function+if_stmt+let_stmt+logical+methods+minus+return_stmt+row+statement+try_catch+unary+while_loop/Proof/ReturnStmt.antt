@@ -3,10 +3,10 @@ use Prim.Native.Nat.{ℕ, _+_, _*_, _<_}
 use Rattle.cycle.proofs.expression.Reads as expression
 use Rattle.cycle.proofs.return_stmt.Reads as return-stmt
 use Rattle.cycle.proofs.+addi+arguments+binary+block+body+both+call+class+elifs+expr_stmt+expression+fn_stmt+for_in+for_loop+function+if_stmt+let_stmt+logical+methods+minus+return_stmt+row+statement+try_catch+unary+while_loop.Lts-return_stmt as lts
-use Rattle.code.proofs.end_return.Reads as end-return-reads
+use Rattle.routines.proofs.end_return.Reads as end-return-reads
 use Rattle.cycle.proofs.reading.count_of.Reads as count-of-reads
 use Rattle.cycle.proofs.reading.three_of.Reads as three-of-reads
-use Rattle.leaves.proofs.return_none.Reads as return-none-reads
+use Rattle.routines.proofs.return_none.Reads as return-none-reads
 use Rattle.cycle.proofs.+addi+arguments+binary+block+body+both+call+class+elifs+expr_stmt+expression+fn_stmt+for_in+for_loop+function+if_stmt+let_stmt+logical+methods+minus+return_stmt+row+statement+try_catch+unary+while_loop.Proof.Order.{expression-below, return-stmt-at}
 use Rattle.meaning.proofs.Reading.{Return as ReturnNode}
 use Rattle.cycle.proofs.Nodes.{a-return, behind-here, return-stands}

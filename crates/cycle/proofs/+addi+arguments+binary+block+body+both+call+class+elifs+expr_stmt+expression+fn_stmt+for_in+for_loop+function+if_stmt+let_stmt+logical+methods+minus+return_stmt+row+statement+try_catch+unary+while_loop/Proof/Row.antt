@@ -20,7 +20,7 @@ use Rattle.meaning.specs.At.{StmtBelow, stmt-at, stmts-at, word-of}
 use Rattle.meaning.specs.Fields.{fields}
 use Rattle.meaning.specs.Lower.{lower-expr, lower-stmts}
 use Rattle.meaning.specs.Weight.{size-stmt, size-stmts}
-use Rattle.parts.specs.Parts.{Small}
+use Rattle.routines.specs.Pieces.{Small}
 use Rattle.store.specs.Promise.{takes}
 use Rattle.store.specs.declared.Scope.{Scope}
 use Rattle.store.specs.declared.Step.{Step}

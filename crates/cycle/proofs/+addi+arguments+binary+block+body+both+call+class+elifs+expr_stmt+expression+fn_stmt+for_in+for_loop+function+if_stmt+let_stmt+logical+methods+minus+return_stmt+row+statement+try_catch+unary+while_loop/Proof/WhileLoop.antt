@@ -4,7 +4,7 @@ use Rattle.cycle.proofs.expression.Reads as expression
 use Rattle.cycle.proofs.statement.Reads as statement′
 use Rattle.cycle.proofs.while_loop.Reads as while-loop
 use Rattle.cycle.proofs.+addi+arguments+binary+block+body+both+call+class+elifs+expr_stmt+expression+fn_stmt+for_in+for_loop+function+if_stmt+let_stmt+logical+methods+minus+return_stmt+row+statement+try_catch+unary+while_loop.Lts-while_loop as lts
-use Rattle.code.proofs.end_loop.Reads as end-loop-reads
+use Rattle.routines.proofs.end_loop.Reads as end-loop-reads
 use Rattle.code.proofs.test_and_jump.Reads as test-and-jump-reads
 use Rattle.cycle.proofs.scopes.in_loop.Reads as in-loop-reads
 use Rattle.cycle.proofs.reading.three_of.Reads as three-of-reads

@@ -6,8 +6,8 @@ use native.Mathlib.Omega.{arith}
 use borrow.Author.Needs.{needs}
 use Rattle.meaning.specs.Functions.{first-mark}
 use Rattle.store.specs.declared.Scope.{Scope}
-use Rattle.parts.specs.Parts.{tokens-from}
-use Rattle.parts.proofs.Tokens.{first-token, none-left}
+use Rattle.routines.specs.Pieces.{tokens-from}
+use Rattle.routines.proofs.Tokens.{first-token, none-left}
 use Rattle.cycle.proofs.reading.first_mark.Statement.{statement}
 use Rattle.cycle.proofs.reading.first_mark.Tie as tie
 

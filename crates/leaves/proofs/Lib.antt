@@ -1,3 +1,0 @@
--- Laws of nodes without children.
-pub mod Line
-pub mod Held

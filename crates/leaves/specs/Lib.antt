@@ -1,2 +1,0 @@
--- What the lowering of a node without children is given, and what it promises.
-pub mod Node

@@ -1,2 +1,0 @@
--- What the leaves of several calls are given, and what they promise.
-pub mod Parts

@@ -1,0 +1,74 @@
+-- `routines::logical_expr::end_logical` meets its contract: Move is written behind the others, and the jump after the Test goes there. Assumes nothing.
+use native.Mathlib.Omega.{arith}
+use Rattle.store.specs.Promise.{uses}
+use Rattle.store.proofs.Runs.{leaf-absorbed}
+use Rattle.forward.specs.Forward.{end-logical}
+use Rattle.code.proofs.Coded.{met, room-for, starts, coded, jumped}
+use Rattle.code.proofs.Writing.{spell, spell-over}
+use borrow.Author.Needs.{needs}
+use Rattle.routines.proofs.logical_expr.end_logical.Statement.{statement}
+use Rattle.routines.proofs.logical_expr.end_logical.Tie as tie
+
+returns : tie.Need-returns
+returns c = leaf-absorbed (uses 2 0 0) _ ((c .before .before .before) .pre .0) ((c .enum-told2) .given .1)
+
+pack-requires : tie.Need-pack-requires
+pack-requires c κs =
+    let start = c .before .before .before .before in
+    let h = met ((c .before .enum-told) .given .1) (start .pre .2) in
+    record { op-small = omega arith; a-small = h .1; b-small = h .2; c-small = omega arith }
+
+add-write : tie.Need-add-write
+add-write c =
+    let start = c .before .before .before .before .before .before .before .before .before in
+    let told = c .before .before .before .before .before .before .enum-told in
+    omega (arith, met (told .given .1) (start .pre .2) .0, start .pre .0 .room, start .pre .0 .sound .few)
+
+sub-pack-wide : tie.Need-sub-pack-wide
+sub-pack-wide c =
+    let start = c .before .before .before .before .before .before .before .before .before in
+    let told = c .before .before .before .before .before .before .enum-told in
+    omega (arith, met (told .given .1) (start .pre .2) .0)
+
+write-requires-2 : tie.Need-write-requires-2
+write-requires-2 c κs =
+    let start = c .before .before .before .before .before .before .before .before .before .before in
+    let told = c .before .before .before .before .before .before .before .enum-told in
+    let write = c .before .before .before .before .write in
+    let fine = start .pre .0 in
+    let h = met (told .given .1) (start .pre .2) in
+    (omega (arith, fine .sound .long, write .kept .0), omega (arith, fine .room, h .0), fine .sound .few)
+
+returns-2 : tie.Need-returns-2
+unfolding end-logical
+returns-2 c =
+    let start = c .before .before .before .before .before .before .before .before .before .before .before .before .before .before in
+    let told = c .before .before .before .before .before .before .before .before .before .before .before .enum-told in
+    let pack = c .before .before .before .before .before .before .before .before .before .pack in
+    let write = c .before .before .before .before .before .before .before .before .write in
+    let a = start .args in
+    let fine = start .pre .0 in
+    let on = told .given .1 in
+    let h = met on (start .pre .2) in
+    let room = room-for 2 fine on (start .pre .1) in
+    let one = spell (starts fine) (pack .ensures) (write .ensures) (omega (arith, room)) in
+    let two = spell-over one ((c .before .before .before .before .pack-wide) .ensures) ((c .before .before .before .write2) .ensures) (omega (arith, h .0)) in
+    rw (c .advance .ensures) (coded (a .left) 2 _ fine on two (omega arith) (omega arith) (omega (arith, h .1)) (jumped _ (a .step .code) (a .test) (a .mark) (a .left) _ _))
+
+pub end-logical-spec : {M : Type 1} → statement M
+end-logical-spec =
+    tie.close
+    (tie.spec
+    (λ c. search needs)
+    (λ c. search needs)
+    returns
+    pack-requires
+    (λ c κs. search needs)
+    add-write
+    sub-pack-wide
+    (λ c κs. search needs)
+    write-requires-2
+    (λ c. search needs)
+    (λ c κs. search needs)
+    (λ c. search needs)
+    returns-2)

@@ -1,0 +1,50 @@
+-- The pieces of the routines: what they are given and what they promise, beside `Leaf`.
+use Prim.Native.Nat.{ℕ, _+_, _-_, _*_, _<_, _≤_, min}
+use mathlib.Core.List.{List, [], _∷_, _++_}
+use lib.ListN.{length, set}
+use Rattle.meaning.specs.Fields.{words}
+use Rattle.meaning.specs.At.{pairs-in}
+use Rattle.meaning.specs.Syntax.{Token}
+use Rattle.meaning.specs.Opcode.{wide, back, Jmp}
+use Rattle.meaning.specs.Chunk.{patch-loop}
+use Rattle.meaning.specs.declared.Instruction.{Instruction}
+use Rattle.store.specs.declared.Step.{Step}
+use Rattle.store.specs.declared.Scope.{Scope}
+use Rattle.store.specs.Layout.{edge, top}
+use Rattle.store.specs.Store.{is-wide, while-going}
+use Rattle.store.specs.Promise.{Cost, uses, gives, live, taken}
+use Rattle.code.specs.Words.{mended}
+
+-- a result that is a register
+abbrev pub Small : Step → Type 0
+Small s = while-going (s .outcome) (s .result < 255)
+
+-- the n pairs from word `from` of a payload on, with marks of the scope's width
+unfoldable pub tokens-from : Scope → (payload : List ℕ) (from n : ℕ) → List Token
+tokens-from p payload from n = pairs-in (is-wide p) (words payload) from n
+
+-- the code of a loop, at its end: the jump back, the jump out, breaks and continues
+abbrev pub closed-loop : (goal first condition test mark : ℕ) → List Instruction → List Instruction
+closed-loop goal first condition test mark l =
+    let m : List Instruction = l ++ wide Jmp 0 (back (length l - condition)) mark ∷ [] in
+    mended (patch-loop goal) first (set m (test + 1) (wide Jmp 0 (length m - (test + 1)) mark))
+
+-- ---- the name of a global function or class is noted before its constant is stored
+
+-- 1 where the context is global: one open function with one open block
+abbrev pub a-name : Scope → Cost
+a-name p = uses 0 0 (2 - (p .depth + p .block))
+
+-- the same given back, once the constant is stored
+abbrev pub a-name-back : Scope → Cost
+a-name-back p = gives 0 0 (2 - (p .depth + p .block))
+
+-- room for a words and b locals, where e names of globals wait for their constants
+pub record Spare (w : List ℕ) (p : Scope) (s : Step) (a b e : ℕ) : Type 0 where
+  pub words : 11844 + 2 * p .nodes + live w p s + a ≤ top (p .nodes) + 3 * taken w (p .depth)
+  pub locals : edge w (p .nodes) (p .block) + b ≤ p .nodes + taken w (p .depth)
+  pub globals : s .globals + 1 ≤ s .constants + min 2 (p .block) + e
+
+-- due while nothing is refused
+pub record Owing (w : List ℕ) (p : Scope) (s : Step) (a b e : ℕ) : Type 0 where
+  pub spare : while-going (s .outcome) (Spare w p s a b e)

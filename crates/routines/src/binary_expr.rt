@@ -1,0 +1,28 @@
+// visit_binary_expr: what binary_literal asks of an operand; `binary`, `addi`, `minus` and `both` of `cycle` lower the operands.
+ghost use mathlib.Core.Path.{_≡_};
+ghost use Prim.Native.Nat.{_<_, _≤_};
+ghost use Rattle.meaning.specs.Fields.{fields};
+ghost use Rattle.meaning.specs.At.{expr-at};
+ghost use Rattle.meaning.specs.Syntax.{small-operand};
+ghost use Rattle.routines.specs.Node.{Lawful, small-of};
+use store::OFFSETS;
+use store::Scope;
+use values::Immediate;
+
+// The number from 0 to 255 that an operand is, or 256.
+pub fn small_operand(tree: &[u8], work: &[u32], scope: Scope, node: usize) -> u32
+    requires { ⌜ Lawful (now tree) (now work) (scope .nodes) × (node < scope .nodes) × (scope .nodes ≤ 32768) ⌝ }
+    ensures { λ r. ⌜ small-operand (expr-at (fields (now (tree .entry))) node) ≡ small-of r ⌝ }
+{
+    let base = OFFSETS + 15 * scope.nodes;
+    if nodes::tag_of(tree, work, base, node) != 0x01 {
+        return 256;
+    }
+    let payload = nodes::payload_of(tree, work, base, node);
+    let number = values::number_of(values::bits_at(payload));
+    let found = values::small(number);
+    let Immediate::Is(k) = found else {
+        return 256;
+    };
+    k as u32
+}

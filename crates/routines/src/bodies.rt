@@ -1,0 +1,99 @@
+// A function's parameters, the end of its body and its Closure, which visit_fn_stmt and visit_function_expr share (`body` of `cycle`).
+ghost use Prim.Native.Nat.{_+_, _*_, _<_, _≤_};
+ghost use Rattle.meaning.specs.Functions.{parameters};
+ghost use Rattle.forward.specs.Forward.{fwd-zero, sure, closure, end-body};
+ghost use Rattle.store.specs.Layout.{top};
+ghost use Rattle.store.specs.Store.{while-going, Fine};
+ghost use Rattle.store.specs.Promise.{uses, some-registers, both, Room, Leaf, live};
+ghost use Rattle.routines.specs.Pieces.{tokens-from};
+use crate::RETURN;
+use instruction::OpCode;
+use meaning::Cause;
+use meaning::Outcome;
+use store::Scope;
+use store::Step;
+use store::TOP;
+
+const CLOSURE: u32 = OpCode::Closure as u32;
+
+// A register and a local for each of the n parameters from word `from` of the payload on.
+pub(crate) fn parameters(
+    payload: &[u8],
+    work: &mut [u32],
+    step: Step,
+    scope: Scope,
+    node: usize,
+    from: usize,
+    n: usize,
+) -> Step
+    requires { ⌜ Fine (now work) scope step × Room (now work) scope step 0 0 0 × ((from < 65536) × (n < 65536)) ⌝ }
+    ensures { λ r. ⌜ Leaf (now (work .entry)) scope step (now (work .exit)) scope r (both (some-registers n) (uses n n 0)) (fwd-zero (parameters node (tokens-from scope (now (payload .entry)) from n))) × (r .result < 255) ⌝ }
+{
+    let mut last = step;
+    let mut k: usize = 0;
+    while k < n {
+        let name = nodes::pair(payload, from, k, scope.wide);
+        last = store::declare_parameter(work, last, scope, name, node);
+        k += 1;
+    }
+    store::settle(last, 0)
+}
+
+// The end of a body of `count` statements that begins at `first`: 13 Return, then 12 Empty, for one statement alone.
+pub fn end_body(
+    work: &mut [u32],
+    step: Step,
+    scope: Scope,
+    count: usize,
+    first: usize,
+    node: usize,
+) -> Step
+    requires { ⌜ Fine (now work) scope step × Room (now work) scope step 0 2 0 × while-going (step .outcome) (first ≤ step .code) × while-going (step .outcome) (step .result < 255) ⌝ }
+    ensures { λ r. ⌜ Leaf (now (work .entry)) scope step (now (work .exit)) scope r (uses 2 0 0) (end-body count first node) ⌝ }
+{
+    let o = step.outcome;
+    let Outcome::Accepted(_) = o else {
+        return step;
+    };
+    let code = step.code;
+    let result = step.result;
+    if count == 1 {
+        if result == 254 {
+            return store::refuse(step, Cause::Returned, node);
+        }
+        if code == first {
+            return store::refuse(step, Cause::Empty, node);
+        }
+        let top = TOP + 10 * scope.nodes;
+        let mark = work[top - (2 * code - 1)];
+        code::write(
+            work,
+            scope.nodes,
+            code,
+            code::pack(RETURN, result, result + 2, 0),
+            mark,
+        );
+        return store::advance(step, code + 1, 0);
+    }
+    store::advance(step, code, 0)
+}
+
+// Closure of the prototype that is the result.
+pub(crate) fn closure(work: &mut [u32], step: Step, scope: Scope, register: u32, mark: u32) -> Step
+    requires { ⌜ Fine (now work) scope step × while-going (step .outcome) ((5724 + 2 * scope .nodes + live (now work) scope step + 2 ≤ top (scope .nodes)) × (register < 256)) ⌝ }
+    ensures { λ r. ⌜ Leaf (now (work .entry)) scope step (now (work .exit)) scope r (uses 2 0 0) (sure (closure register mark)) ⌝ }
+{
+    let o = step.outcome;
+    let Outcome::Accepted(_) = o else {
+        return step;
+    };
+    let code = step.code;
+    code::write(
+        work,
+        scope.nodes,
+        code,
+        code::pack_wide(CLOSURE, register, step.result as usize),
+        mark,
+    );
+    store::advance(step, code + 1, register)
+}

@@ -1,0 +1,135 @@
+// visit_class_stmt; `class` and `methods` of `cycle` lower its methods.
+ghost use mathlib.Core.Path.{_≡_};
+ghost use Prim.Native.Nat.{_+_, _<_};
+ghost use Rattle.meaning.specs.Read.{token};
+ghost use Rattle.meaning.specs.Fields.{fields};
+ghost use Rattle.meaning.specs.At.{tag-of, extra};
+ghost use Rattle.meaning.specs.Weight.{size-super};
+ghost use Rattle.forward.specs.Forward.{open-class, add-method, end-class, sure, make-class};
+ghost use Rattle.store.specs.Store.{while-going, Fine, is-wide};
+ghost use Rattle.store.specs.Promise.{uses, some-registers, both, Room, Leaf};
+ghost use Rattle.routines.specs.Pieces.{Small};
+ghost use Rattle.routines.specs.Node.{OnNode, super-of, GivesSuper};
+use crate::LOAD_K;
+use crate::LOAD_NIL;
+use crate::names::declare;
+use crate::names::name_result;
+use crate::variable_expr::variable;
+use instruction::OpCode;
+use meaning::Outcome;
+use store::OFFSETS;
+use store::Scope;
+use store::Step;
+
+const CLASS: u32 = OpCode::Class as u32;
+
+// visit_class_stmt before the superclass: the class's register, and that of names, with the class's own.
+pub fn open_class(
+    work: &mut [u32],
+    step: Step,
+    scope: Scope,
+    node: usize,
+    name: usize,
+    mark: u32,
+) -> Step
+    requires { ⌜ Fine (now work) scope step × Room (now work) scope step 0 0 0 × (name < 65536) ⌝ }
+    ensures { λ r. ⌜ Leaf (now (work .entry)) scope step (now (work .exit)) scope r (both (some-registers 2) (uses 2 0 0)) (open-class node (token name mark)) × while-going (r .outcome) (r .result + 1 < 255) ⌝ }
+{
+    let class = declare(work, step, scope, node, name);
+    let tmp = store::next_register(work, class, scope, node);
+    let k = store::add_name(work, tmp, scope, name, node);
+    code::put_wide(
+        work,
+        k,
+        scope,
+        LOAD_K,
+        tmp.result,
+        k.result,
+        mark,
+        class.result,
+    )
+}
+
+// Where the word behind a name and its mark stands in the file.
+fn third_place(scope: Scope) -> usize
+    ensures { λ r. ⌜ r ≡ 2 + extra (is-wide scope) ⌝ }
+{
+    if scope.wide == 0 { 2 } else { 3 }
+}
+
+// The superclass of a class: a variable, which is visited here, or nil.
+pub fn superclass(tree: &[u8], work: &mut [u32], step: Step, scope: Scope, node: usize) -> Step
+    requires { ⌜ OnNode (now tree) (now work) scope step (size-super (super-of (now tree) node)) node × (tag-of (fields (now tree)) node ≡ 0x1D) ⌝ }
+    ensures { λ r. ⌜ GivesSuper (now (tree .entry)) (now (work .entry)) scope step (now (work .exit)) r node ⌝ }
+{
+    let payload = nodes::payload_of(tree, work, OFFSETS + 15 * scope.nodes, node);
+    let mark = nodes::mark(payload, 1, scope.wide);
+    let parent = nodes::word(payload, third_place(scope));
+    if parent != 65535 {
+        store::visit(work);
+        return variable(tree, work, step, scope, parent);
+    }
+    let register = store::next_register(work, step, scope, node);
+    code::emit(work, register, scope, LOAD_NIL, register.result, 0, 0, mark)
+}
+
+// Class, of the superclass that is the result.
+pub fn make_class(work: &mut [u32], step: Step, scope: Scope, class: u32, mark: u32) -> Step
+    requires { ⌜ Fine (now work) scope step × Room (now work) scope step 0 2 0 × while-going (step .outcome) ((class < 255) × (step .result < 256)) ⌝ }
+    ensures { λ r. ⌜ Leaf (now (work .entry)) scope step (now (work .exit)) scope r (uses 2 0 0) (sure (make-class class mark)) ⌝ }
+{
+    let o = step.outcome;
+    let Outcome::Accepted(_) = o else {
+        return step;
+    };
+    let code = step.code;
+    code::write(
+        work,
+        scope.nodes,
+        code,
+        code::pack(CLASS, class, class + 1, step.result),
+        mark,
+    );
+    store::advance(step, code + 1, step.result)
+}
+
+// A method that is the result; `op` is ClassMeth or ClassStMeth.
+pub fn add_method(
+    work: &mut [u32],
+    step: Step,
+    scope: Scope,
+    node: usize,
+    mark: u32,
+    op: u32,
+    class: u32,
+    tmp: u32,
+    name: usize,
+) -> Step
+    requires { ⌜ Fine (now work) scope step × Room (now work) scope step 0 4 0 × (name < 65536) × while-going (step .outcome) ((op < 256) × (class < 256) × (tmp < 256) × (step .result < 256)) ⌝ }
+    ensures { λ r. ⌜ Leaf (now (work .entry)) scope step (now (work .exit)) scope r (uses 4 0 0) (add-method node mark op class tmp name) ⌝ }
+{
+    let k = store::add_name(work, step, scope, name, node);
+    let loaded = code::emit_wide(work, k, scope, LOAD_K, tmp, k.result, mark);
+    code::emit(work, loaded, scope, op, class, tmp, step.result, mark)
+}
+
+// visit_class_stmt after the methods.
+pub fn end_class(
+    work: &mut [u32],
+    step: Step,
+    scope: Scope,
+    node: usize,
+    name: usize,
+    mark: u32,
+    class: u32,
+) -> Step
+    requires { ⌜ Fine (now work) scope step × Room (now work) scope step 0 2 1 × (name < 65536) × while-going (step .outcome) (class < 255) ⌝ }
+    ensures { λ r. ⌜ Leaf (now (work .entry)) scope step (now (work .exit)) scope r (uses 2 1 0) (end-class node (token name mark) class) × Small r ⌝ }
+{
+    let o = step.outcome;
+    let Outcome::Accepted(_) = o else {
+        return step;
+    };
+    let made = store::settle(step, class);
+    name_result(work, made, scope, node, name, mark)
+}

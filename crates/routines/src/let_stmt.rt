@@ -1,0 +1,57 @@
+// visit_let_stmt; `let_stmt` of `cycle` lowers its initializer.
+ghost use mathlib.Core.Path.{_≡_};
+ghost use Prim.Native.Nat.{ℕ, _<_};
+ghost use Rattle.meaning.specs.Read.{token};
+ghost use Rattle.meaning.specs.Statements.{new-global};
+ghost use Rattle.meaning.specs.Fields.{fields};
+ghost use Rattle.meaning.specs.At.{tag-of, count-of};
+ghost use Rattle.forward.specs.Forward.{fwd-number};
+ghost use Rattle.store.specs.Store.{Fine};
+ghost use Rattle.store.specs.Promise.{nothing, Room, Leaf};
+ghost use Rattle.routines.specs.Node.{OnNode, GivesStmt};
+use crate::LOAD_NIL;
+use crate::SET_GLOBAL;
+use meaning::Cause;
+use store::OFFSETS;
+use store::Scope;
+use store::Step;
+
+// visit_let_stmt, the name of a global: 10 Redefined.
+pub fn new_global(work: &mut [u32], step: Step, scope: Scope, node: usize, name: usize) -> Step
+    requires { ⌜ Fine (now work) scope step × Room (now work) scope step 0 0 0 × (scope .block ≡ 1) × (name < 65536) ⌝ }
+    ensures { λ r. ⌜ ((mark : ℕ) → Leaf (now (work .entry)) scope step (now (work .exit)) scope r nothing (fwd-number (new-global node (token name mark)))) ⌝ }
+{
+    if store::is_global_var(work, step, scope, name) {
+        return store::refuse(step, Cause::Redefined, node);
+    }
+    let noted = store::add_global(work, step, scope, name);
+    store::add_name(work, noted, scope, name, node)
+}
+
+// fn visit_let_stmt without an initializer: a global, or a local.
+pub fn let_only(tree: &[u8], work: &mut [u32], step: Step, scope: Scope, node: usize) -> Step
+    requires { ⌜ OnNode (now tree) (now work) scope step 1 node × (tag-of (fields (now tree)) node ≡ 0x11) × (count-of (fields (now tree)) node ≡ 2) ⌝ }
+    ensures { λ r. ⌜ GivesStmt (now (tree .entry)) (now (work .entry)) scope step (now (work .exit)) r node ⌝ }
+{
+    let payload = nodes::payload_of(tree, work, OFFSETS + 15 * scope.nodes, node);
+    let name = nodes::child(payload, 0);
+    let mark = nodes::mark_there(payload, 1, scope.wide);
+    if store::is_global_context(scope) {
+        let constant = new_global(work, step, scope, node, name);
+        let register = store::next_register(work, constant, scope, node);
+        let nil = code::emit(work, register, scope, LOAD_NIL, register.result, 0, 0, mark);
+        return code::put_wide(
+            work,
+            nil,
+            scope,
+            SET_GLOBAL,
+            register.result,
+            constant.result,
+            mark,
+            0,
+        );
+    }
+    let register = store::next_register(work, step, scope, node);
+    store::allocate_register(work, register, scope, name, register.result);
+    register
+}

@@ -1,0 +1,44 @@
+// visit_logical_expr; `logical` of `cycle` lowers its sides.
+ghost use Prim.Native.Nat.{_+_, _<_, _≤_};
+ghost use Rattle.forward.specs.Forward.{sure, end-logical};
+ghost use Rattle.store.specs.Store.{Fine, while-going};
+ghost use Rattle.store.specs.Promise.{uses, Room, Leaf};
+use crate::JMP;
+use crate::MOVE;
+use meaning::Outcome;
+use store::Scope;
+use store::Step;
+
+// visit_logical_expr after its right side; the left side's result is the whole's.
+pub fn end_logical(
+    work: &mut [u32],
+    step: Step,
+    scope: Scope,
+    test: usize,
+    left: u32,
+    mark: u32,
+) -> Step
+    requires { ⌜ Fine (now work) scope step × Room (now work) scope step 0 2 0 × while-going (step .outcome) ((test + 2 ≤ step .code) × (left < 256) × (step .result < 256)) ⌝ }
+    ensures { λ r. ⌜ Leaf (now (work .entry)) scope step (now (work .exit)) scope r (uses 2 0 0) (sure (end-logical test left mark)) ⌝ }
+{
+    let o = step.outcome;
+    let Outcome::Accepted(_) = o else {
+        return step;
+    };
+    let code = step.code;
+    code::write(
+        work,
+        scope.nodes,
+        code,
+        code::pack(MOVE, left, step.result, 0),
+        mark,
+    );
+    code::write(
+        work,
+        scope.nodes,
+        test + 1,
+        code::pack_wide(JMP, 0, code - test),
+        mark,
+    );
+    store::advance(step, code + 1, left)
+}

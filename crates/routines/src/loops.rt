@@ -1,0 +1,73 @@
+// The end of a loop, which visit_classic_for_stmt, visit_enhanced_for_stmt and visit_while_stmt share (`for_loop`, `for_in`, `while_loop` of `cycle`).
+ghost use mathlib.Core.Path.{_≡_};
+ghost use Prim.Native.Nat.{_+_, _-_, _*_, _<_, _≤_};
+ghost use lib.ListN.{length};
+ghost use Rattle.meaning.specs.Chunk.{continue-goal};
+ghost use Rattle.forward.specs.Forward.{sure, end-loop};
+ghost use Rattle.store.specs.Layout.{top};
+ghost use Rattle.store.specs.Store.{Fine, while-going};
+ghost use Rattle.store.specs.Promise.{uses, Room, Leaf};
+ghost use Rattle.code.specs.Words.{Recoded};
+ghost use Rattle.routines.specs.Pieces.{closed-loop};
+use crate::JMP;
+use meaning::Outcome;
+use store::Scope;
+use store::Step;
+
+// Where continue goes, counted from the loop's first instruction: in mode 1 to the increment.
+pub(crate) fn continue_goal(mode: usize, first: usize, increment: usize) -> usize
+    requires { ⌜ first ≤ increment ⌝ }
+    ensures { λ r. ⌜ r ≡ continue-goal mode (increment - first) ⌝ }
+{
+    if mode == 1 { increment - first } else { 0 }
+}
+
+// The end of a loop, behind `code` instructions: the jump back, the jump out, breaks and continues.
+pub(crate) fn close_loop(
+    work: &mut [u32],
+    nodes: usize,
+    code: usize,
+    goal: usize,
+    first: usize,
+    condition: usize,
+    test: usize,
+    mark: u32,
+)
+    requires { ⌜ (top nodes ≤ length (now work)) × (2 * code + 2 ≤ top nodes) × (nodes ≤ 32768) × (first ≤ code) × (condition ≤ code) × (test + 2 ≤ code) ⌝ }
+    ensures { λ _. ⌜ Recoded (now (work .entry)) nodes code (code + 1) (closed-loop goal first condition test mark) (now (work .exit)) ⌝ }
+{
+    code::write(work, nodes, code, code::jump_back(code - condition), mark);
+    code::write(
+        work,
+        nodes,
+        test + 1,
+        code::pack_wide(JMP, 0, code - test),
+        mark,
+    );
+    code::patch_loop(work, nodes, first, code + 1, goal);
+}
+
+// The end of visit_while_stmt and visit_classic_for_stmt.
+pub fn end_loop(
+    work: &mut [u32],
+    step: Step,
+    scope: Scope,
+    first: usize,
+    increment: usize,
+    condition: usize,
+    test: usize,
+    result: u32,
+    mark: u32,
+) -> Step
+    requires { ⌜ Fine (now work) scope step × Room (now work) scope step 0 2 0 × while-going (step .outcome) ((first ≤ step .code) × (condition ≤ step .code) × (test + 2 ≤ step .code) × (result < 256) × (first ≤ increment)) ⌝ }
+    ensures { λ r. ⌜ Leaf (now (work .entry)) scope step (now (work .exit)) scope r (uses 2 0 0) (sure (end-loop (scope .mode) first increment condition test result mark)) ⌝ }
+{
+    let o = step.outcome;
+    let Outcome::Accepted(_) = o else {
+        return step;
+    };
+    let code = step.code;
+    let goal = continue_goal(scope.mode, first, increment);
+    close_loop(work, scope.nodes, code, goal, first, condition, test, mark);
+    store::advance(step, code + 1, result)
+}

@@ -1,0 +1,125 @@
+// visit_variable_expr, whole.
+ghost use mathlib.Core.Path.{_≡_};
+ghost use Prim.Native.Nat.{_<_};
+ghost use Rattle.meaning.specs.Read.{token};
+ghost use Rattle.meaning.specs.State.{is-builtin-var};
+ghost use Rattle.meaning.specs.Fields.{fields};
+ghost use Rattle.meaning.specs.At.{tag-of};
+ghost use Rattle.meaning.specs.Expressions.{named, visit-outside, visit-variable};
+ghost use Rattle.forward.specs.Forward.{fwd};
+ghost use Rattle.store.specs.Store.{Fine};
+ghost use Rattle.store.specs.Promise.{nothing, Room};
+ghost use Rattle.routines.specs.Node.{OnNode, Gives, GivesExpr};
+use instruction::OpCode;
+use meaning::Cause;
+use store::Found;
+use store::OFFSETS;
+use store::Scope;
+use store::Step;
+
+const GET_UPVAL: u32 = OpCode::GetUpval as u32;
+
+const GET_GLOBAL: u32 = OpCode::GetGlobal as u32;
+
+const GET_BUILTIN: u32 = OpCode::GetBuiltin as u32;
+
+// A builtin or a global: its name is a constant.
+fn named(
+    work: &mut [u32],
+    step: Step,
+    scope: Scope,
+    op: u32,
+    node: usize,
+    name: usize,
+    mark: u32,
+) -> Step
+    requires { ⌜ Fine (now work) scope step × Room (now work) scope step 0 0 0 × (op < 256) × (name < 65536) ⌝ }
+    ensures { λ r. ⌜ Gives (now (work .entry)) scope step (now (work .exit)) r nothing (fwd (named op node (token name mark))) ⌝ }
+{
+    let register = store::next_register(work, step, scope, node);
+    let constant = store::add_name(work, register, scope, name, node);
+    code::put_wide(
+        work,
+        constant,
+        scope,
+        op,
+        register.result,
+        constant.result,
+        mark,
+        register.result,
+    )
+}
+
+// fn is_builtin_var: the names 0 to 8.
+fn is_builtin_var(name: usize) -> bool
+    ensures { λ r. ⌜ r ≡ is-builtin-var name ⌝ }
+{
+    name <= 8
+}
+
+// fn visit_variable_expr, after the current function's locals and the captures: 9 Undefined.
+fn visit_outside(
+    work: &mut [u32],
+    step: Step,
+    scope: Scope,
+    node: usize,
+    name: usize,
+    mark: u32,
+) -> Step
+    requires { ⌜ Fine (now work) scope step × Room (now work) scope step 0 0 0 × (name < 65536) ⌝ }
+    ensures { λ r. ⌜ Gives (now (work .entry)) scope step (now (work .exit)) r nothing (fwd (visit-outside node (token name mark))) ⌝ }
+{
+    if is_builtin_var(name) {
+        return named(work, step, scope, GET_BUILTIN, node, name, mark);
+    }
+    if store::is_global_var(work, step, scope, name) {
+        return named(work, step, scope, GET_GLOBAL, node, name, mark);
+    }
+    store::refuse(step, Cause::Undefined, node)
+}
+
+// fn visit_variable_expr: the latest local, then a capture.
+fn visit_variable_expr(
+    work: &mut [u32],
+    step: Step,
+    scope: Scope,
+    node: usize,
+    name: usize,
+    mark: u32,
+) -> Step
+    requires { ⌜ Fine (now work) scope step × Room (now work) scope step 0 0 0 × (name < 65536) ⌝ }
+    ensures { λ r. ⌜ Gives (now (work .entry)) scope step (now (work .exit)) r nothing (fwd (visit-variable node (token name mark))) ⌝ }
+{
+    let local = store::get_var_register(work, scope, name);
+    if let Found::At(register) = local {
+        return store::settle(step, register);
+    }
+    let sought = store::get_upvalue(work, step, scope, name, node);
+    let next = sought.step;
+    let capture = sought.found;
+    let Found::At(index) = capture else {
+        return visit_outside(work, next, scope, node, name, mark);
+    };
+    let register = store::next_register(work, next, scope, node);
+    code::emit(
+        work,
+        register,
+        scope,
+        GET_UPVAL,
+        register.result,
+        index,
+        0,
+        mark,
+    )
+}
+
+// A variable.
+pub fn variable(tree: &[u8], work: &mut [u32], step: Step, scope: Scope, node: usize) -> Step
+    requires { ⌜ OnNode (now tree) (now work) scope step 1 node × (tag-of (fields (now tree)) node ≡ 0x04) ⌝ }
+    ensures { λ r. ⌜ GivesExpr (now (tree .entry)) (now (work .entry)) scope step (now (work .exit)) r node ⌝ }
+{
+    let payload = nodes::payload_of(tree, work, OFFSETS + 15 * scope.nodes, node);
+    let name = nodes::child(payload, 0);
+    let mark = nodes::mark_there(payload, 1, scope.wide);
+    visit_variable_expr(work, step, scope, node, name, mark)
+}
