@@ -10,7 +10,7 @@ use lib.Seq.{getD-set-same, getD-set-other}
 use Rattle.store.specs.declared.Step.{Step}
 use Rattle.store.specs.declared.Scope.{Scope}
 use Rattle.store.specs.Table.{tab, span}
-use Rattle.store.specs.Layout.{registers, first, edge, local-at, block, inst-at}
+use Rattle.store.specs.Layout.{first-edge, first-local, all-words, registers, first, edge, local-at, block, inst-at}
 use Rattle.store.specs.Store.{open-at, around, state-of, run, deeper, Linked, Sound, Fine, Kept}
 use Rattle.store.specs.Promise.{nothing, Used, Moves, Leaf}
 use Rattle.store.proofs.Tables.{span-more, span-none}
@@ -31,14 +31,14 @@ pub record Opened (w w' : List ℕ) (p : Scope) : Type 0 where
   pub firsts : (j : ℕ) → j ≤ p .depth → first w' j ≡ first w j
 
 module _ {w w' : List ℕ} {p : Scope} (h : Sound w p) (lim : p .block < p .nodes + 10) (g : Opened w w' p) where
-  registers-same : Same w w' 4688 (5708 + p .nodes)
+  registers-same : Same w w' 4688 (first-edge (p .nodes))
   registers-same = record { same = λ i a b. g .other i (omega arith) (omega arith) }
 
-  words-same : Same w w' (5724 + 2 * p .nodes) (5724 + 2 * p .nodes + edge w (p .nodes) (p .block))
+  words-same : Same w w' (first-local (p .nodes)) (first-local (p .nodes) + edge w (p .nodes) (p .block))
   words-same = record { same = λ i a b. g .other i (omega arith) (omega arith) }
 
   pub opened-edge : (i : ℕ) → i ≤ p .block → edge w' (p .nodes) i ≡ edge w (p .nodes) i
-  opened-edge i l = g .other (5708 + p .nodes + i) (omega arith) (omega arith)
+  opened-edge i l = g .other (first-edge (p .nodes) + i) (omega arith) (omega arith)
 
   pub opened-top : edge w' (p .nodes) (p .block + 1) ≡ edge w (p .nodes) (p .block)
   opened-top = ap (λ i. edge w' (p .nodes) i) (add-one (p .block)) ∙ g .here
@@ -90,11 +90,11 @@ module _ {w w' : List ℕ} {p : Scope} (h : Sound w p) (lim : p .block < p .node
 
 -- ---- enter_block
 
-pub opened-by : (w : List ℕ) (p : Scope) → Sound w p → p .block < p .nodes + 10 → Opened w (set w (5708 + p .nodes + p .block + 1) (edge w (p .nodes) (p .block))) p
+pub opened-by : (w : List ℕ) (p : Scope) → Sound w p → p .block < p .nodes + 10 → Opened w (set w (first-edge (p .nodes) + p .block + 1) (edge w (p .nodes) (p .block))) p
 opened-by w p h lim =
-    let at : ℕ = 5708 + p .nodes + p .block + 1 in
+    let at : ℕ = first-edge (p .nodes) + p .block + 1 in
     let v : ℕ = edge w (p .nodes) (p .block) in
-    let e : at ≡ 5708 + p .nodes + suc (p .block) = omega arith in
+    let e : at ≡ first-edge (p .nodes) + suc (p .block) = omega arith in
     record {
       length = length-set w at v;
       here = ap (λ i. getD (set w at v) i 0) (sym e) ∙ getD-set-same w at v 0 (omega (arith, h .long));
@@ -174,16 +174,16 @@ block-kept {w} {w'} {p} h lim g low =
 pub record Leaving (w : List ℕ) (p : Scope) : Type 0 where
   pub some : 1 ≤ p .nodes
   pub few : p .nodes ≤ 32768
-  pub long : 12288 + 16 * p .nodes ≤ length w
-  pub ends : getD w (5708 + p .nodes + p .block + 1) 0 ≡ edge w (p .nodes) (p .block + 1)
-  pub rises : edge w (p .nodes) (p .block) ≤ getD w (5708 + p .nodes + p .block + 1) 0
-  pub fits : getD w (5708 + p .nodes + p .block + 1) 0 ≤ p .nodes + 2040
+  pub long : all-words (p .nodes) ≤ length w
+  pub ends : getD w (first-edge (p .nodes) + p .block + 1) 0 ≡ edge w (p .nodes) (p .block + 1)
+  pub rises : edge w (p .nodes) (p .block) ≤ getD w (first-edge (p .nodes) + p .block + 1) 0
+  pub fits : getD w (first-edge (p .nodes) + p .block + 1) 0 ≤ p .nodes + 2040
   pub linked : Linked w (p .nodes) (p .block + 1)
 
 pub leaving : {w : List ℕ} {p : Scope} → Sound w (deeper p) → Leaving w p
 leaving {w} {p} h =
-    let e : getD w (5708 + p .nodes + p .block + 1) 0 ≡ edge w (p .nodes) (p .block + 1) = ap (λ i. getD w i 0) (omega arith) in
-    let f : getD w (5708 + p .nodes + p .block + 1) 0 ≡ edge w (p .nodes) (suc (p .block)) = ap (λ i. getD w i 0) (omega arith) in
+    let e : getD w (first-edge (p .nodes) + p .block + 1) 0 ≡ edge w (p .nodes) (p .block + 1) = ap (λ i. getD w i 0) (omega arith) in
+    let f : getD w (first-edge (p .nodes) + p .block + 1) 0 ≡ edge w (p .nodes) (suc (p .block)) = ap (λ i. getD w i 0) (omega arith) in
     record {
       some = h .some;
       few = h .few;

@@ -12,7 +12,7 @@ use borrow.Author.Tests.{lt-ltb, le-ltb, eq-eqb, ne-eqb, le-leb, lt-leb}
 use Rattle.store.specs.declared.Found.the-variants.{At, Nothing, Full}
 use Rattle.store.specs.Half.{half, with-half}
 use Rattle.store.specs.Table.{tab, span}
-use Rattle.store.specs.Layout.{edge, block, first, held, capture-of, capture-at}
+use Rattle.store.specs.Layout.{first-edge, first-local, edge, block, first, held, capture-of, capture-word, capture-at}
 use Rattle.store.specs.Store.{open-at, around}
 use Rattle.store.specs.Search.{search-of, Caught, Added}
 use Rattle.store.proofs.Tables.{tab-none, tab-suc, tab-front, tab-length, tab-ext, span-ext}
@@ -84,15 +84,11 @@ blocks-high w w' h n a e = span-ext _ _ a e one
   where
     one : (i : ℕ) → a ≤ i → i < e → block w' n i ≡ block w n i
     one i k m =
-        let e0 : edge w' n i ≡ edge w n i = h (5708 + n + i) (omega arith) in
-        let e1 : edge w' n (suc i) ≡ edge w n (suc i) = h (5708 + n + suc i) (omega arith) in
-        rw (e0, e1) (span-ext _ _ (edge w n i) (edge w n (suc i)) (λ x y z. rw (h (5724 + 2 * n + x) (omega arith), half-word w w' (9376 + x) (h ((9376 + x) / 2) (omega arith)))))
+        let e0 : edge w' n i ≡ edge w n i = h (first-edge n + i) (omega arith) in
+        let e1 : edge w' n (suc i) ≡ edge w n (suc i) = h (first-edge n + suc i) (omega arith) in
+        rw (e0, e1) (span-ext _ _ (edge w n i) (edge w n (suc i)) (λ x y z. rw (h (first-local n + x) (omega arith), half-word w w' (9376 + x) (h ((9376 + x) / 2) (omega arith)))))
 
 -- ---- an equal capture, no room, one more
-
--- capture k of function d, as it is compared
-abbrev pub capture-word : List ℕ → (d k : ℕ) → ℕ
-capture-word w d k = half w (6288 + 256 * d + k) % 512
 
 pub add-old : (w : List ℕ) (d x i : ℕ) → i < held w d → ((k : ℕ) → k < i → capture-word w d k ≡ x → ⊥) → capture-word w d i ≡ x → Added w d x w (At i)
 unfolding open-at

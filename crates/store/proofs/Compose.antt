@@ -13,7 +13,7 @@ use Rattle.store.specs.Promise.{Cost, both, nothing, taken, Roomy, Room,
 use Rattle.store.proofs.Regions.{below-256, same-count}
 use Rattle.store.proofs.Runs.{due, promised, kept-refl, kept-in, absorbed, image-same, image-none}
 use Rattle.store.proofs.Steady.{fine-step}
-use Rattle.store.proofs.Steps.{refused-moves, refused-again, refused-outcome}
+use Rattle.store.proofs.Refusals.{refused-moves, refused-again, refused-outcome}
 use Rattle.store.proofs.Tables.{tab-length}
 use Rattle.meaning.specs.State.{State, Proto, get}
 use Rattle.meaning.specs.declared.Instruction.{Instruction}

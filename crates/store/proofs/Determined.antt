@@ -1,9 +1,9 @@
 -- Promise strength: any two outcomes that one promise allows are equal. `Post` is the promise itself, as it stands in src/: of what is lent (κs, args),
 -- what is returned (r) and what is left behind each reference (s).
 use mathlib.Core.Path.{_≡_, sym, _∙_}
-use Rattle.store.proofs.refuse.Reads as refuse
-use Rattle.store.proofs.advance.Reads as advance
-use Rattle.store.proofs.settle.Reads as settle
+use Rattle.store.proofs.steps.refuse.Reads as refuse
+use Rattle.store.proofs.steps.advance.Reads as advance
+use Rattle.store.proofs.steps.settle.Reads as settle
 use Rattle.store.proofs.global.is_global_context.Reads as is-global-context
 use Rattle.store.proofs.global.is_global_var.Reads as is-global-var
 

@@ -11,7 +11,7 @@ use borrow.Author.Tests.{le-leb, lt-leb}
 use Rattle.store.specs.declared.Step.{Step}
 use Rattle.store.specs.declared.Scope.{Scope}
 use Rattle.store.specs.Table.{tab}
-use Rattle.store.specs.Layout.{registers, held, first, saved, edge, block}
+use Rattle.store.specs.Layout.{first-edge, registers, held, first, saved, edge, block}
 use Rattle.store.specs.Store.{open-at, around, state-of, run, goes-on, while-going, refused-by, refused-step, inner, Sound, Fine, Kept}
 use Rattle.store.specs.Promise.{nothing, taken, Moves, Leaf}
 use Rattle.store.specs.Opening.{Framed, Enters}
@@ -19,7 +19,7 @@ use Rattle.store.proofs.Tables.{span-none}
 use Rattle.store.proofs.Regions.{same-count, constants-same, globals-same, code-same, captures-same, around-same, around-length, below-256}
 use Rattle.store.proofs.Steady.{taken-by}
 use Rattle.store.proofs.Runs.{promised, stays, ran, ran-out}
-use Rattle.store.proofs.Steps.{refused-outcome}
+use Rattle.store.proofs.Refusals.{refused-outcome}
 use Rattle.store.proofs.Compose.{refused-leaf}
 use Rattle.store.proofs.Blocks.{Opened, opened-edge, opened-top, opened-blocks, opened-span, opened-sound}
 use Rattle.meaning.specs.State.{Proto, refused, done, refuse, if-then, fresh, enter-function}
@@ -38,14 +38,14 @@ never-due (Refused x y) k n P = tt
 
 module _ (w w1 : List ℕ) (p : Scope) (s : Step) (name : ℕ) (fine : Fine w p s) (deep : p .depth ≤ 7) (lim : p .block < p .nodes + 10) (framed : Framed w (p .depth + 1) name (p .block) (p .loops) w1) where
   abbrev pub entered-words : List ℕ
-  entered-words = set w1 (5708 + p .nodes + p .block + 1) (edge w1 (p .nodes) (p .block))
+  entered-words = set w1 (first-edge (p .nodes) + p .block + 1) (edge w1 (p .nodes) (p .block))
 
   abbrev w' : List ℕ
   w' = entered-words
 
   -- below the edges
   low : (i : ℕ) → i < 5708 → getD w' i 0 ≡ getD w1 i 0
-  low i l = getD-set-other w1 (5708 + p .nodes + p .block + 1) i (edge w1 (p .nodes) (p .block)) 0 (omega arith)
+  low i l = getD-set-other w1 (first-edge (p .nodes) + p .block + 1) i (edge w1 (p .nodes) (p .block)) 0 (omega arith)
 
   -- all but the frame
   word : (i : ℕ) → i < 5708 → (3080 + 8 * p .depth ≤ i → 3085 + 8 * p .depth ≤ i) → getD w' i 0 ≡ getD w i 0
@@ -53,15 +53,15 @@ module _ (w w1 : List ℕ) (p : Scope) (s : Step) (name : ℕ) (fine : Fine w p 
 
   entered-opened : Opened w w' p
   entered-opened =
-      let at : ℕ = 5708 + p .nodes + p .block + 1 in
+      let at : ℕ = first-edge (p .nodes) + p .block + 1 in
       let v : ℕ = edge w1 (p .nodes) (p .block) in
-      let e : at ≡ 5708 + p .nodes + suc (p .block) = omega arith in
+      let e : at ≡ first-edge (p .nodes) + suc (p .block) = omega arith in
       record {
         length = length-set w1 at v ∙ framed .same;
         here =
             ap (λ i. getD w' i 0) (sym e)
             ∙ getD-set-same w1 at v 0 (omega (arith, fine .sound .long, framed .same))
-            ∙ framed .other (5708 + p .nodes + p .block) (λ z. omega arith);
+            ∙ framed .other (first-edge (p .nodes) + p .block) (λ z. omega arith);
         other = λ i a b. getD-set-other w1 at i v 0 (λ z. b (omega arith)) ∙ framed .other i (λ z. omega arith);
         firsts = λ j l. word (3075 + 8 * j) (omega arith) (λ z. absurd (omega arith));
       }

@@ -18,6 +18,7 @@ use Rattle.meaning.specs.State.{Proto, done, close-function}
 use Rattle.meaning.specs.declared.Outcome.{Outcome}
 use Rattle.meaning.specs.declared.Outcome.the-variants.{Accepted, Refused}
 use Rattle.forward.specs.Forward.{bind, fwd-unit}
+use Rattle.store.specs.Layout.{top}
 
 -- what leave_block asks, where a function's last block is left
 pub inner-deeper : {w : List ℕ} {p : Scope} → Sound w (inner p) → Leavable w p → Sound w (deeper p)
@@ -42,7 +43,7 @@ module _ {w w' : List ℕ} {p : Scope} {r : Step} (fine : Fine w (inner p) r) (h
   sound : Sound w (deeper p)
   sound = inner-deeper (fine .sound) here
 
-  word : (i : ℕ) → i < 12288 + 10 * p .nodes → getD w' i 0 ≡ getD w i 0
+  word : (i : ℕ) → i < top (p .nodes) → getD w' i 0 ≡ getD w i 0
   word i l = popped-same g .same i (omega arith) l
 
   pub closed-fine : Fine w' p r

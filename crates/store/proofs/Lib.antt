@@ -2,9 +2,10 @@
 pub mod Tables
 pub mod Halves
 pub mod Regions
+pub mod Cells
 pub mod Runs
 pub mod Steady
-pub mod Steps
+pub mod Refusals
 pub mod Compose
 pub mod Links
 pub mod Finding

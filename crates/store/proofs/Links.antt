@@ -12,7 +12,7 @@ use lib.Dec.{ltb, eqb}
 use borrow.Author.Tests.{lt-ltb, le-ltb, eq-eqb, ne-eqb}
 use Rattle.store.specs.Half.{with-half}
 use Rattle.store.specs.Table.{span}
-use Rattle.store.specs.Layout.{edge, local-at, block, latest, link, head}
+use Rattle.store.specs.Layout.{first-edge, first-local, top, first-head, beyond, all-words, edge, local-at, block, latest, link, head}
 use Rattle.store.specs.Store.{Shadowed, Leads, Linked}
 use Rattle.store.specs.Search.{seek}
 use Rattle.store.proofs.Tables.{span-more, span-none}
@@ -233,44 +233,44 @@ pub record Heads (w w1 : List ℕ) (n from i c : ℕ) : Type 0 where
 
 pub record Popping (w w1 : List ℕ) (n from i : ℕ) : Type 0 where
   pub same : length w1 ≡ length w
-  pub other : (j : ℕ) → (12288 + 10 * n ≤ j → 12288 + 15 * n ≤ j) → getD w1 j 0 ≡ getD w j 0
+  pub other : (j : ℕ) → (top n ≤ j → beyond n ≤ j) → getD w1 j 0 ≡ getD w j 0
   pub heads : (c : ℕ) → c < 10 * n → Heads w w1 n from i c
 
 pub popping-start : {w : List ℕ} {n b : ℕ} (from i : ℕ) → from ≤ i → i ≡ edge w n b → Linked w n b → Popping w w n from i
 popping-start {w} {n} from i l e h = record { same = refl; other = λ j l. refl; heads = λ c m. record { back = i; low = l; high = omega arith; leads = h .heads c m ∙ ap (λ k. latest w n c k) (sym e) } }
 
 -- the link of the local that is popped becomes the head of its bucket; its block starts at edge e
-module _ (w w1 : List ℕ) (n e i k v b : ℕ) (linked : Linked w n b) (inner : e ≤ b) (from : edge w n e ≤ i) (within : i < edge w n b) (few : edge w n b ≤ n + 2040) (long : 12288 + 16 * n ≤ length w) (range : k < 10 * n) (own : local-at w n i .name % (10 * n) ≡ k) (back : v ≡ link w1 n i) (tiny : v < 65536)
+module _ (w w1 : List ℕ) (n e i k v b : ℕ) (linked : Linked w n b) (inner : e ≤ b) (from : edge w n e ≤ i) (within : i < edge w n b) (few : edge w n b ≤ n + 2040) (long : all-words n ≤ length w) (range : k < 10 * n) (own : local-at w n i .name % (10 * n) ≡ k) (back : v ≡ link w1 n i) (tiny : v < 65536)
     (g : Popping w w1 n (edge w n e) (suc i)) where
   old : Leads w n b i
   old = linked .links i within
 
   link-back : v ≡ latest w n k (old .back)
-  link-back = back ∙ ap (λ x. x / 65536) (g .other (5724 + 2 * n + i) (λ z. absurd (omega arith))) ∙ old .leads ∙ ap (λ c. latest w n c (old .back)) own
+  link-back = back ∙ ap (λ x. x / 65536) (g .other (first-local n + i) (λ z. absurd (omega arith))) ∙ old .leads ∙ ap (λ c. latest w n c (old .back)) own
 
-  inside : (24576 + 20 * n + k) / 2 < length w1
+  inside : (first-head n + k) / 2 < length w1
   inside = omega (arith, g .same)
 
-  pub popping-next : Popping w (with-half w1 (24576 + 20 * n + k) v) n (edge w n e) i
+  pub popping-next : Popping w (with-half w1 (first-head n + k) v) n (edge w n e) i
   popping-next =
       record {
-        same = length-half w1 (24576 + 20 * n + k) v ∙ g .same;
-        other = λ j l. word-other w1 (24576 + 20 * n + k) j v (λ e. let x = l (omega arith) in omega arith) ∙ g .other j l;
+        same = length-half w1 (first-head n + k) v ∙ g .same;
+        other = λ j l. word-other w1 (first-head n + k) j v (λ e. let x = l (omega arith) in omega arith) ∙ g .other j l;
         heads = λ c l. cases c l (ℕ-discrete c k) (g .heads c l) (decLt i (g .heads c l .back));
       }
     where
-      cases : (c : ℕ) → c < 10 * n → Dec (c ≡ k) → (h : Heads w w1 n (edge w n e) (suc i) c) → Dec (i < h .back) → Heads w (with-half w1 (24576 + 20 * n + k) v) n (edge w n e) i c
+      cases : (c : ℕ) → c < 10 * n → Dec (c ≡ k) → (h : Heads w w1 n (edge w n e) (suc i) c) → Dec (i < h .back) → Heads w (with-half w1 (first-head n + k) v) n (edge w n e) i c
       cases c l (yes x) h y =
-          record { back = old .back; low = old .within e inner from; high = old .before; leads = rw x (half-same w1 (24576 + 20 * n + k) v inside tiny ∙ link-back) }
+          record { back = old .back; low = old .within e inner from; high = old .before; leads = rw x (half-same w1 (first-head n + k) v inside tiny ∙ link-back) }
       cases c l (no x) h (no y) =
-          record { back = h .back; low = h .low; high = omega arith; leads = half-other w1 (24576 + 20 * n + k) v inside tiny (24576 + 20 * n + c) (omega arith) ∙ h .leads }
+          record { back = h .back; low = h .low; high = omega arith; leads = half-other w1 (first-head n + k) v inside tiny (first-head n + c) (omega arith) ∙ h .leads }
       cases c l (no x) h (yes y) =
           let z : h .back ≡ suc i = omega (arith, h .high) in
           record {
             back = i;
             low = from;
             high = omega arith;
-            leads = half-other w1 (24576 + 20 * n + k) v inside tiny (24576 + 20 * n + c) (omega arith) ∙ h .leads ∙ ap (λ m. latest w n c m) z ∙ latest-miss w n c i (λ q. x (sym q ∙ own));
+            leads = half-other w1 (first-head n + k) v inside tiny (first-head n + c) (omega arith) ∙ h .leads ∙ ap (λ m. latest w n c m) z ∙ latest-miss w n c i (λ q. x (sym q ∙ own));
           }
 
 -- the locals that are left are linked
@@ -278,7 +278,7 @@ pub popping-end : {w w1 : List ℕ} {n i : ℕ} (b : ℕ) → i ≡ edge w n b �
 popping-end {w} {w1} {n} {i} b e blocks rises few h g =
     record {
       links = λ j l.
-          leads-same w w1 n (b + 1) b locals (λ x y z. (omega arith, edges x y)) j (omega (arith, edges b (omega arith))) (ap (λ x. x / 65536) (g .other (5724 + 2 * n + j) (λ z. absurd (omega (arith, edges b (omega arith))))))
+          leads-same w w1 n (b + 1) b locals (λ x y z. (omega arith, edges x y)) j (omega (arith, edges b (omega arith))) (ap (λ x. x / 65536) (g .other (first-local n + j) (λ z. absurd (omega (arith, edges b (omega arith))))))
           (λ m x s. left j m l x s (decLt (s .by) (edge w n b)))
           (h .links j (omega (arith, edges b (omega arith))));
       heads = λ c l.
@@ -288,7 +288,7 @@ popping-end {w} {w1} {n} {i} b e blocks rises few h g =
     }
   where
     edges : (x : ℕ) → x ≤ b → edge w1 n x ≡ edge w n x
-    edges x y = g .other (5708 + n + x) (λ z. absurd (omega arith))
+    edges x y = g .other (first-edge n + x) (λ z. absurd (omega arith))
 
     locals : Locals w w1 n (edge w n (b + 1))
     locals = locals-same w w1 n (edge w n (b + 1)) few (record { same = λ j a c. g .other j (λ z. absurd (omega arith)) }) (record { same = λ j a c. g .other j (λ z. absurd (omega arith)) })

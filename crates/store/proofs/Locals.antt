@@ -11,7 +11,7 @@ use Rattle.store.specs.declared.Step.{Step}
 use Rattle.store.specs.declared.Scope.{Scope}
 use Rattle.store.specs.Half.{half, with-half}
 use Rattle.store.specs.Table.{tab, span}
-use Rattle.store.specs.Layout.{registers, first, edge, local-at, block, latest, link, head, inst-at, top}
+use Rattle.store.specs.Layout.{first-edge, first-local, first-head, beyond, all-words, registers, first, edge, local-at, block, latest, link, head, inst-at, top}
 use Rattle.store.specs.Store.{open-at, around, state-of, Leads, Linked, Sound, Fine, Kept}
 use Rattle.store.specs.Promise.{a-local, Roomy, Used, Moves, Leaf, Latest, Unlinked}
 use Rattle.store.proofs.Tables.{span-more, span-ext}
@@ -29,7 +29,7 @@ use Rattle.forward.specs.Forward.{fwd-unit}
 pub record Pushed (w w' : List ℕ) (n at i : ℕ) (l : Local) : Type 0 where
   pub length : length w' ≡ length w
   -- all but registers of locals, the edge, the locals' words and the heads
-  pub other : (j : ℕ) → (4688 ≤ j → 5708 + n ≤ j) → ¬ (j ≡ at) → (5724 + 2 * n ≤ j → 5724 + 2 * n + i < j) → (12288 + 10 * n ≤ j → 12288 + 15 * n ≤ j) → getD w' j 0 ≡ getD w j 0
+  pub other : (j : ℕ) → (4688 ≤ j → first-edge n ≤ j) → ¬ (j ≡ at) → (first-local n ≤ j → first-local n + i < j) → (top n ≤ j → beyond n ≤ j) → getD w' j 0 ≡ getD w j 0
   pub edge : getD w' at 0 ≡ i + 1
   pub local : local-at w' n i ≡ l
   pub older : Locals w w' n i
@@ -42,7 +42,7 @@ pub record Hung (w w' : List ℕ) (n i b : ℕ) : Type 0 where
   pub head-other : (c : ℕ) → c < 10 * n → ¬ (c ≡ b) → head w' n c ≡ head w n c
 
 -- the four stores: the register, the head, the word, the edge
-module _ (w : List ℕ) (n at i b name register : ℕ) (long : 12288 + 16 * n ≤ length w) (few : i ≤ n + 2040) (small : n ≤ 32768) (edges : 5708 + n ≤ at) (below : at < 5724 + 2 * n) (room : 5724 + 2 * n + i < 12288 + 10 * n) (in-range : b < 10 * n) (named : name < 65536) (taken : register < 255) where
+module _ (w : List ℕ) (n at i b name register : ℕ) (long : all-words n ≤ length w) (few : i ≤ n + 2040) (small : n ≤ 32768) (edges : first-edge n ≤ at) (below : at < first-local n) (room : first-local n + i < top n) (in-range : b < 10 * n) (named : name < 65536) (taken : register < 255) where
   abbrev x : ℕ
   x = head w n b * 65536 + name
 
@@ -50,10 +50,10 @@ module _ (w : List ℕ) (n at i b name register : ℕ) (long : 12288 + 16 * n �
   w1 = with-half w (9376 + i) register
 
   abbrev w2 : List ℕ
-  w2 = with-half w1 (24576 + 20 * n + b) (i + 1)
+  w2 = with-half w1 (first-head n + b) (i + 1)
 
   abbrev w3 : List ℕ
-  w3 = set w2 (5724 + 2 * n + i) x
+  w3 = set w2 (first-local n + i) x
 
   abbrev pub w4 : List ℕ
   w4 = set w3 at (i + 1)
@@ -62,32 +62,32 @@ module _ (w : List ℕ) (n at i b name register : ℕ) (long : 12288 + 16 * n �
   l1 = length-half w (9376 + i) register
 
   l2 : length w2 ≡ length w
-  l2 = length-half w1 (24576 + 20 * n + b) (i + 1) ∙ l1
+  l2 = length-half w1 (first-head n + b) (i + 1) ∙ l1
 
   l3 : length w3 ≡ length w
-  l3 = length-set w2 (5724 + 2 * n + i) x ∙ l2
+  l3 = length-set w2 (first-local n + i) x ∙ l2
 
   -- a half of registers or heads: the last two stores are apart from it
-  last-two : (k : ℕ) → ¬ (k / 2 ≡ at) → ¬ (k / 2 ≡ 5724 + 2 * n + i) → half w4 k ≡ half w2 k
-  last-two k a c = half-apart w3 at (i + 1) k (λ e. a (sym e)) ∙ half-apart w2 (5724 + 2 * n + i) x k (λ e. c (sym e))
+  last-two : (k : ℕ) → ¬ (k / 2 ≡ at) → ¬ (k / 2 ≡ first-local n + i) → half w4 k ≡ half w2 k
+  last-two k a c = half-apart w3 at (i + 1) k (λ e. a (sym e)) ∙ half-apart w2 (first-local n + i) x k (λ e. c (sym e))
 
   -- a register's half: the head's is apart from it too
   register-half : (j : ℕ) → j ≤ i → half w4 (9376 + j) ≡ half w1 (9376 + j)
-  register-half j l = last-two (9376 + j) (omega arith) (omega arith) ∙ half-other w1 (24576 + 20 * n + b) (i + 1) (omega (arith, l1)) (omega arith) (9376 + j) (omega arith)
+  register-half j l = last-two (9376 + j) (omega arith) (omega arith) ∙ half-other w1 (first-head n + b) (i + 1) (omega (arith, l1)) (omega arith) (9376 + j) (omega arith)
 
   -- a head's half
-  head-half : (c : ℕ) → c < 10 * n → half w4 (24576 + 20 * n + c) ≡ half w2 (24576 + 20 * n + c)
-  head-half c l = last-two (24576 + 20 * n + c) (omega arith) (omega arith)
+  head-half : (c : ℕ) → c < 10 * n → half w4 (first-head n + c) ≡ half w2 (first-head n + c)
+  head-half c l = last-two (first-head n + c) (omega arith) (omega arith)
 
   -- a word that is none of the last two
-  word : (j : ℕ) → ¬ (j ≡ at) → ¬ (j ≡ 5724 + 2 * n + i) → ¬ (j ≡ (24576 + 20 * n + b) / 2) → ¬ (j ≡ (9376 + i) / 2) → getD w4 j 0 ≡ getD w j 0
-  word j a c e f = getD-set-other w3 at j (i + 1) 0 a ∙ getD-set-other w2 (5724 + 2 * n + i) j x 0 c ∙ word-other w1 (24576 + 20 * n + b) j (i + 1) e ∙ word-other w (9376 + i) j register f
+  word : (j : ℕ) → ¬ (j ≡ at) → ¬ (j ≡ first-local n + i) → ¬ (j ≡ (first-head n + b) / 2) → ¬ (j ≡ (9376 + i) / 2) → getD w4 j 0 ≡ getD w j 0
+  word j a c e f = getD-set-other w3 at j (i + 1) 0 a ∙ getD-set-other w2 (first-local n + i) j x 0 c ∙ word-other w1 (first-head n + b) j (i + 1) e ∙ word-other w (9376 + i) j register f
 
-  word-here : getD w4 (5724 + 2 * n + i) 0 ≡ x
-  word-here = getD-set-other w3 at (5724 + 2 * n + i) (i + 1) 0 (omega arith) ∙ getD-set-same w2 (5724 + 2 * n + i) x 0 (omega (arith, l2))
+  word-here : getD w4 (first-local n + i) 0 ≡ x
+  word-here = getD-set-other w3 at (first-local n + i) (i + 1) 0 (omega arith) ∙ getD-set-same w2 (first-local n + i) x 0 (omega (arith, l2))
 
-  word-older : (j : ℕ) → j < i → getD w4 (5724 + 2 * n + j) 0 ≡ getD w (5724 + 2 * n + j) 0
-  word-older j l = word (5724 + 2 * n + j) (omega arith) (omega arith) (omega arith) (omega arith)
+  word-older : (j : ℕ) → j < i → getD w4 (first-local n + j) 0 ≡ getD w (first-local n + j) 0
+  word-older j l = word (first-local n + j) (omega arith) (omega arith) (omega arith) (omega arith)
 
   pub pushed-by : Pushed w w4 n at i (record { name = name; register = register })
   pushed-by =
@@ -100,7 +100,7 @@ module _ (w : List ℕ) (n at i b name register : ℕ) (long : 12288 + 16 * n �
         older = record { same = λ j l. rw (word-older j l, register-half j (omega arith), half-other w (9376 + i) register (omega arith) (omega arith) (9376 + j) (omega arith)) };
       }
     where
-      name-is : getD w4 (5724 + 2 * n + i) 0 % 65536 ≡ name
+      name-is : getD w4 (first-local n + i) 0 % 65536 ≡ name
       name-is = omega (arith, word-here)
 
       register-is : half w4 (9376 + i) % 255 ≡ register
@@ -111,16 +111,16 @@ module _ (w : List ℕ) (n at i b name register : ℕ) (long : 12288 + 16 * n �
       record {
         link-here = omega (arith, word-here);
         link-other = λ j l. ap (λ y. y / 65536) (word-older j l);
-        head-here = head-half b in-range ∙ half-same w1 (24576 + 20 * n + b) (i + 1) (omega (arith, l1)) (omega arith);
+        head-here = head-half b in-range ∙ half-same w1 (first-head n + b) (i + 1) (omega (arith, l1)) (omega arith);
         head-other = λ c l ne.
             head-half c l
-            ∙ half-other w1 (24576 + 20 * n + b) (i + 1) (omega (arith, l1)) (omega arith) (24576 + 20 * n + c) (omega arith)
-            ∙ half-other w (9376 + i) register (omega arith) (omega arith) (24576 + 20 * n + c) (omega arith);
+            ∙ half-other w1 (first-head n + b) (i + 1) (omega (arith, l1)) (omega arith) (first-head n + c) (omega arith)
+            ∙ half-other w (9376 + i) register (omega arith) (omega arith) (first-head n + c) (omega arith);
       }
 
 -- ---- the links
 
-module _ (w w' : List ℕ) (n k b : ℕ) (l : Local) (blocks : k ≤ n + 10) (range : b < 10 * n) (bx : l .name % (10 * n) ≡ b) (g : Pushed w w' n (5708 + n + k) (edge w n k) l) (hung : Hung w w' n (edge w n k) b) (h : Linked w n k) where
+module _ (w w' : List ℕ) (n k b : ℕ) (l : Local) (blocks : k ≤ n + 10) (range : b < 10 * n) (bx : l .name % (10 * n) ≡ b) (g : Pushed w w' n (first-edge n + k) (edge w n k) l) (hung : Hung w w' n (edge w n k) b) (h : Linked w n k) where
   lo : Locals w w' n (edge w n k)
   lo = g .older
 
@@ -132,7 +132,7 @@ module _ (w w' : List ℕ) (n k b : ℕ) (l : Local) (blocks : k ≤ n + 10) (ra
 
   -- the edges of the locals that were there before
   older : (e : ℕ) → e ≤ k → edge w' n e < edge w n k → Dec (e < k) → (e ≤ k) × (edge w' n e ≡ edge w n e)
-  older e l m (yes a) = (l, g .other (5708 + n + e) (λ z. omega arith) (omega arith) (λ z. absurd (omega arith)) (λ z. absurd (omega arith)))
+  older e l m (yes a) = (l, g .other (first-edge n + e) (λ z. omega arith) (omega arith) (λ z. absurd (omega arith)) (λ z. absurd (omega arith)))
   older e l m (no a) = let z : e ≡ k = omega arith in absurd (omega (arith, one-more, ap (λ y. edge w' n y) z))
 
   latest-old : (c : ℕ) → latest w' n c (edge w n k) ≡ latest w n c (edge w n k)
@@ -160,22 +160,22 @@ module _ (w w' : List ℕ) (n k b : ℕ) (l : Local) (blocks : k ≤ n + 10) (ra
       head-at c l (no e) = rw one-more (hung .head-other c l e ∙ h .heads c l ∙ sym (latest-miss w' n c (edge w n k) (λ z. e (sym z ∙ here)) ∙ latest-old c))
 
 -- the links alone change once more
-pub pushed-then : {w w1 w' : List ℕ} {p : Scope} {i : ℕ} {l : Local} → p .block ≤ p .nodes + 10 → Pushed w w1 (p .nodes) (5708 + p .nodes + p .block) i l → Unlinked w1 p w' → Pushed w w' (p .nodes) (5708 + p .nodes + p .block) i l
+pub pushed-then : {w w1 w' : List ℕ} {p : Scope} {i : ℕ} {l : Local} → p .block ≤ p .nodes + 10 → Pushed w w1 (p .nodes) (first-edge (p .nodes) + p .block) i l → Unlinked w1 p w' → Pushed w w' (p .nodes) (first-edge (p .nodes) + p .block) i l
 pushed-then {p = p} {i = i} blocks g u =
     record {
       length = u .same ∙ g .length;
       other = λ j a c e f. u .other j (λ z. omega (arith, e z, g .edge)) ∙ g .other j a c e f;
-      edge = u .other (5708 + p .nodes + p .block) (λ z. absurd (omega arith)) ∙ g .edge;
+      edge = u .other (first-edge (p .nodes) + p .block) (λ z. absurd (omega arith)) ∙ g .edge;
       local = u .locals i (omega (arith, g .edge)) ∙ g .local;
       older = record { same = λ j y. u .locals j (omega (arith, g .edge)) ∙ g .older .same j y };
     }
 
 -- ---- the blocks: the innermost has one local more, in front
 
-pub block-pushed : (w w' : List ℕ) (n b : ℕ) → ((i : ℕ) → i < suc b → edge w n i ≤ edge w n (suc i)) → Same w w' (5708 + n) (5708 + n + suc b) → Locals w w' n (edge w n (suc b)) → edge w' n (suc b) ≡ suc (edge w n (suc b)) → (l : Local)
+pub block-pushed : (w w' : List ℕ) (n b : ℕ) → ((i : ℕ) → i < suc b → edge w n i ≤ edge w n (suc i)) → Same w w' (first-edge n) (first-edge n + suc b) → Locals w w' n (edge w n (suc b)) → edge w' n (suc b) ≡ suc (edge w n (suc b)) → (l : Local)
     → local-at w' n (edge w n (suc b)) ≡ l → (a : ℕ) → a < suc b → span (block w' n) a (suc b) ≡ with-local (span (block w n) a (suc b)) l
 block-pushed w w' n b sorted ed lo more l here a h =
-    let e0 : edge w' n b ≡ edge w n b = ed .same (5708 + n + b) (omega arith) (omega arith) in
+    let e0 : edge w' n b ≡ edge w n b = ed .same (first-edge n + b) (omega arith) (omega arith) in
     let le : edge w n b ≤ edge w n (suc b) = sorted b (omega arith) in
     let old : span (local-at w' n) (edge w n b) (edge w n (suc b)) ≡ span (local-at w n) (edge w n b) (edge w n (suc b)) = span-ext _ _ (edge w n b) (edge w n (suc b)) (λ i x y. lo .same i y) in
     let new : block w' n b ≡ l ∷ block w n b = rw (e0, more, span-more (local-at w' n) (edge w n b) (edge w n (suc b)) le, here, old) in
@@ -188,14 +188,14 @@ block-pushed w w' n b sorted ed lo more l here a h =
 pub local-room : {w : List ℕ} {p : Scope} {s : Step} → p .depth ≤ 7 → Roomy w p s 0 1 1 → (5725 + 2 * p .nodes + 2 * s .code + edge w (p .nodes) (p .block) ≤ top (p .nodes)) × (edge w (p .nodes) (p .block) + 1 ≤ p .nodes + 2040)
 local-room {w} {p} {s} deep room = let t = taken-few w (p .depth) in (omega (arith, room .words), omega (arith, room .locals))
 
-module _ (w w' : List ℕ) (p : Scope) (s : Step) (l : Local) (fine : Fine w p s) (deep : p .depth ≤ 7) (room : Roomy w p s 0 1 1) (g : Pushed w w' (p .nodes) (5708 + p .nodes + p .block) (edge w (p .nodes) (p .block)) l) (linked : Linked w' (p .nodes) (p .block)) where
+module _ (w w' : List ℕ) (p : Scope) (s : Step) (l : Local) (fine : Fine w p s) (deep : p .depth ≤ 7) (room : Roomy w p s 0 1 1) (g : Pushed w w' (p .nodes) (first-edge (p .nodes) + p .block) (edge w (p .nodes) (p .block)) l) (linked : Linked w' (p .nodes) (p .block)) where
   low-other : (j : ℕ) → j < 4688 → getD w' j 0 ≡ getD w j 0
   low-other j m = g .other j (λ z. omega arith) (omega arith) (λ z. absurd (omega arith)) (λ z. absurd (omega arith))
 
   firsts : (j : ℕ) → j ≤ p .depth → first w' j ≡ first w j
   firsts j l = low-other (3075 + 8 * j) (omega arith)
 
-  edges : Same w w' (5708 + p .nodes) (5708 + p .nodes + p .block)
+  edges : Same w w' (first-edge (p .nodes)) (first-edge (p .nodes) + p .block)
   edges = let k = fine .sound .blocks in record { same = λ j a c. g .other j (λ z. omega arith) (omega arith) (λ z. absurd (omega arith)) (λ z. absurd (omega arith)) }
 
   top-edge : edge w' (p .nodes) (p .block) ≡ suc (edge w (p .nodes) (p .block))
@@ -208,7 +208,7 @@ module _ (w w' : List ℕ) (p : Scope) (s : Step) (l : Local) (fine : Fine w p s
   local-kept =
       let k = fine .sound .blocks in
       let r = local-room deep room in
-      kept-by (omega arith) (g .length) frames (λ i l. edges .same (5708 + p .nodes + i) (omega arith) (omega arith)) (λ i l. g .other i (λ z. omega arith) (omega arith) (λ z. omega arith) (λ z. l))
+      kept-by (omega arith) (g .length) frames (λ i l. edges .same (first-edge (p .nodes) + i) (omega arith) (omega arith)) (λ i l. g .other i (λ z. omega arith) (omega arith) (λ z. omega arith) (λ z. l))
 
   pub local-sound : Sound w' p
   local-sound =

@@ -7,7 +7,7 @@ use native.Mathlib.Decide.{ℕ-discrete}
 use lib.ListN.{length, getD, set, length-set}
 use lib.Seq.{getD-set-same, getD-set-other}
 use Rattle.store.specs.Table.{tab, stack, span}
-use Rattle.store.specs.Layout.{edge, local-at, block, latest, head}
+use Rattle.store.specs.Layout.{first-edge, top, first-head, beyond, all-words, edge, local-at, block, latest, head}
 use Rattle.store.specs.Store.{open-at, around, state-of, config-of, run, main-scope, first-step, Linked, Sound, Fine}
 use Rattle.store.specs.Promise.{taken, Room}
 use Rattle.store.specs.Opening.{Zeroed, Framed, Begun}
@@ -76,31 +76,31 @@ framed w j name block loops fits =
 -- ---- the start
 
 -- the heads are cleared, then the first two edges, then main's frame is set up
-module _ (w w1 w2 w' : List ℕ) (n : ℕ) (some : 1 ≤ n) (few : n ≤ 32768) (long : 12288 + 16 * n ≤ length w) (cleared : Zeroed w (12288 + 10 * n) (12288 + 15 * n) w1) (edged : w2 ≡ set (set w1 (5708 + n) 0) (5709 + n) 0) (framed : Framed w2 0 65535 0 0 w') where
+module _ (w w1 w2 w' : List ℕ) (n : ℕ) (some : 1 ≤ n) (few : n ≤ 32768) (long : all-words n ≤ length w) (cleared : Zeroed w (top n) (beyond n) w1) (edged : w2 ≡ set (set w1 (first-edge n) 0) (5709 + n) 0) (framed : Framed w2 0 65535 0 0 w') where
   length-w2 : length w2 ≡ length w
-  length-w2 = ap length edged ∙ length-set (set w1 (5708 + n) 0) (5709 + n) 0 ∙ length-set w1 (5708 + n) 0 ∙ cleared .same
+  length-w2 = ap length edged ∙ length-set (set w1 (first-edge n) 0) (5709 + n) 0 ∙ length-set w1 (first-edge n) 0 ∙ cleared .same
 
   edges : (i : ℕ) → i ≤ 1 → edge w' n i ≡ 0
-  edges i h = framed .other (5708 + n + i) (λ z. omega arith) ∙ ap (λ l. getD l (5708 + n + i) 0) edged ∙ set-to (ℕ-discrete i 0)
+  edges i h = framed .other (first-edge n + i) (λ z. omega arith) ∙ ap (λ l. getD l (first-edge n + i) 0) edged ∙ set-to (ℕ-discrete i 0)
     where
-      l1 : length (set w1 (5708 + n) 0) ≡ length w
-      l1 = length-set w1 (5708 + n) 0 ∙ cleared .same
+      l1 : length (set w1 (first-edge n) 0) ≡ length w
+      l1 = length-set w1 (first-edge n) 0 ∙ cleared .same
 
-      set-to : Dec (i ≡ 0) → getD (set (set w1 (5708 + n) 0) (5709 + n) 0) (5708 + n + i) 0 ≡ 0
+      set-to : Dec (i ≡ 0) → getD (set (set w1 (first-edge n) 0) (5709 + n) 0) (first-edge n + i) 0 ≡ 0
       set-to (yes e) =
-          let at : 5708 + n + i ≡ 5708 + n = omega arith in
-          rw at (under (set w1 (5708 + n) 0) (5709 + n) 0 (5708 + n) (omega arith) (getD-set-same w1 (5708 + n) 0 0 (omega (arith, cleared .same))))
+          let at : first-edge n + i ≡ first-edge n = omega arith in
+          rw at (under (set w1 (first-edge n) 0) (5709 + n) 0 (first-edge n) (omega arith) (getD-set-same w1 (first-edge n) 0 0 (omega (arith, cleared .same))))
       set-to (no e) =
-          let at : 5708 + n + i ≡ 5709 + n = omega arith in
-          rw at (getD-set-same (set w1 (5708 + n) 0) (5709 + n) 0 0 (omega (arith, l1)))
+          let at : first-edge n + i ≡ 5709 + n = omega arith in
+          rw at (getD-set-same (set w1 (first-edge n) 0) (5709 + n) 0 0 (omega (arith, l1)))
 
-  above : (i : ℕ) → 12288 + 10 * n ≤ i → getD w' i 0 ≡ getD w1 i 0
+  above : (i : ℕ) → top n ≤ i → getD w' i 0 ≡ getD w1 i 0
   above i h =
       framed .other i (λ z. omega arith)
       ∙ ap (λ l. getD l i 0) edged
-      ∙ under (set w1 (5708 + n) 0) (5709 + n) 0 i (omega arith) (getD-set-other w1 (5708 + n) i 0 0 (omega arith))
+      ∙ under (set w1 (first-edge n) 0) (5709 + n) 0 i (omega arith) (getD-set-other w1 (first-edge n) i 0 0 (omega arith))
 
-  heads : (i : ℕ) → 12288 + 10 * n ≤ i → i < 12288 + 15 * n → getD w' i 0 ≡ 0
+  heads : (i : ℕ) → top n ≤ i → i < beyond n → getD w' i 0 ≡ 0
   heads i h k = above i h ∙ cleared .zeros i h k
 
   same : length w' ≡ length w
@@ -111,12 +111,12 @@ module _ (w w1 w2 w' : List ℕ) (n : ℕ) (some : 1 ≤ n) (few : n ≤ 32768) 
   start-linked =
       record {
         links = λ i h. absurd (omega (arith, edges 1 (omega arith)));
-        heads = λ b h. empty b h (ℕ-discrete ((24576 + 20 * n + b) % 2) 0) ∙ sym (ap (λ k. latest w' n b k) (edges 1 (omega arith)));
+        heads = λ b h. empty b h (ℕ-discrete ((first-head n + b) % 2) 0) ∙ sym (ap (λ k. latest w' n b k) (edges 1 (omega arith)));
       }
     where
-      empty : (b : ℕ) → b < 10 * n → Dec ((24576 + 20 * n + b) % 2 ≡ 0) → head w' n b ≡ 0
-      empty b h (yes e) = omega (arith, half-even w' (24576 + 20 * n + b) e, heads ((24576 + 20 * n + b) / 2) (omega arith) (omega arith))
-      empty b h (no e) = omega (arith, half-odd w' (24576 + 20 * n + b) e, heads ((24576 + 20 * n + b) / 2) (omega arith) (omega arith))
+      empty : (b : ℕ) → b < 10 * n → Dec ((first-head n + b) % 2 ≡ 0) → head w' n b ≡ 0
+      empty b h (yes e) = omega (arith, half-even w' (first-head n + b) e, heads ((first-head n + b) / 2) (omega arith) (omega arith))
+      empty b h (no e) = omega (arith, half-odd w' (first-head n + b) e, heads ((first-head n + b) / 2) (omega arith) (omega arith))
 
   start-sound : (mode wide : ℕ) → Sound w' (main-scope mode wide n)
   start-sound mode wide =
@@ -160,7 +160,7 @@ module _ (w w1 w2 w' : List ℕ) (n : ℕ) (some : 1 ≤ n) (few : n ≤ 32768) 
   count =
       framed .other 3077 (λ z. omega arith)
       ∙ ap (λ l. getD l 3077 0) edged
-      ∙ under (set w1 (5708 + n) 0) (5709 + n) 0 3077 (omega arith) (getD-set-other w1 (5708 + n) 3077 0 0 (omega arith) ∙ cleared .other 3077 (λ z. absurd (omega arith)))
+      ∙ under (set w1 (first-edge n) 0) (5709 + n) 0 3077 (omega arith) (getD-set-other w1 (first-edge n) 3077 0 0 (omega arith) ∙ cleared .other 3077 (λ z. absurd (omega arith)))
 
   -- the program's visit was counted before
   pub begun : {w0 : List ℕ} → w ≡ set w0 3077 1 → Begun w0 n w'

@@ -15,14 +15,14 @@ use Rattle.store.specs.declared.Scope.{Scope}
 use Rattle.store.specs.Half.{with-half}
 use Rattle.store.specs.Table.{tab, stack, span}
 use Rattle.store.specs.Layout.{constant-by, constant-at, global-at, first, block, top}
-use Rattle.store.specs.Store.{open-at, around, state-of, global-scope, refused-step, Sound, Fine}
+use Rattle.store.specs.Store.{open-at, around, state-of, global-scope, refused-step, constant-more, global-more, Sound, Fine}
 use Rattle.store.specs.Promise.{a-constant, a-global, Moves, Leaf, Tells}
 use Rattle.store.proofs.Tables.{tab-suc, tab-length, stack-none, stack-suc, stack-ext, span-more, span-none}
 use Rattle.store.proofs.Halves.{length-half, word-other, half-same, half-other}
 use Rattle.store.proofs.Regions.{Same, Only, only-set, only-trans, only-wider, below, above, same-count, constants-same, globals-same, code-same}
 use Rattle.store.proofs.Runs.{promised, ran, ran-out, image-same, image-none}
 use Rattle.store.proofs.Steady.{Clear, sound-apart, kept-apart, edge-apart, open-apart, around-apart, taken-apart, fine-words, fine-step}
-use Rattle.store.proofs.Steps.{refused-outcome, refused-moves}
+use Rattle.store.proofs.Refusals.{refused-outcome, refused-moves}
 use Rattle.store.proofs.Compose.{told-of}
 use Rattle.meaning.specs.Constant.{Constant}
 use Rattle.meaning.specs.State.{State, Proto, refused, done, refuse, if-then, add-constant, add-global, among, is-single, is-global, is-global-context, is-global-var}
@@ -40,10 +40,6 @@ constant-done node v σ h = rw (ne-eqb (length (σ .constants)) 1024 h)
 constant-full : (node : ℕ) (v : Constant) (σ : State) → length (σ .constants) ≡ 1024 → add-constant node v σ ≡ refused Constants node
 unfolding add-constant if-then refuse
 constant-full node v σ h = rw (eq-eqb (length (σ .constants)) 1024 h)
-
--- one constant more, whose index is the result
-abbrev pub constant-more : Step → Step
-constant-more s = record { outcome = s .outcome; code = s .code; constants = s .constants + 1; globals = s .globals; functions = s .functions; result = s .constants }
 
 -- the three words of constant i
 abbrev pub constant-words : (w : List ℕ) (i kind high low : ℕ) → List ℕ
@@ -136,10 +132,6 @@ module _ (w : List ℕ) (p : Scope) (s : Step) (fine : Fine w p s) (shallow : p 
         }
 
 -- ---- globals
-
--- one global more
-abbrev pub global-more : Step → Step
-global-more s = record { outcome = s .outcome; code = s .code; constants = s .constants; globals = s .globals + 1; functions = s .functions; result = s .result }
 
 only-half : (w : List ℕ) (k v : ℕ) → Only w (with-half w k v) (k / 2) (k / 2 + 1)
 only-half w k v = record { length = length-half w k v; other = λ i h. word-other w k i v (λ e. let l = h (omega arith) in omega arith) }

@@ -7,7 +7,7 @@ use lib.ListN.{length, getD, set, length-set}
 use lib.Seq.{getD-set-other}
 use Rattle.store.specs.Half.{half}
 use Rattle.store.specs.Table.{tab, stack, span}
-use Rattle.store.specs.Layout.{constant-at, global-at, inst-at, edge, first, saved, held, capture-of, capture-at, local-at, block, latest, link, top}
+use Rattle.store.specs.Layout.{first-edge, first-local, first-head, beyond, constant-at, global-at, inst-at, edge, first, saved, held, capture-of, capture-at, local-at, block, latest, link, top}
 use Rattle.store.specs.Store.{open-at, around, Shadowed, Leads, Linked}
 use Rattle.store.proofs.Tables.{tab-ext, stack-ext, span-ext}
 use Rattle.store.proofs.Halves.{half-word}
@@ -90,18 +90,18 @@ module _ (w w' : List ℕ) where
   captures-same j n l h = tab-ext _ _ n (λ i k. ap (λ x. capture-of (x % 512)) (half-kept (6288 + 256 * j + i) h (omega arith) (omega arith)))
 
   -- the locals below k
-  pub locals-same : (n k : ℕ) → k ≤ n + 2040 → Same w w' 4688 (5708 + n) → Same w w' (5724 + 2 * n) (5724 + 2 * n + k) → Locals w w' n k
+  pub locals-same : (n k : ℕ) → k ≤ n + 2040 → Same w w' 4688 (first-edge n) → Same w w' (first-local n) (first-local n + k) → Locals w w' n k
   locals-same n k few g h =
-      record { same = λ i l. rw (h .same (5724 + 2 * n + i) (omega arith) (omega arith), half-kept (9376 + i) g (omega arith) (omega arith)) }
+      record { same = λ i l. rw (h .same (first-local n + i) (omega arith) (omega arith), half-kept (9376 + i) g (omega arith) (omega arith)) }
 
   -- the blocks from a up to e, among b whose edges are in order
-  pub blocks-same : (n b : ℕ) → ((i : ℕ) → i < b → edge w n i ≤ edge w n (suc i)) → Locals w w' n (edge w n b) → (a e : ℕ) → e ≤ b → Same w w' (5708 + n) (5709 + n + e) → span (block w' n) a e ≡ span (block w n) a e
+  pub blocks-same : (n b : ℕ) → ((i : ℕ) → i < b → edge w n i ≤ edge w n (suc i)) → Locals w w' n (edge w n b) → (a e : ℕ) → e ≤ b → Same w w' (first-edge n) (5709 + n + e) → span (block w' n) a e ≡ span (block w n) a e
   blocks-same n b sorted l a e le h = span-ext _ _ a e one
     where
       one : (i : ℕ) → a ≤ i → i < e → block w' n i ≡ block w n i
       one i x m =
-          let e0 : edge w' n i ≡ edge w n i = h .same (5708 + n + i) (omega arith) (omega arith) in
-          let e1 : edge w' n (suc i) ≡ edge w n (suc i) = h .same (5708 + n + suc i) (omega arith) (omega arith) in
+          let e0 : edge w' n i ≡ edge w n i = h .same (first-edge n + i) (omega arith) (omega arith) in
+          let e1 : edge w' n (suc i) ≡ edge w n (suc i) = h .same (first-edge n + suc i) (omega arith) (omega arith) in
           let u = edges-below w n b sorted (suc i) (omega arith) in
           rw (e0, e1) (span-ext _ _ (edge w n i) (edge w n (suc i)) (λ x y z. l .same x (omega arith)))
 
@@ -143,13 +143,13 @@ module _ (w w' : List ℕ) where
               ∙ latest-same n (local-at w n i .name % (10 * n)) (h .back) (fewer (h .back) (omega (arith, h .before)) lo));
         }
 
-  pub linked-same : (n b b' : ℕ) → edge w n b ≤ n + 2040 → Same w w' 4688 (5708 + n) → Same w w' (12288 + 10 * n) (12288 + 15 * n) → Same w w' (5724 + 2 * n) (5724 + 2 * n + edge w n b) → edge w' n b' ≡ edge w n b
+  pub linked-same : (n b b' : ℕ) → edge w n b ≤ n + 2040 → Same w w' 4688 (first-edge n) → Same w w' (top n) (beyond n) → Same w w' (first-local n) (first-local n + edge w n b) → edge w' n b' ≡ edge w n b
       → ((e : ℕ) → e ≤ b' → edge w' n e < edge w n b → (e ≤ b) × (edge w' n e ≡ edge w n e)) → Linked w n b → Linked w' n b'
   linked-same n b b' l hr hh hl top es h =
       let lo = locals-same n (edge w n b) l hr hl in
       record {
-        links = λ i x. leads-same n b b' lo es i (omega arith) (ap (λ y. y / 65536) (hl .same (5724 + 2 * n + i) (omega arith) (omega arith))) (λ j y s. omega (arith, s .inside)) (h .links i (omega arith));
-        heads = λ c x. half-kept (24576 + 20 * n + c) hh (omega arith) (omega arith) ∙ h .heads c x ∙ sym (ap (λ k. latest w' n c k) top ∙ latest-same n c (edge w n b) lo);
+        links = λ i x. leads-same n b b' lo es i (omega arith) (ap (λ y. y / 65536) (hl .same (first-local n + i) (omega arith) (omega arith))) (λ j y s. omega (arith, s .inside)) (h .links i (omega arith));
+        heads = λ c x. half-kept (first-head n + c) hh (omega arith) (omega arith) ∙ h .heads c x ∙ sym (ap (λ k. latest w' n c k) top ∙ latest-same n c (edge w n b) lo);
       }
 
 -- ---- functions

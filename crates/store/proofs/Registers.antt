@@ -16,7 +16,7 @@ use Rattle.store.specs.Promise.{some-registers, a-register, taken, Used,
 use Rattle.store.proofs.Regions.{Only, below, above, same-count, constants-same, globals-same, code-same, captures-same, around-same, below-256}
 use Rattle.store.proofs.Runs.{promised, ran, ran-out, image-same, image-none}
 use Rattle.store.proofs.Steady.{Clear, sound-clear, kept-clear, clear-edges, clear-blocks, fine-words, fine-step, taken-by}
-use Rattle.store.proofs.Steps.{refused-outcome, refused-moves}
+use Rattle.store.proofs.Refusals.{refused-outcome, refused-moves}
 use Rattle.meaning.specs.State.{State, Proto, refused, done, and-then, _>>=_, _>>_, get, pure, refuse, if-then, set-current, with-registers, next-register}
 use Rattle.meaning.specs.Expressions.{next-registers}
 use Rattle.meaning.specs.declared.Cause.the-variants.{Registers}

@@ -8,7 +8,7 @@ use native.Mathlib.Decide.{decLt, ℕ-discrete}
 use lib.ListN.{length, getD, set, length-set}
 use lib.Seq.{getD-set-same, getD-set-other}
 use Rattle.store.specs.declared.Scope.{Scope}
-use Rattle.store.specs.Layout.{edge, local-at, latest, link}
+use Rattle.store.specs.Layout.{first-edge, first-local, first-head, all-words, edge, local-at, latest, link}
 use Rattle.store.specs.Store.{Shadowed, Leads, Linked, Sound}
 use Rattle.store.specs.Promise.{Latest, Unlinked}
 use Rattle.store.proofs.Halves.{half-apart}
@@ -67,10 +67,10 @@ module _ (w : List ℕ) (n k l e : ℕ) (h : Linked w n k) (inside : l < edge w 
         cases (no a) (yes b) = newest j (ap (λ i. local-at w n i .name) b) x
         cases (no a) (no b) = above j (omega arith) y z
 
-    module _ (blocks : k ≤ n + 10) (few : edge w n k ≤ n + 2040) (long : 12288 + 16 * n ≤ length w) where
+    module _ (blocks : k ≤ n + 10) (few : edge w n k ≤ n + 2040) (long : all-words n ≤ length w) where
       -- the word of local l: where e led to, and the name that it had
       abbrev at : ℕ
-      at = 5724 + 2 * n + l
+      at = first-local n + l
 
       abbrev x : ℕ
       x = link w n e * 65536 + getD w at 0 % 65536
@@ -85,7 +85,7 @@ module _ (w : List ℕ) (n k l e : ℕ) (h : Linked w n k) (inside : l < edge w 
       here' = getD-set-same w at x 0 (omega arith)
 
       edges : (i : ℕ) → i ≤ k → edge w' n i ≡ edge w n i
-      edges i y = other (5708 + n + i) (omega arith)
+      edges i y = other (first-edge n + i) (omega arith)
 
       pub locals : Locals w w' n (edge w n k)
       locals = record { same = λ i y. one i y (ℕ-discrete i l) }
@@ -95,7 +95,7 @@ module _ (w : List ℕ) (n k l e : ℕ) (h : Linked w n k) (inside : l < edge w 
 
           one : (i : ℕ) → i < edge w n k → Dec (i ≡ l) → local-at w' n i ≡ local-at w n i
           one i m (yes y) = rw (y, own, half-apart w at x (9376 + l) (omega arith))
-          one i m (no y) = rw (other (5724 + 2 * n + i) (omega arith), half-apart w at x (9376 + i) (omega arith))
+          one i m (no y) = rw (other (first-local n + i) (omega arith), half-apart w at x (9376 + i) (omega arith))
 
       es : (q : ℕ) → q ≤ k → edge w' n q < edge w n k → (q ≤ k) × (edge w' n q ≡ edge w n q)
       es q y z = (y, edges q y)
@@ -123,13 +123,13 @@ module _ (w : List ℕ) (n k l e : ℕ) (h : Linked w n k) (inside : l < edge w 
       unlinked =
           record {
             links = λ i y. links i (omega (arith, edges k (omega arith))) (ℕ-discrete i l);
-            heads = λ b y. half-apart w at x (24576 + 20 * n + b) (omega arith) ∙ h .heads b y ∙ sym (ap (λ m. latest w' n b m) (edges k (omega arith)) ∙ latest-same w w' n b (edge w n k) locals);
+            heads = λ b y. half-apart w at x (first-head n + b) (omega arith) ∙ h .heads b y ∙ sym (ap (λ m. latest w' n b m) (edges k (omega arith)) ∙ latest-same w w' n b (edge w n k) locals);
           }
         where
           links : (i : ℕ) → i < edge w n k → Dec (i ≡ l) → Leads w' n k i
           links i y (yes z) = rw z beyond
           links i y (no z) =
-              leads-same w w' n k k locals es i y (ap (λ u. u / 65536) (other (5724 + 2 * n + i) (omega arith))) (λ j m s. omega (arith, s .inside, edges k (omega arith))) (h .links i y)
+              leads-same w w' n k k locals es i y (ap (λ u. u / 65536) (other (first-local n + i) (omega arith))) (λ j m s. omega (arith, s .inside, edges k (omega arith))) (h .links i y)
 
 -- ---- in a scope
 
@@ -137,14 +137,14 @@ module _ (w : List ℕ) (n k l e : ℕ) (h : Linked w n k) (inside : l < edge w 
 pub link-le : {w : List ℕ} {n k : ℕ} (l : ℕ) → Linked w n k → l < edge w n k → link w n l ≤ l
 link-le {w} {n} l h x = let g = h .links l x in omega (arith, g .before, g .leads, latest-le w n (local-at w n l .name % (10 * n)) (g .back))
 
-pub taken-out : {w : List ℕ} {p : Scope} {name : ℕ} (l e : ℕ) → Sound w p → Latest w p name → l < edge w (p .nodes) (p .block) → link w (p .nodes) l ≡ suc e → edge w (p .nodes) (p .block - 1) ≤ e → local-at w (p .nodes) e .name ≡ name → Unlinked w p (set w (5724 + 2 * p .nodes + l) (link w (p .nodes) e * 65536 + getD w (5724 + 2 * p .nodes + l) 0 % 65536))
+pub taken-out : {w : List ℕ} {p : Scope} {name : ℕ} (l e : ℕ) → Sound w p → Latest w p name → l < edge w (p .nodes) (p .block) → link w (p .nodes) l ≡ suc e → edge w (p .nodes) (p .block - 1) ≤ e → local-at w (p .nodes) e .name ≡ name → Unlinked w p (set w (first-local (p .nodes) + l) (link w (p .nodes) e * 65536 + getD w (first-local (p .nodes) + l) 0 % 65536))
 taken-out {w} {p} l e s g inside to from own =
     let some : 0 < p .block = omega (arith, s .starts 0 (omega arith)) in
     let c : ℕ = edge w (p .nodes) (p .block) - 1 in
     let last : edge w (p .nodes) (p .block) ≡ suc c = omega (arith, g .here) in
     let same = own ∙ sym (g .named) in
     record {
-      same = length-set w (5724 + 2 * p .nodes + l) (link w (p .nodes) e * 65536 + getD w (5724 + 2 * p .nodes + l) 0 % 65536);
+      same = length-set w (first-local (p .nodes) + l) (link w (p .nodes) e * 65536 + getD w (first-local (p .nodes) + l) 0 % 65536);
       other = λ i y. other w (p .nodes) (p .block) l e (s .linked) inside to some (s .sorted) c last from same (s .blocks) (s .count) (s .long) i (λ z. let u = y (omega arith) in omega arith);
       locals = locals w (p .nodes) (p .block) l e (s .linked) inside to some (s .sorted) c last from same (s .blocks) (s .count) (s .long) .same;
       linked = unlinked w (p .nodes) (p .block) l e (s .linked) inside to some (s .sorted) c last from same (s .blocks) (s .count) (s .long);

@@ -7,7 +7,7 @@ use lib.ListN.{length, getD}
 use Rattle.store.specs.declared.Step.{Step}
 use Rattle.store.specs.declared.Scope.{Scope}
 use Rattle.store.specs.Table.{span}
-use Rattle.store.specs.Layout.{registers, first, saved, edge, block}
+use Rattle.store.specs.Layout.{first-edge, first-local, top, beyond, registers, first, saved, edge, block}
 use Rattle.store.specs.Store.{open-at, around, while-going, written-by, result-limit, Linked, Sound, Fine, Kept}
 use Rattle.store.specs.Promise.{taken}
 use Rattle.store.proofs.Regions.{Same, Only, locals-same, blocks-same, linked-same, around-by, open-by}
@@ -52,7 +52,7 @@ taken-by w w' (suc d) h = ap₂ (λ x y. x + y) (h (suc d) (omega arith)) (taken
 pub taken-same : (w w' : List ℕ) (d : ℕ) → d ≤ 8 → Same w w' 3072 4168 → taken w' d ≡ taken w d
 taken-same w w' d l g = taken-by w w' d (λ j k. ap (λ y. y % 256) (g .same (3073 + 8 * j) (omega arith) (omega arith)))
 
-pub kept-by : {w w' : List ℕ} {p : Scope} → p .depth ≤ 8 → length w' ≡ length w → Same w w' 3072 4168 → ((i : ℕ) → i < p .block → edge w' (p .nodes) i ≡ edge w (p .nodes) i) → ((i : ℕ) → 12288 + 15 * p .nodes ≤ i → getD w' i 0 ≡ getD w i 0) → Kept w p w'
+pub kept-by : {w w' : List ℕ} {p : Scope} → p .depth ≤ 8 → length w' ≡ length w → Same w w' 3072 4168 → ((i : ℕ) → i < p .block → edge w' (p .nodes) i ≡ edge w (p .nodes) i) → ((i : ℕ) → beyond (p .nodes) ≤ i → getD w' i 0 ≡ getD w i 0) → Kept w p w'
 kept-by d len g es os =
     record {
       same = len;
@@ -67,17 +67,17 @@ kept-by d len g es os =
 
 -- where the words from a up to b lie: constants, frames, captures, globals; or pending code
 abbrev pub Clear : (w : List ℕ) (p : Scope) (a b : ℕ) → Type 0
-Clear w p a b = ((c : ℕ) → 4688 ≤ c → c < 5724 + 2 * p .nodes + edge w (p .nodes) (p .block) → a ≤ c → b ≤ c) × ((c : ℕ) → 12288 + 10 * p .nodes ≤ c → a ≤ c → b ≤ c)
+Clear w p a b = ((c : ℕ) → 4688 ≤ c → c < first-local (p .nodes) + edge w (p .nodes) (p .block) → a ≤ c → b ≤ c) × ((c : ℕ) → top (p .nodes) ≤ c → a ≤ c → b ≤ c)
 
 module _ {w w' : List ℕ} {p : Scope} {a b : ℕ} (h : Sound w p) (only : Only w w' a b) (clear : Clear w p a b) (firsts : (j : ℕ) → j ≤ p .depth → first w' j ≡ first w j) where
-  clear-registers : Same w w' 4688 (5708 + p .nodes)
+  clear-registers : Same w w' 4688 (first-edge (p .nodes))
   clear-registers = record { same = λ i x y. only .other i (clear .0 i x (omega arith)) }
 
-  clear-words : Same w w' (5724 + 2 * p .nodes) (5724 + 2 * p .nodes + edge w (p .nodes) (p .block))
+  clear-words : Same w w' (first-local (p .nodes)) (first-local (p .nodes) + edge w (p .nodes) (p .block))
   clear-words = record { same = λ i x y. only .other i (clear .0 i (omega arith) y) }
 
   pub clear-edges : (i : ℕ) → i ≤ p .block → edge w' (p .nodes) i ≡ edge w (p .nodes) i
-  clear-edges i x = only .other (5708 + p .nodes + i) (clear .0 (5708 + p .nodes + i) (omega arith) (omega (arith, h .blocks)))
+  clear-edges i x = only .other (first-edge (p .nodes) + i) (clear .0 (first-edge (p .nodes) + i) (omega arith) (omega (arith, h .blocks)))
 
   pub sound-clear : Sound w' p
   sound-clear =

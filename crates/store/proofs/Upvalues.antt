@@ -8,14 +8,14 @@ use Rattle.store.specs.declared.Found.{Found}
 use Rattle.store.specs.declared.Found.the-variants.{At, Nothing, Full}
 use Rattle.store.specs.declared.Step.{Step}
 use Rattle.store.specs.declared.Scope.{Scope}
-use Rattle.store.specs.Layout.{first, edge}
+use Rattle.store.specs.Layout.{first-edge, first, edge}
 use Rattle.store.specs.Store.{open-at, around, state-of, config-of, refused-step, Fine, Kept}
 use Rattle.store.specs.Search.{option-of, search-of, Caught, Sought}
 use Rattle.store.specs.Promise.{nothing, Used, Moves, Told}
 use Rattle.store.proofs.Regions.{same-count, constants-same, globals-same, code-same, linked-same}
 use Rattle.store.proofs.Runs.{promised, goes, run-going, run-stopped, absorbed, image-none}
 use Rattle.store.proofs.Steady.{taken-by, sound-again, fine-words, fine-step}
-use Rattle.store.proofs.Steps.{refused-outcome}
+use Rattle.store.proofs.Refusals.{refused-outcome}
 use Rattle.store.proofs.Searching.{caught-first, caught-saved, caught-registers}
 use Rattle.meaning.specs.State.{Proto, search-outward, get-upvalue}
 use Rattle.meaning.specs.declared.Cause.{Cause}
@@ -37,7 +37,7 @@ module _ (w w' : List ℕ) (p : Scope) (s : Step) (fine : Fine w p s) (deep : p 
   firsts j l = caught-first caught j (omega arith)
 
   edge-kept : (i : ℕ) → edge w' (p .nodes) i ≡ edge w (p .nodes) i
-  edge-kept i = caught .high (5708 + p .nodes + i) (omega arith)
+  edge-kept i = caught .high (first-edge (p .nodes) + i) (omega arith)
 
   caught-fine : Fine w' p s
   caught-fine =

@@ -9,7 +9,7 @@
 --     5,708 + n      16 + n                edges of blocks: block i has the locals from edge i up to edge i + 1
 --     5,724 + 2 n    up to 12,288 + 10 n   locals upward, a word each: link and name; pending code downward, two words an instruction
 --     12,288 + 10 n  5 n                   heads: 10 n halves
---     12,288 + 15 n  n                     the nodes' offsets in the tree
+--     12,288 + 15 n  n                     what the store leaves alone
 --
 -- A ninth function is refused; its frame is there so that the steps after the refusal, which change nothing, have a scope of their own.
 -- Registers pay for what has no node: a register takes three words at most (a for-in's name: an instruction and a local), a node eight. Eight open
@@ -25,6 +25,32 @@ use Rattle.meaning.specs.Constant.{Constant, number, text, other}
 use Rattle.meaning.specs.Opcode.{inst}
 use Rattle.meaning.specs.State.{Local, Capture, local-capture, outer-capture}
 use Rattle.meaning.specs.declared.Instruction.{Instruction}
+
+-- ---- places that go by the number of nodes
+
+-- the edge of block 0
+abbrev pub first-edge : ℕ → ℕ
+first-edge n = 5708 + n
+
+-- local 0
+abbrev pub first-local : ℕ → ℕ
+first-local n = 5724 + 2 * n
+
+-- the first word above the pending code, which goes downward from here
+abbrev pub top : ℕ → ℕ
+top n = 12288 + 10 * n
+
+-- the head of bucket 0, in halves: heads start where the code ends
+abbrev pub first-head : ℕ → ℕ
+first-head n = 24576 + 20 * n
+
+-- the first word that the store leaves alone
+abbrev pub beyond : ℕ → ℕ
+beyond n = 12288 + 15 * n
+
+-- all words: those that refusal 6 asks for
+abbrev pub all-words : ℕ → ℕ
+all-words n = 12288 + 16 * n
 
 -- ---- constants
 
@@ -70,9 +96,13 @@ visited w = getD w 3077 0 % 4294967296
 abbrev pub capture-of : ℕ → Capture
 capture-of x = cond (ltb x 256) (outer-capture x) (local-capture (x - 256))
 
+-- capture i of function j, as it is stored
+abbrev pub capture-word : List ℕ → (j i : ℕ) → ℕ
+capture-word w j i = half w (6288 + 256 * j + i) % 512
+
 -- capture i of function j
 abbrev pub capture-at : List ℕ → (j i : ℕ) → Capture
-capture-at w j i = capture-of (half w (6288 + 256 * j + i) % 512)
+capture-at w j i = capture-of (capture-word w j i)
 
 -- ---- globals
 
@@ -84,11 +114,11 @@ global-at w i = half w (8336 + i)
 
 -- how many locals stand before block i: where it starts, and the block before it ends
 abbrev pub edge : List ℕ → (n i : ℕ) → ℕ
-edge w n i = getD w (5708 + n + i) 0
+edge w n i = getD w (first-edge n + i) 0
 
 -- local i, the earliest of all open functions being 0; its register is one that was taken, so below 255
 abbrev pub local-at : List ℕ → (n i : ℕ) → Local
-local-at w n i = record { name = getD w (5724 + 2 * n + i) 0 % 65536; register = half w (9376 + i) % 255 }
+local-at w n i = record { name = getD w (first-local n + i) 0 % 65536; register = half w (9376 + i) % 255 }
 
 -- block i; the latest local first
 abbrev pub block : List ℕ → (n i : ℕ) → List Local
@@ -101,22 +131,26 @@ latest w n b (suc k) = cond (eqb (local-at w n k .name % (10 * n)) b) (suc k) (l
 
 -- the link of local i: the latest before it in its bucket, but for those that a later one of their name and block shadows
 abbrev pub link : List ℕ → (n i : ℕ) → ℕ
-link w n i = getD w (5724 + 2 * n + i) 0 / 65536
+link w n i = getD w (first-local n + i) 0 / 65536
 
 -- the head of bucket b: the latest of all locals in it
 abbrev pub head : List ℕ → (n b : ℕ) → ℕ
-head w n b = half w (24576 + 20 * n + b)
+head w n b = half w (first-head n + b)
 
 -- ---- pending code
 
--- the first word above the pending code, which goes downward from here
-abbrev pub top : ℕ → ℕ
-top n = 12288 + 10 * n
+-- where the packed word of pending instruction i stands
+abbrev pub cell : (n i : ℕ) → ℕ
+cell n i = top n - (2 * i + 2)
+
+-- where its mark stands, in the word above
+abbrev pub mark-cell : (n i : ℕ) → ℕ
+mark-cell n i = top n - (2 * i + 1)
 
 -- a word as an instruction, the opcode in its lowest byte, then a, b and c; the mark has a word of its own
 abbrev pub unpacked : (word mark : ℕ) → Instruction
 unpacked x m = inst (x % 256) (x / 256 % 256) (x / 65536 % 256) (x / 16777216 % 256) m
 
--- pending instruction i, of which the mark stands above the packed word
+-- pending instruction i
 abbrev pub inst-at : List ℕ → (n i : ℕ) → Instruction
-inst-at w n i = unpacked (getD w (top n - (2 * i + 2)) 0) (getD w (top n - (2 * i + 1)) 0)
+inst-at w n i = unpacked (getD w (cell n i) 0) (getD w (mark-cell n i) 0)

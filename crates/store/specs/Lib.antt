@@ -2,6 +2,7 @@
 pub mod Half
 pub mod Table
 pub mod Layout
+pub mod Cell
 pub mod Store
 pub mod Promise
 pub mod Search

@@ -5,7 +5,7 @@ use mathlib.Core.List.{List}
 use lib.ListN.{length, getD}
 use Rattle.store.specs.declared.Step.{Step}
 use Rattle.store.specs.declared.Scope.{Scope}
-use Rattle.store.specs.Layout.{registers, visited, edge, local-at, top}
+use Rattle.store.specs.Layout.{first-local, top, beyond, registers, visited, edge, local-at}
 use Rattle.store.specs.Store.{run, goes-on, while-going, Image, Linked, Fine, Kept}
 use Rattle.meaning.specs.State.{Proto, M, next-register, allocate-register}
 use Rattle.forward.specs.Forward.{Config, Run, bind, fwd-number, fwd-unit, Answers}
@@ -88,8 +88,8 @@ live w p s = 2 * s .code + edge w (p .nodes) (p .block)
 
 -- room for k nodes that are still to be lowered, and for a words and b locals beside
 pub record Roomy (w : List ℕ) (p : Scope) (s : Step) (k a b : ℕ) : Type 0 where
-  -- 11,844 is 5,724, the words ahead of the locals but for 2 n, and three for each of 2,040 registers
-  pub words : 11844 + 2 * p .nodes + live w p s + 8 * k + a ≤ top (p .nodes) + 3 * taken w (p .depth)
+  -- the words ahead of the locals, and three for each of 2,040 registers
+  pub words : first-local (p .nodes) + 6120 + live w p s + 8 * k + a ≤ top (p .nodes) + 3 * taken w (p .depth)
   -- a local for every node and every register
   pub locals : edge w (p .nodes) (p .block) + k + b ≤ p .nodes + taken w (p .depth)
   -- every global's name is a constant; where a second block is open one may be due
@@ -160,7 +160,7 @@ pub record Ticked (w w' : List ℕ) : Type 0 where
 -- the locals of the block inside p are popped: nothing but heads changed
 pub record Popped (w : List ℕ) (p : Scope) (w' : List ℕ) : Type 0 where
   pub same : length w' ≡ length w
-  pub other : (i : ℕ) → (12288 + 10 * p .nodes ≤ i → 12288 + 15 * p .nodes ≤ i) → getD w' i 0 ≡ getD w i 0
+  pub other : (i : ℕ) → (top (p .nodes) ≤ i → beyond (p .nodes) ≤ i) → getD w' i 0 ≡ getD w i 0
   pub linked : Linked w' (p .nodes) (p .block)
 
 -- the latest local is one of that name in the innermost block
@@ -171,7 +171,7 @@ pub record Latest (w : List ℕ) (p : Scope) (name : ℕ) : Type 0 where
 -- a local that the latest one shadows may have been taken out of the links: nothing but links changed
 pub record Unlinked (w : List ℕ) (p : Scope) (w' : List ℕ) : Type 0 where
   pub same : length w' ≡ length w
-  pub other : (i : ℕ) → (5724 + 2 * p .nodes ≤ i → 5724 + 2 * p .nodes + edge w (p .nodes) (p .block) ≤ i) → getD w' i 0 ≡ getD w i 0
+  pub other : (i : ℕ) → (first-local (p .nodes) ≤ i → first-local (p .nodes) + edge w (p .nodes) (p .block) ≤ i) → getD w' i 0 ≡ getD w i 0
   pub locals : (i : ℕ) → i < edge w (p .nodes) (p .block) → local-at w' (p .nodes) i ≡ local-at w (p .nodes) i
   pub linked : Linked w' (p .nodes) (p .block)
 

@@ -8,7 +8,7 @@ use lib.ListN.{length, getD}
 use lib.Dec.{ltb, eqb}
 use Rattle.store.specs.declared.Found.{Found}
 use Rattle.store.specs.declared.Found.the-variants.{At, Nothing, Full}
-use Rattle.store.specs.Layout.{first, edge, capture-of}
+use Rattle.store.specs.Layout.{all-words, first, edge, capture-of}
 use Rattle.store.specs.Store.{open-at, around, Linked}
 use Rattle.meaning.specs.State.{Local, Search, not-found, full, found, add-upvalue, search-outward}
 
@@ -38,7 +38,7 @@ seek name f a (suc n) o = cond (ltb n a) o (cond (eqb name (f n .name)) (some (f
 pub record Walkable (w : List ℕ) (n end : ℕ) : Type 0 where
   pub some : 1 ≤ n
   pub few : n ≤ 32768
-  pub long : 12288 + 16 * n ≤ length w
+  pub long : all-words n ≤ length w
   -- how many blocks are linked, and the one at whose edge the walk ends
   pub blocks : ℕ
   pub block : ℕ
@@ -86,7 +86,7 @@ pub record Sought (w : List ℕ) (n d name : ℕ) (w' : List ℕ) (r : Found) : 
 -- what the search reads: the blocks of the functions 0 to d
 pub record Ready (w : List ℕ) (n d : ℕ) : Type 0 where
   pub few : n ≤ 32768
-  pub long : 12288 + 16 * n ≤ length w
+  pub long : all-words n ≤ length w
   pub deep : d ≤ 7
   pub main : first w 0 ≡ 0
   pub starts : (j : ℕ) → j ≤ d → first w j ≤ n + 10

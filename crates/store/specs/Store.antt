@@ -8,7 +8,7 @@ use lib.Dec.{eqb}
 use Rattle.store.specs.declared.Step.{Step}
 use Rattle.store.specs.declared.Scope.{Scope}
 use Rattle.store.specs.Table.{tab, stack, span}
-use Rattle.store.specs.Layout.{constant-at, name-of, registers, held, first, saved, capture-at, global-at, edge, local-at, block, latest, link, head, top, inst-at}
+use Rattle.store.specs.Layout.{first-local, top, beyond, all-words, constant-at, name-of, registers, held, first, saved, capture-at, global-at, edge, local-at, block, latest, link, head, inst-at}
 use Rattle.meaning.specs.Images.{inst-tag}
 use Rattle.meaning.specs.Image.{proto-bytes}
 use Rattle.meaning.specs.State.{Open, Proto, State}
@@ -84,8 +84,12 @@ abbrev pub code-tag : Scope → ℕ
 code-tag p = inst-tag (is-wide p)
 
 -- one open function with one open block
+abbrev pub main-alone : (depth block : ℕ) → Bool
+main-alone d b = eqb d 0 && eqb b 1
+
+-- the same of a scope
 abbrev pub global-scope : Scope → Bool
-global-scope p = eqb (p .depth) 0 && eqb (p .block) 1
+global-scope p = main-alone (p .depth) (p .block)
 
 -- ---- steps
 
@@ -100,6 +104,18 @@ advanced s k r = record { outcome = s .outcome; code = k; constants = s .constan
 -- as many instructions as before, and this result
 abbrev pub with-result : Step → ℕ → Step
 with-result s r = advanced s (s .code) r
+
+-- one constant more, whose index is the result
+abbrev pub constant-more : Step → Step
+constant-more s = record { outcome = s .outcome; code = s .code; constants = s .constants + 1; globals = s .globals; functions = s .functions; result = s .constants }
+
+-- one global more
+abbrev pub global-more : Step → Step
+global-more s = record { outcome = s .outcome; code = s .code; constants = s .constants; globals = s .globals + 1; functions = s .functions; result = s .result }
+
+-- one prototype more, whose index is the result: the prototypes' bytes end at `end`, and its code, from `first` on, is cut off
+abbrev pub prototype-more : Step → (first end : ℕ) → Step
+prototype-more s first end = record { outcome = Accepted end; code = first; constants = s .constants; globals = s .globals; functions = s .functions + 1; result = s .functions }
 
 -- refused now, or before
 abbrev pub refused-by : Outcome → Cause → ℕ → Outcome
@@ -177,7 +193,7 @@ pub record Sound (w : List ℕ) (p : Scope) : Type 0 where
   pub some : 1 ≤ p .nodes
   pub few : p .nodes ≤ 32768
   -- the words that refusal 6 asks for
-  pub long : 12288 + 16 * p .nodes ≤ length w
+  pub long : all-words (p .nodes) ≤ length w
   -- a ninth function has its frame while it is refused
   pub deep : p .depth ≤ 8
   -- there are words for the edges of these blocks
@@ -203,7 +219,7 @@ pub record Fine (w : List ℕ) (p : Scope) (s : Step) : Type 0 where
   -- eight functions are open at most, unless one was refused
   pub nested : while-going (s .outcome) (p .depth ≤ 7)
   -- locals, which go upward, and pending code, which goes downward, do not meet
-  pub room : 5724 + 2 * p .nodes + 2 * s .code + edge w (p .nodes) (p .block) ≤ top (p .nodes)
+  pub room : first-local (p .nodes) + 2 * s .code + edge w (p .nodes) (p .block) ≤ top (p .nodes)
   pub constants : s .constants ≤ 1024
   -- a global's name is a constant, but for one that is still due
   pub globals : s .globals ≤ s .constants + 1
@@ -221,5 +237,5 @@ pub record Kept (w : List ℕ) (p : Scope) (w' : List ℕ) : Type 0 where
   pub outer : (j : ℕ) → j < p .depth → registers w' j ≡ registers w j
   -- the blocks but for the end of the innermost one
   pub edges : (i : ℕ) → i < p .block → edge w' (p .nodes) i ≡ edge w (p .nodes) i
-  -- the table of the nodes' offsets
-  pub offsets : (i : ℕ) → 12288 + 15 * p .nodes ≤ i → getD w' i 0 ≡ getD w i 0
+  -- what is beyond the store, where the nodes' offsets are
+  pub offsets : (i : ℕ) → beyond (p .nodes) ≤ i → getD w' i 0 ≡ getD w i 0

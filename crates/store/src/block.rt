@@ -8,11 +8,11 @@ ghost use Rattle.store.specs.Store.{deeper, Sound, Fine, Kept};
 ghost use Rattle.store.specs.Promise.{nothing, Leaf, Popped};
 use crate::Scope;
 use crate::Step;
-use crate::half::set_half;
 use crate::layout::EDGES;
-use crate::layout::HEADS;
 use crate::layout::LOCALS;
 use crate::local::bucket;
+use crate::local::set_head;
+use crate::scopes::deeper;
 
 // fn enter_block: the scope inside.
 pub fn enter_block(work: &mut [u32], scope: Scope) -> Scope
@@ -21,14 +21,7 @@ pub fn enter_block(work: &mut [u32], scope: Scope) -> Scope
 {
     let at = EDGES + scope.nodes + scope.block;
     work[at + 1] = work[at];
-    Scope {
-        nodes: scope.nodes,
-        depth: scope.depth,
-        block: scope.block + 1,
-        loops: scope.loops,
-        mode: scope.mode,
-        wide: scope.wide,
-    }
+    deeper(scope)
 }
 
 // fn leave_block, and a function's last block: the locals of the block inside `scope` are popped, the latest first, refused or not.
@@ -44,6 +37,6 @@ pub fn leave_block(work: &mut [u32], scope: Scope)
         i -= 1;
         let x = work[LOCALS + 2 * nodes + i];
         let b = bucket((x % 65536) as usize, nodes);
-        set_half(work, HEADS + 20 * nodes + b, x / 65536);
+        set_head(work, nodes, b, x / 65536);
     }
 }

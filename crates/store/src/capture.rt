@@ -1,7 +1,9 @@
 // Captures of the open functions.
+ghost use mathlib.Core.Path.{_≡_};
 ghost use Prim.Native.Nat.{_<_, _≤_};
 ghost use lib.ListN.{length};
 ghost use Rattle.meaning.specs.State.{get-upvalue};
+ghost use Rattle.store.specs.Layout.{capture-word};
 ghost use Rattle.store.specs.Store.{Fine};
 ghost use Rattle.store.specs.Promise.{nothing, Told};
 ghost use Rattle.store.specs.Search.{option-of, in-byte, Added, Sought, Ready};
@@ -9,7 +11,7 @@ use crate::Found;
 use crate::Lookup;
 use crate::Scope;
 use crate::Step;
-use crate::global::is_global_context;
+use crate::global::main_alone;
 use crate::half::half_at;
 use crate::half::set_half;
 use crate::layout::CAPTURES;
@@ -19,18 +21,25 @@ use crate::layout::HELD;
 use crate::local::look;
 use crate::refuse;
 
+// Capture i of function j, as it is stored: an index, or 256 and a register.
+pub fn capture_word(work: &[u32], j: usize, i: usize) -> u32
+    requires { ⌜ (4168 ≤ length (now work)) × (j ≤ 7) × (i < 256) ⌝ }
+    ensures { λ r. ⌜ r ≡ capture-word (now (work .entry)) j i ⌝ }
+{
+    half_at(work, CAPTURES + 256 * j + i) % 512
+}
+
 // fn add_upvalue of the function at `depth`: an equal capture is reused.
 fn add_upvalue(work: &mut [u32], depth: usize, capture: u32) -> Found
     requires { ⌜ (4168 ≤ length (now work)) × (depth ≤ 7) × (capture < 512) ⌝ }
     ensures { λ r. ⌜ Added (now (work .entry)) depth capture (now (work .exit)) r ⌝ }
 {
     let count = HELD + 8 * depth;
-    let base = CAPTURES + 256 * depth;
     let n = work[count] % 256;
     let end = n as usize;
     let mut i: usize = 0;
     while i < end {
-        if half_at(work, base + i) % 512 == capture {
+        if capture_word(work, depth, i) == capture {
             return Found::At(i as u32);
         }
         i += 1;
@@ -38,7 +47,7 @@ fn add_upvalue(work: &mut [u32], depth: usize, capture: u32) -> Found
     if n == 255 {
         return Found::Full;
     }
-    set_half(work, base + end, capture);
+    set_half(work, CAPTURES + 256 * depth + end, capture);
     work[count] = n + 1;
     Found::At(n)
 }
@@ -53,15 +62,7 @@ fn search(work: &mut [u32], nodes: usize, depth: usize, name: usize) -> Found
     }
     let outer = depth - 1;
     let end = work[FIRSTS + 8 * depth] as usize;
-    let around = Scope {
-        nodes: nodes,
-        depth: outer,
-        block: end,
-        loops: 0,
-        mode: 0,
-        wide: 0,
-    };
-    if is_global_context(around) {
+    if main_alone(outer, end) {
         return Found::Nothing;
     }
     let start = work[FIRSTS + 8 * outer] as usize;

@@ -8,8 +8,8 @@ ghost use Rattle.store.specs.Store.{Fine};
 ghost use Rattle.store.specs.Promise.{a-constant, Leaf};
 use crate::Scope;
 use crate::Step;
-use crate::again;
 use crate::refuse;
+use crate::steps::constant_more;
 
 // self.constants.push(..), by kind, high word and low word; the constant's index is the result.
 fn push_constant(
@@ -36,14 +36,7 @@ fn push_constant(
     work[at] = kind;
     work[at + 1] = high;
     work[at + 2] = low;
-    Step {
-        outcome: again(o),
-        code: step.code,
-        constants: k + 1,
-        globals: step.globals,
-        functions: step.functions,
-        result: k as u32,
-    }
+    constant_more(step)
 }
 
 fn push_number(work: &mut [u32], step: Step, scope: Scope, bits: u64, node: usize) -> Step

@@ -8,6 +8,7 @@ use crate::Scope;
 use crate::Step;
 use crate::layout::EDGES;
 use crate::refuse;
+use crate::scopes::inner;
 use crate::start::open_frame;
 
 // fn enter_function: a ninth is refused, and has a scope of its own all the same, in which nothing happens any more.
@@ -32,14 +33,7 @@ pub fn enter_function(
     );
     let at = EDGES + scope.nodes + block;
     work[at + 1] = work[at];
-    let inside = Scope {
-        nodes: scope.nodes,
-        depth: depth + 1,
-        block: block + 1,
-        loops: 0,
-        mode: scope.mode,
-        wide: scope.wide,
-    };
+    let inside = inner(scope);
     if depth == 7 {
         let refused = refuse(step, meaning::Cause::Nesting, node);
         return Entered {

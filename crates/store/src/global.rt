@@ -7,24 +7,27 @@ ghost use Rattle.forward.specs.Forward.{fwd-unit};
 ghost use Rattle.store.specs.declared.Step.{Step};
 ghost use Rattle.store.specs.Table.{stack};
 ghost use Rattle.store.specs.Layout.{global-at};
-ghost use Rattle.store.specs.Store.{while-going, global-scope, Sound, Fine};
+ghost use Rattle.store.specs.Store.{while-going, main-alone, global-scope, Sound, Fine};
 ghost use Rattle.store.specs.Promise.{a-global, Leaf, Tells};
 use crate::Scope;
 use crate::Step;
-use crate::again;
 use crate::half::half_at;
 use crate::half::set_half;
 use crate::layout::GLOBALS;
+use crate::steps::global_more;
+
+// The main function, with its first block alone.
+pub(crate) fn main_alone(depth: usize, block: usize) -> bool
+    ensures { λ r. ⌜ r ≡ main-alone depth block ⌝ }
+{
+    if depth == 0 { block == 1 } else { false }
+}
 
 // fn is_global_context
 pub fn is_global_context(scope: Scope) -> bool
     ensures { λ r. ⌜ (r ≡ global-scope scope) × ((w : List ℕ) (s : Step) → Sound w scope → Tells w scope s r is-global-context) ⌝ }
 {
-    if scope.depth == 0 {
-        scope.block == 1
-    } else {
-        false
-    }
+    main_alone(scope.depth, scope.block)
 }
 
 // fn is_global_var
@@ -52,12 +55,5 @@ pub fn add_global(work: &mut [u32], step: Step, scope: Scope, name: usize) -> St
         return step;
     };
     set_half(work, GLOBALS + step.globals, name as u32);
-    Step {
-        outcome: again(o),
-        code: step.code,
-        constants: step.constants,
-        globals: step.globals + 1,
-        functions: step.functions,
-        result: step.result,
-    }
+    global_more(step)
 }

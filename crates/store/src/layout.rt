@@ -1,4 +1,7 @@
-// Where the parts of the work area begin; specs/Layout has the table. What grows with the nodes is added where it is used.
+// Where the parts of the work area begin; specs/Layout has the table. To EDGES a word for each node is added where it is used, to LOCALS two.
+ghost use mathlib.Core.Path.{_≡_};
+ghost use Prim.Native.Nat.{_≤_};
+ghost use Rattle.store.specs.Layout.{top, first-head, beyond};
 
 // Word 0 of a frame, which has eight: the function's name.
 pub const NAMES: usize = 3072;
@@ -24,17 +27,35 @@ pub const GLOBALS: usize = 8336;
 // Registers of locals, in halves.
 pub const LOCAL_REGISTERS: usize = 9376;
 
-// Edges of blocks: a word for each node is added.
+// Edges of blocks.
 pub const EDGES: usize = 5708;
 
-// Locals: two words for each node.
+// Locals.
 pub const LOCALS: usize = 5724;
 
-// The first word above the pending code: ten for each node.
-pub const TOP: usize = 12288;
+// The first word above the pending code, which goes downward from here.
+pub(crate) fn top(nodes: usize) -> usize
+    requires { ⌜ nodes ≤ 32768 ⌝ }
+    ensures { λ r. ⌜ r ≡ top nodes ⌝ }
+{
+    12288 + 10 * nodes
+}
 
-// Heads of buckets, in halves, from there on: twenty for each node.
-pub const HEADS: usize = 24576;
+// The first head of a bucket, in halves: heads start where the code ends.
+pub(crate) fn first_head(nodes: usize) -> usize
+    requires { ⌜ nodes ≤ 32768 ⌝ }
+    ensures { λ r. ⌜ r ≡ first-head nodes ⌝ }
+{
+    24576 + 20 * nodes
+}
+
+// The first word that the store leaves alone.
+pub(crate) fn beyond(nodes: usize) -> usize
+    requires { ⌜ nodes ≤ 32768 ⌝ }
+    ensures { λ r. ⌜ r ≡ beyond nodes ⌝ }
+{
+    12288 + 15 * nodes
+}
 
 // The nodes' offsets in the tree: fifteen words for each node.
 pub const OFFSETS: usize = 12288;

@@ -1,6 +1,7 @@
 // Module 3 of document 01: registers, blocks, locals, captures, globals and constants in the lent work area. specs/Layout.antt has its table.
 mod block;
 mod capture;
+mod cell;
 mod constant;
 mod count;
 mod function;
@@ -9,11 +10,23 @@ mod half;
 mod layout;
 mod local;
 mod register;
+mod scopes;
 mod start;
+mod steps;
 
 pub use block::enter_block;
 pub use block::leave_block;
+pub use capture::capture_word;
 pub use capture::get_upvalue;
+pub use cell::inst_at;
+pub use cell::jump_back;
+pub use cell::mark_at;
+pub use cell::pack;
+pub use cell::pack_wide;
+pub use cell::set_word;
+pub use cell::unpacked;
+pub use cell::word_at;
+pub use cell::write_cell;
 pub use constant::add_constant;
 pub use constant::add_name;
 pub use count::visit;
@@ -22,20 +35,23 @@ pub use function::enter_function;
 pub use global::add_global;
 pub use global::is_global_context;
 pub use global::is_global_var;
-pub use layout::CAPTURES;
 pub use layout::HELD;
 pub use layout::NAMES;
 pub use layout::OFFSETS;
 pub use layout::REGISTERS;
-pub use layout::TOP;
 pub use local::allocate_register;
 pub use local::declare_parameter;
 pub use local::get_var_register;
 pub use register::next_register;
 pub use register::next_registers;
+pub use scopes::inner;
+pub use scopes::looped;
+pub use scopes::main_scope;
 pub use start::begin;
-ghost use mathlib.Core.Path.{_≡_};
-ghost use Rattle.store.specs.Store.{refused-step, advanced, with-result};
+pub use steps::advance;
+pub use steps::prototype_more;
+pub use steps::refuse;
+pub use steps::settle;
 
 // Where the lowering stands: the outcome so far (accepted with the bytes of the finished prototypes), how many instructions are pending,
 // constants, globals and finished prototypes there are, and the register of the last result.
@@ -75,54 +91,4 @@ pub struct Lookup {
 pub struct Entered {
     pub step: Step,
     pub scope: Scope,
-}
-
-// A step that is refused stays so; any other is now.
-pub fn refuse(step: Step, cause: meaning::Cause, node: usize) -> Step
-    ensures { λ r. ⌜ r ≡ refused-step step cause node ⌝ }
-{
-    let o = step.outcome;
-    let meaning::Outcome::Accepted(_) = o else {
-        return step;
-    };
-    Step {
-        outcome: meaning::Outcome::Refused(cause, node),
-        code: step.code,
-        constants: step.constants,
-        globals: step.globals,
-        functions: step.functions,
-        result: 0,
-    }
-}
-
-// The same outcome, made anew: a copy is moved in odd pieces, and the next function waits for them.
-pub(crate) fn again(o: meaning::Outcome) -> meaning::Outcome
-    ensures { λ r. ⌜ r ≡ o ⌝ }
-{
-    match o {
-        meaning::Outcome::Accepted(bytes) => meaning::Outcome::Accepted(bytes),
-        meaning::Outcome::Refused(cause, node) => meaning::Outcome::Refused(cause, node),
-    }
-}
-
-// The step with so many instructions and this result.
-pub fn advance(step: Step, code: usize, result: u32) -> Step
-    ensures { λ r. ⌜ r ≡ advanced step code result ⌝ }
-{
-    let o = step.outcome;
-    Step {
-        outcome: again(o),
-        code: code,
-        constants: step.constants,
-        globals: step.globals,
-        functions: step.functions,
-        result: result,
-    }
-}
-
-// The result register.
-pub fn settle(step: Step, result: u32) -> Step
-    ensures { λ r. ⌜ r ≡ with-result step result ⌝ }
-{
-    advance(step, step.code, result)
 }

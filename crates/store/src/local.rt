@@ -1,11 +1,13 @@
 // Locals, found by links from the bucket of their name.
 ghost use mathlib.Core.Path.{_≡_};
-ghost use Prim.Native.Nat.{_*_, _%_, _<_, _≤_};
+ghost use Prim.Native.Nat.{_+_, _*_, _%_, _<_, _≤_};
+ghost use lib.ListN.{length};
 ghost use mathlib.Core.Option.{none};
 ghost use Rattle.meaning.specs.State.{allocate-register, get-var-register};
 ghost use Rattle.forward.specs.Forward.{fwd-unit};
 ghost use Rattle.store.specs.declared.Step.{Step};
-ghost use Rattle.store.specs.Layout.{local-at};
+ghost use Rattle.store.specs.Half.{with-half};
+ghost use Rattle.store.specs.Layout.{all-words, local-at, first-head, head};
 ghost use Rattle.store.specs.Store.{while-going, Sound, Fine};
 ghost use Rattle.store.specs.Promise.{a-register, a-local, both, a-parameter, Room, Leaf, Tells, Latest, Unlinked};
 ghost use Rattle.store.specs.Search.{option-of, found-of, in-byte, seek, Walkable};
@@ -16,9 +18,9 @@ use crate::half::half_at;
 use crate::half::set_half;
 use crate::layout::EDGES;
 use crate::layout::FIRSTS;
-use crate::layout::HEADS;
 use crate::layout::LOCAL_REGISTERS;
 use crate::layout::LOCALS;
+use crate::layout::first_head;
 use crate::register::next_register;
 
 // The bucket of a name.
@@ -30,6 +32,22 @@ pub(crate) fn bucket(name: usize, nodes: usize) -> usize
     if name < buckets { name } else { name % buckets }
 }
 
+// The head of bucket b.
+fn head_at(work: &[u32], nodes: usize, b: usize) -> u32
+    requires { ⌜ (all-words nodes ≤ length (now work)) × (nodes ≤ 32768) × (b < 10 * nodes) ⌝ }
+    ensures { λ r. ⌜ r ≡ head (now (work .entry)) nodes b ⌝ }
+{
+    half_at(work, first_head(nodes) + b)
+}
+
+// It is set anew.
+pub(crate) fn set_head(work: &mut [u32], nodes: usize, b: usize, v: u32)
+    requires { ⌜ (all-words nodes ≤ length (now work)) × (nodes ≤ 32768) × (b < 10 * nodes) × (v < 65536) ⌝ }
+    ensures { λ _. ⌜ now (work .exit) ≡ with-half (now (work .entry)) (first-head nodes + b) v ⌝ }
+{
+    set_half(work, first_head(nodes) + b, v);
+}
+
 // The register of the latest of the locals from `start` up to `end` with that name.
 pub(crate) fn look(work: &[u32], nodes: usize, start: usize, end: usize, name: usize) -> Found
     requires { ⌜ Walkable (now work) nodes end ⌝ }
@@ -37,7 +55,7 @@ pub(crate) fn look(work: &[u32], nodes: usize, start: usize, end: usize, name: u
 {
     let b = bucket(name, nodes);
     let base = LOCALS + 2 * nodes;
-    let mut i = half_at(work, HEADS + 20 * nodes + b) as usize;
+    let mut i = head_at(work, nodes, b) as usize;
     while end < i {
         i = (work[base + (i - 1)] / 65536) as usize;
     }
@@ -102,10 +120,9 @@ pub fn allocate_register(work: &mut [u32], step: Step, scope: Scope, name: usize
     let count = work[at];
     let i = count as usize;
     let b = bucket(name, nodes);
-    let head = HEADS + 20 * nodes + b;
-    let before = half_at(work, head);
+    let before = head_at(work, nodes, b);
     set_half(work, LOCAL_REGISTERS + i, register);
-    set_half(work, head, count + 1);
+    set_head(work, nodes, b, count + 1);
     work[LOCALS + 2 * nodes + i] = before * 65536 + name as u32;
     work[at] = count + 1;
     unlink(work, scope, name);

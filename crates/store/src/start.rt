@@ -1,15 +1,17 @@
 // The work area as a lowering finds it.
 ghost use mathlib.Core.Path.{_≡_};
-ghost use Prim.Native.Nat.{_+_, _*_, _≤_};
+ghost use Prim.Native.Nat.{_≤_};
 ghost use lib.ListN.{length};
+ghost use Rattle.store.specs.Layout.{all-words};
 ghost use Rattle.store.specs.Store.{first-step};
 ghost use Rattle.store.specs.Opening.{Zeroed, Framed, Begun};
 use crate::Step;
 use crate::layout::EDGES;
 use crate::layout::NAMES;
-use crate::layout::OFFSETS;
-use crate::layout::TOP;
 use crate::layout::VISITS;
+use crate::layout::beyond;
+use crate::layout::top;
+use crate::steps::first_step;
 
 // Where main's first block ends.
 const SECOND_EDGE: usize = EDGES + 1;
@@ -41,20 +43,13 @@ pub(crate) fn open_frame(work: &mut [u32], depth: usize, name: u32, block: u32, 
 
 // A fresh compiler: the main function with its first block, no local in any bucket, and the program's own visit.
 pub fn begin(work: &mut [u32], nodes: usize) -> Step
-    requires { ⌜ (1 ≤ nodes) × (nodes ≤ 32768) × (12288 + 16 * nodes ≤ length (now work)) ⌝ }
+    requires { ⌜ (1 ≤ nodes) × (nodes ≤ 32768) × (all-words nodes ≤ length (now work)) ⌝ }
     ensures { λ r. ⌜ (r ≡ first-step) × Begun (now (work .entry)) nodes (now (work .exit)) ⌝ }
 {
     work[VISITS] = 1;
-    zero(work, TOP + 10 * nodes, OFFSETS + 15 * nodes);
+    zero(work, top(nodes), beyond(nodes));
     work[EDGES + nodes] = 0;
     work[SECOND_EDGE + nodes] = 0;
     open_frame(work, 0, 65535, 0, 0);
-    Step {
-        outcome: meaning::Outcome::Accepted(0),
-        code: 0,
-        constants: 0,
-        globals: 0,
-        functions: 0,
-        result: 0,
-    }
+    first_step()
 }

@@ -8,7 +8,7 @@ use mathlib.Core.Path.{_≡_, refl, sym, ap, _∙_}
 use native.Mathlib.Omega.{arith}
 use denote.Ref.{now}
 use lib.ListN.{getD}
-use Rattle.store.specs.Layout.{local-at}
+use Rattle.store.specs.Layout.{first-edge, first-local, local-at}
 use Rattle.store.proofs.Links.{Popping, popping-start, popping-next, popping-end}
 use Rattle.store.proofs.Blocks.{leaving}
 
@@ -51,19 +51,19 @@ slice-read-x c =
     let loop = c .before .before .loop in
     omega (arith, leaving (start .pre) .fits, leaving (start .pre) .long, loop .inv .0, loop .inv .2 .same)
 
-set-half-requires : tie.Need-set-half-requires Inv-loop μ-loop
-set-half-requires c κs =
+set-head-requires : tie.Need-set-head-requires Inv-loop μ-loop
+set-head-requires c κs =
     let start = c .before .before .before .before .before .before .before .before .before in
     let loop = c .before .before .before .before .loop in
     let bucket = c .before .bucket in
-    (omega (arith, bucket .ensures .1, leaving (start .pre) .long, loop .inv .2 .same), omega (arith, c .before .before .slice-known4 .given (5724 + 2 * start .args .scope .nodes + (loop .i - 1))))
+    (omega (arith, leaving (start .pre) .long, loop .inv .2 .same), leaving (start .pre) .few, bucket .ensures .1, omega (arith, c .before .before .slice-known4 .given (first-local (start .args .scope .nodes) + (loop .i - 1))))
 
 loop-again : tie.Need-loop-again Inv-loop μ-loop
 loop-again c =
     let start = c .before .before .before .before .before .before .before .before .before .before .before .before in
     let loop = c .before .before .before .before .before .before .before .loop in
     let bucket = c .before .before .before .before .bucket in
-    let set-half = c .before .before .set-half in
+    let set-head = c .before .before .set-head in
     let known = c .before .before .before .before .before .slice-known4 in
     let a = start .args in
     let w = now (a .work) in
@@ -72,8 +72,8 @@ loop-again c =
     let l = leaving (start .pre) in
     let inv = loop .inv in
     let u : loop .i ≡ suc i = omega arith in
-    let own : local-at w n i .name % (10 * n) ≡ bucket .result = ap (λ x. x % 65536 % (10 * n)) (sym (inv .2 .other (5724 + 2 * n + i) (λ z. absurd (omega (arith, l .fits, inv .0))))) ∙ sym (bucket .ensures .0) in
-    (omega arith, omega arith, rw (set-half .ensures) (popping-next w (loop .work) n (a .scope .block) i (bucket .result) _ (a .scope .block + 1) (l .linked) (omega arith) (omega (arith, inv .1)) (omega (arith, inv .0, l .ends)) (omega (arith, l .fits, l .ends)) (l .long) (bucket .ensures .1) own refl (omega (arith, known .given (5724 + 2 * n + i))) (rw u at (inv .2))))
+    let own : local-at w n i .name % (10 * n) ≡ bucket .result = ap (λ x. x % 65536 % (10 * n)) (sym (inv .2 .other (first-local n + i) (λ z. absurd (omega (arith, l .fits, inv .0))))) ∙ sym (bucket .ensures .0) in
+    (omega arith, omega arith, rw (set-head .ensures) (popping-next w (loop .work) n (a .scope .block) i (bucket .result) _ (a .scope .block + 1) (l .linked) (omega arith) (omega (arith, inv .1)) (omega (arith, inv .0, l .ends)) (omega (arith, l .fits, l .ends)) (l .long) (bucket .ensures .1) own refl (omega (arith, known .given (first-local n + i))) (rw u at (inv .2))))
 
 same-length : tie.Need-same-length Inv-loop μ-loop
 same-length c =
@@ -85,7 +85,7 @@ returns c =
     let start = c .before .before .before .before .before .before in
     let loop = c .before .loop in
     let l = leaving (start .pre) in
-    let e : loop .i ≡ getD (now (start .args .work)) (5708 + start .args .scope .nodes + start .args .scope .block) 0 = omega (arith, loop .inv .1) in
+    let e : loop .i ≡ getD (now (start .args .work)) (first-edge (start .args .scope .nodes) + start .args .scope .block) 0 = omega (arith, loop .inv .1) in
     record {
       same = loop .inv .2 .same;
       other = loop .inv .2 .other;
@@ -116,10 +116,7 @@ leave-block-spec =
     slice-read-x
     (λ c. search needs)
     (λ c κs. search needs)
-    (λ c. search needs)
-    (λ c. search needs)
-    (λ c. search needs)
-    set-half-requires
+    set-head-requires
     (λ c. search needs)
     loop-again
     same-length

@@ -8,7 +8,7 @@ use Rattle.store.proofs.capture.search.Reads as search′
 use Rattle.store.proofs.capture.search.Kinds as search-kinds
 use Rattle.store.proofs.capture.+search.Lts-search as search-lts
 use Rattle.store.proofs.capture.add_upvalue.Reads as add-upvalue-reads
-use Rattle.store.proofs.global.is_global_context.Reads as is-global-context-reads
+use Rattle.store.proofs.global.main_alone.Reads as main-alone-reads
 use Rattle.store.proofs.local.look.Reads as look-reads
 use Rattle.store.proofs.capture.+search.{statement}
 use Rattle.store.proofs.capture.+search.Tie.{close}
@@ -20,7 +20,7 @@ use denote.Ref.{now}
 use denote.Enum.Declared.{tagOf}
 use Rattle.store.specs.declared.Found.{Found}
 use Rattle.store.specs.declared.Found.the-variants.{At, Nothing, Full}
-use Rattle.store.specs.Layout.{edge, first}
+use Rattle.store.specs.Layout.{first-edge, edge, first}
 use Rattle.store.specs.Search.{in-byte}
 use Rattle.store.proofs.Found.{the-type}
 use Rattle.store.proofs.Finding.{found-small}
@@ -47,8 +47,8 @@ search-below t = and 1 search-kinds.ps (falls 1 search-kinds.ps _<_ μ-search t)
 
 pub +search-spec : {M : Type 1} → statement M
 +search-spec = close μ-search λ t. search-lts.spec (
-  is-global-context-reads.Asked,
-  is-global-context-reads.Learnt,
+  main-alone-reads.Asked,
+  main-alone-reads.Learnt,
   look-reads.Asked,
   look-reads.Learnt,
   search-below t,
@@ -77,9 +77,9 @@ pub +search-spec : {M : Type 1} → statement M
     (λ c.
     let start = c .before .before .before .before .before in
     let if1 = c .before .before .before .if1 in
-    let is-global-context = c .before .is-global-context in
+    let main-alone = c .before .main-alone in
     let a = start .args in
-    stop-at (now (a .work)) (a .nodes) (a .depth - 1) (a .name) (a .depth) (omega (arith, if1 .left)) (start .pre .1) (sym (is-global-context .ensures .0) ∙ c .if2 .taken))
+    stop-at (now (a .work)) (a .nodes) (a .depth - 1) (a .name) (a .depth) (omega (arith, if1 .left)) (start .pre .1) (sym (main-alone .ensures) ∙ c .if2 .taken))
     (λ c. search needs)
     (λ c. search needs)
     (λ c. search needs)
@@ -105,7 +105,7 @@ pub +search-spec : {M : Type 1} → statement M
     (λ c.
     let start = c .before .before .before .before .before .before .before in
     let a = start .args in
-    omega (arith, c .slice-known4 .given (5708 + a .nodes + first (now (a .work)) (a .depth - 1))))
+    omega (arith, c .slice-known4 .given (first-edge (a .nodes) + first (now (a .work)) (a .depth - 1))))
     (λ c. search needs)
     -- add-to-2
     (λ c.
@@ -123,7 +123,7 @@ pub +search-spec : {M : Type 1} → statement M
     (λ c.
     let start = c .before .before .before .before .before .before .before .before in
     let a = start .args in
-    omega (arith, c .slice-known5 .given (5708 + a .nodes + first (now (a .work)) (a .depth))))
+    omega (arith, c .slice-known5 .given (first-edge (a .nodes) + first (now (a .work)) (a .depth))))
     -- look-requires
     (λ c κs.
     let start = c .before .before .before .before .before .before .before .before .before in
@@ -145,14 +145,14 @@ pub +search-spec : {M : Type 1} → statement M
     let look = c .before .before .before .before .before .before .look in
     let match = c .before .before .before .before .before .match in
     let if1 = c .before .before .before .before .before .before .before .before .before .before .before .before .before .before .if1 in
-    let is-global-context = c .before .before .before .before .before .before .before .before .before .before .before .before .is-global-context in
+    let main-alone = c .before .before .before .before .before .before .before .before .before .before .before .before .main-alone in
     let if2 = c .before .before .before .before .before .before .before .before .before .before .before .if2 in
     let search = c .before .before .before .search in
     let a = start .args in
     let w = now (a .work) in
     let o : ℕ = a .depth - 1 in
     let here = nothing-here (walked-to w (a .nodes) o (a .depth) (a .name)) (look .result) (look .ensures) (not-at (look .result) (match .keys2)) in
-    beyond-found w (a .nodes) o (a .name) (a .depth) (omega (arith, if1 .left)) (start .pre .1) (sym (is-global-context .ensures .0) ∙ if2 .left) here _ _ (search .ensures) (not-at _ (c .match2 .keys2)))
+    beyond-found w (a .nodes) o (a .name) (a .depth) (omega (arith, if1 .left)) (start .pre .1) (sym (main-alone .ensures) ∙ if2 .left) here _ _ (search .ensures) (not-at _ (c .match2 .keys2)))
     -- add-upvalue-requires
     (λ c κs.
     let beyond = c .before .before .beyond in
@@ -171,7 +171,7 @@ pub +search-spec : {M : Type 1} → statement M
     let look = c .before .before .before .before .before .before .before .before .before .before .before .before .look in
     let match = c .before .before .before .before .before .before .before .before .before .before .before .match in
     let if1 = c .before .before .before .before .before .before .before .before .before .before .before .before .before .before .before .before .before .before .before .before .if1 in
-    let is-global-context = c .before .before .before .before .before .before .before .before .before .before .before .before .before .before .before .before .before .before .is-global-context in
+    let main-alone = c .before .before .before .before .before .before .before .before .before .before .before .before .before .before .before .before .before .before .main-alone in
     let if2 = c .before .before .before .before .before .before .before .before .before .before .before .before .before .before .before .before .before .if2 in
     let beyond = c .before .before .before .before .before .beyond in
     let search = c .before .before .before .before .before .before .before .before .before .search in
@@ -180,7 +180,7 @@ pub +search-spec : {M : Type 1} → statement M
     let w = now (a .work) in
     let o : ℕ = a .depth - 1 in
     let here = nothing-here (walked-to w (a .nodes) o (a .depth) (a .name)) (look .result) (look .ensures) (not-at (look .result) (match .keys2)) in
-    captured-found w (a .nodes) o (a .name) (a .depth) (omega (arith, if1 .left)) (start .pre .1) (sym (is-global-context .ensures .0) ∙ if2 .left) here _ _ _ (beyond .given .1) (search .ensures) _ _ (add-upvalue .ensures))
+    captured-found w (a .nodes) o (a .name) (a .depth) (omega (arith, if1 .left)) (start .pre .1) (sym (main-alone .ensures) ∙ if2 .left) here _ _ _ (beyond .given .1) (search .ensures) _ _ (add-upvalue .ensures))
     -- add-add-upvalue
     (λ c.
     let start = c .before .before .before .before .before .before .before .before .before .before .before .before .before .before in
@@ -207,10 +207,10 @@ pub +search-spec : {M : Type 1} → statement M
     (λ c.
     let start = c .before .before .before .before .before .before .before .before .before .before .before .before .before .before .before .before .before in
     let if1 = c .before .before .before .before .before .before .before .before .before .before .before .before .before .before .before .if1 in
-    let is-global-context = c .before .before .before .before .before .before .before .before .before .before .before .before .before .is-global-context in
+    let main-alone = c .before .before .before .before .before .before .before .before .before .before .before .before .before .main-alone in
     let if2 = c .before .before .before .before .before .before .before .before .before .before .before .before .if2 in
     let here = c .before .before .before .before .before .here in
     let look = c .before .before .before .before .before .before .before .look in
     let add-upvalue2 = c .before .before .add-upvalue2 in
     let a = start .args in
-    local-found (now (a .work)) (a .nodes) (a .depth - 1) (a .name) (a .depth) (omega (arith, if1 .left)) (start .pre .1) (sym (is-global-context .ensures .0) ∙ if2 .left) _ (sym (here .given .1) ∙ look .ensures) _ _ (add-upvalue2 .ensures))
+    local-found (now (a .work)) (a .nodes) (a .depth - 1) (a .name) (a .depth) (omega (arith, if1 .left)) (start .pre .1) (sym (main-alone .ensures) ∙ if2 .left) _ (sym (here .given .1) ∙ look .ensures) _ _ (add-upvalue2 .ensures))

@@ -2,45 +2,43 @@
 use borrow.Author.Needs.{needs}
 use Rattle.store.proofs.capture.add_upvalue.Statement.{statement}
 use Rattle.store.proofs.capture.add_upvalue.Tie as tie
-use Prim.Native.Nat.{ℕ, _+_, _-_, _*_, _%_, _≤_, _<_}
-use mathlib.Core.Path.{_≡_, sym, ap, _∙_}
+use Prim.Native.Nat.{ℕ, _+_, _-_, _*_, _≤_, _<_}
+use mathlib.Core.Path.{_≡_, sym, _∙_}
 use native.Mathlib.Omega.{arith}
 use borrow.Author.Count.{below-more}
 use denote.Ref.{now}
 use lib.ListN.{getD, length-set}
-use Rattle.store.specs.Layout.{held}
+use Rattle.store.specs.Layout.{held, capture-word}
 use Rattle.store.proofs.Regions.{below-256}
-use Rattle.store.proofs.Captures.{capture-word, add-old, add-full, add-new}
+use Rattle.store.proofs.Captures.{add-old, add-full, add-new}
 
 abbrev Inv-loop : tie.InvT-loop
-Inv-loop work depth capture count base n end i₀ i = (i ≤ held work depth) × ((k : ℕ) → k < i → capture-word work depth k ≡ capture → ⊥)
+Inv-loop work depth capture count n end i₀ i = (i ≤ held work depth) × ((k : ℕ) → k < i → capture-word work depth k ≡ capture → ⊥)
 
 abbrev μ-loop : tie.MeasureT-loop
-μ-loop work depth capture count base n end i₀ i = held work depth - i
+μ-loop work depth capture count n end i₀ i = held work depth - i
 
 loop-holds : tie.Need-loop-holds Inv-loop μ-loop
 loop-holds c = (omega arith, λ k l. absurd (omega arith))
 
-half-at-requires : tie.Need-half-at-requires Inv-loop μ-loop
-half-at-requires c κs =
+capture-word-requires : tie.Need-capture-word-requires Inv-loop μ-loop
+capture-word-requires c κs =
     let start = c .before .before .before .before .before in
     let loop-test = c .before .loop-test in
-    omega (arith, start .pre .0, start .pre .1, below-256 (getD (now (start .args .work)) (3074 + 8 * start .args .depth) 0), loop-test .taken)
+    (start .pre .0, start .pre .1, omega (arith, below-256 (getD (now (start .args .work)) (3074 + 8 * start .args .depth) 0), loop-test .taken))
 
 returns : tie.Need-returns Inv-loop μ-loop
 returns c =
     let start = c .before .before .before .before .before .before .before in
     let loop = c .before .before .before .before .loop in
     let loop-test = c .before .before .before .loop-test in
-    let half-at = c .before .half-at in
     let a = start .args in
-    add-old (now (a .work)) (a .depth) (a .capture) (loop .i) (loop-test .taken) (loop .inv .1) (ap (λ y. y % 512) (sym (half-at .ensures)) ∙ c .if1 .taken)
+    add-old (now (a .work)) (a .depth) (a .capture) (loop .i) (loop-test .taken) (loop .inv .1) (sym (c .before .capture-word .ensures) ∙ c .if1 .taken)
 
 loop-again : tie.Need-loop-again Inv-loop μ-loop
 loop-again c =
     let loop = c .before .before .before .before .loop in
-    let half-at = c .before .half-at in
-    (omega arith, below-more _ _ (loop .inv .1) (λ e. c .if1 .left (ap (λ y. y % 512) (half-at .ensures) ∙ e)))
+    (omega arith, below-more _ _ (loop .inv .1) (λ e. c .if1 .left (c .before .capture-word .ensures ∙ e)))
 
 returns-2 : tie.Need-returns-2 Inv-loop μ-loop
 returns-2 c =
@@ -87,11 +85,8 @@ add-upvalue-spec =
     (λ c. search needs)
     (λ c. search needs)
     (λ c. search needs)
-    (λ c. search needs)
-    (λ c. search needs)
     loop-holds
-    (λ c. search needs)
-    half-at-requires
+    capture-word-requires
     (λ c. search needs)
     (λ c. search needs)
     returns
@@ -99,6 +94,8 @@ add-upvalue-spec =
     (λ c. search needs)
     loop-again
     returns-2
+    (λ c. search needs)
+    (λ c. search needs)
     (λ c. search needs)
     set-half-requires
     (λ c. search needs)

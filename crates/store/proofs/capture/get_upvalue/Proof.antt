@@ -11,7 +11,7 @@ use denote.Enum.Declared.{tagOf}
 use Rattle.store.specs.declared.Found.{Found}
 use Rattle.store.specs.declared.Found.the-variants.{At, Nothing, Full}
 use Rattle.store.proofs.Found.{the-type}
-use Rattle.store.proofs.Steps.{shallow}
+use Rattle.store.proofs.Refusals.{shallow}
 use Rattle.store.proofs.Searching.{ready-of}
 use Rattle.store.proofs.Upvalues.{upvalue-absorbed, upvalue-told, upvalue-none}
 

@@ -8,7 +8,7 @@ use denote.Ref.{now}
 use Rattle.store.specs.Layout.{constant-by}
 use Rattle.store.specs.Promise.{a-constant}
 use Rattle.store.proofs.Runs.{leaf-absorbed}
-use Rattle.store.proofs.Steps.{shallow}
+use Rattle.store.proofs.Refusals.{shallow}
 use Rattle.store.proofs.Pools.{constant-none, constant-leaf}
 use Rattle.meaning.specs.State.{add-constant}
 use Rattle.forward.specs.Forward.{fwd-number}
@@ -43,7 +43,7 @@ returns-3 c =
     let enum-told = c .before .before .enum-told in
     let a = start .args in
     let deep = shallow (a .step) (start .pre) (enum-told .given .1) in
-    rw (c .again .ensures) (constant-leaf (now (a .work)) (a .scope) (a .step) (start .pre) deep _ (enum-told .given .1) (a .kind) (a .high) (a .low) (c .before .if1 .left) (a .node))
+    rw (c .constant-more .ensures) (constant-leaf (now (a .work)) (a .scope) (a .step) (start .pre) deep _ (enum-told .given .1) (a .kind) (a .high) (a .low) (c .before .if1 .left) (a .node))
 
 pub push-constant-spec : {M : Type 1} → statement M
 push-constant-spec =
@@ -64,7 +64,5 @@ push-constant-spec =
     (λ c. search needs)
     slice-write-work-3
     (λ c κs. search needs)
-    (λ c. search needs)
-    (λ c. search needs)
     (λ c. search needs)
     returns-3)

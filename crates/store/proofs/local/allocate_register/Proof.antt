@@ -7,11 +7,11 @@ use mathlib.Core.Path.{sym, _∙_}
 use native.Mathlib.Omega.{arith}
 use lib.ListN.{length-set}
 use denote.Ref.{now}
-use Rattle.store.specs.Layout.{edge}
+use Rattle.store.specs.Layout.{first-edge, first-local, top, first-head, edge}
 use Rattle.store.specs.Promise.{a-local}
 use Rattle.store.proofs.Halves.{half-small}
 use Rattle.store.proofs.Runs.{due, goes, leaf-absorbed}
-use Rattle.store.proofs.Steps.{shallow}
+use Rattle.store.proofs.Refusals.{shallow}
 use Rattle.store.proofs.Locals.{pushed-by, hung-by, linked-push, pushed-then, local-room, local-sound, local-latest, local-leaf}
 use Rattle.meaning.specs.State.{allocate-register}
 use Rattle.forward.specs.Forward.{fwd-unit}
@@ -33,31 +33,31 @@ before-small : tie.Need-mul-work
 before-small c =
     let start = c .before .before .before .before .before .before .before .before .before .before .before .before .before .before .before .before in
     let bucket = c .before .before .before .before .before .before .before .before .before .before .bucket in
-    let half-at = c .before .before .before .before .before .before .before .before .half-at in
-    omega (arith, half-at .ensures, half-small (now (start .args .work)) (24576 + 20 * start .args .scope .nodes + bucket .result))
+    let head-at = c .before .before .before .before .before .before .before .before .head-at in
+    omega (arith, head-at .ensures, half-small (now (start .args .work)) (first-head (start .args .scope .nodes) + bucket .result))
 
 add-work : tie.Need-add-work
 add-work c =
     let start = c .before .before .before .before .before .before .before .before .before .before .before .before .before .before .before .before in
     let bucket = c .before .before .before .before .before .before .before .before .before .before .bucket in
-    let half-at = c .before .before .before .before .before .before .before .before .half-at in
-    omega (arith, half-at .ensures, half-small (now (start .args .work)) (24576 + 20 * start .args .scope .nodes + bucket .result), start .pre .2)
+    let head-at = c .before .before .before .before .before .before .before .before .head-at in
+    omega (arith, head-at .ensures, half-small (now (start .args .work)) (first-head (start .args .scope .nodes) + bucket .result), start .pre .2)
 
 slice-write-work-2 : tie.Need-slice-write-work-2
 slice-write-work-2 c =
-    let set-half2 = c .before .before .set-half2 in
+    let set-head = c .before .before .set-head in
     let set-half = c .before .before .before .before .before .before .set-half in
     let start = c .before .before .before .before .before .before .before .before .before .before .before .before .before .before .before .before in
-    simp length-set (omega (arith, set-half2 .kept .0, set-half .kept .0, start .pre .0 .sound .long, start .pre .0 .sound .blocks))
+    simp length-set (omega (arith, set-head .kept .0, set-half .kept .0, start .pre .0 .sound .long, start .pre .0 .sound .blocks))
 
 unlink-requires : tie.Need-unlink-requires
 unlink-requires c κs =
     let start = c .before .before .before .before .before .before .before .before .before .before .before .before .before .before .before .before .before in
     let bucket = c .before .before .before .before .before .before .before .before .before .before .before .bucket in
     let enum-told = c .before .before .before .before .before .before .before .before .before .before .before .before .before .before .enum-told in
-    let set-half2 = c .before .before .before .set-half2 in
+    let set-head = c .before .before .before .set-head in
     let set-half = c .before .before .before .before .before .before .before .set-half in
-    let half-at = c .before .before .before .before .before .before .before .before .before .half-at in
+    let head-at = c .before .before .before .before .before .before .before .before .before .head-at in
     let a = start .args in
     let w = now (a .work) in
     let p = a .scope in
@@ -69,18 +69,18 @@ unlink-requires c κs =
     let deep = shallow (a .step) fine (enum-told .given .1) in
     let room = due (a .step .outcome) (start .pre .1 .roomy) (goes (enum-told .given .1)) in
     let small = due (a .step .outcome) (start .pre .3) (goes (enum-told .given .1)) in
-    let r : 5724 + 2 * n + i < 12288 + 10 * n = omega (arith, local-room deep room .0) in
-    let pushed = pushed-by w n (5708 + n + p .block) i b (a .name) (a .register) (s .long) (s .count) (s .few) (omega arith) (omega (arith, s .blocks)) r (bucket .ensures .1) (start .pre .2) small in
-    let hung = hung-by w n (5708 + n + p .block) i b (a .name) (a .register) (s .long) (s .count) (s .few) (omega arith) (omega (arith, s .blocks)) r (bucket .ensures .1) (start .pre .2) small in
+    let r : first-local n + i < top n = omega (arith, local-room deep room .0) in
+    let pushed = pushed-by w n (first-edge n + p .block) i b (a .name) (a .register) (s .long) (s .count) (s .few) (omega arith) (omega (arith, s .blocks)) r (bucket .ensures .1) (start .pre .2) small in
+    let hung = hung-by w n (first-edge n + p .block) i b (a .name) (a .register) (s .long) (s .count) (s .few) (omega arith) (omega (arith, s .blocks)) r (bucket .ensures .1) (start .pre .2) small in
     let linked = linked-push w _ n (p .block) b _ (s .blocks) (bucket .ensures .1) (sym (bucket .ensures .0)) pushed hung (s .linked) in
-    rw (set-half2 .ensures, set-half .ensures, half-at .ensures) (local-sound w _ p (a .step) _ fine deep room pushed linked, local-latest w _ p (a .step) _ fine deep room pushed linked)
+    rw (set-head .ensures, set-half .ensures, head-at .ensures) (local-sound w _ p (a .step) _ fine deep room pushed linked, local-latest w _ p (a .step) _ fine deep room pushed linked)
 
 same-length : tie.Need-same-length
 same-length c =
     let unlink = c .before .before .unlink in
-    let set-half2 = c .before .before .before .before .before .before .set-half2 in
+    let set-head = c .before .before .before .before .before .before .set-head in
     let set-half = c .before .before .before .before .before .before .before .before .before .before .set-half in
-    unlink .kept .0 ∙ simp length-set (set-half2 .kept .0 ∙ set-half .kept .0)
+    unlink .kept .0 ∙ simp length-set (set-head .kept .0 ∙ set-half .kept .0)
 
 returns-2 : tie.Need-returns-2
 returns-2 c =
@@ -88,9 +88,9 @@ returns-2 c =
     let start = c .before .before .before .before .before .before .before .before .before .before .before .before .before .before .before .before .before .before .before .before in
     let bucket = c .before .before .before .before .before .before .before .before .before .before .before .before .before .before .bucket in
     let enum-told = c .before .before .before .before .before .before .before .before .before .before .before .before .before .before .before .before .before .enum-told in
-    let set-half2 = c .before .before .before .before .before .before .set-half2 in
+    let set-head = c .before .before .before .before .before .before .set-head in
     let set-half = c .before .before .before .before .before .before .before .before .before .before .set-half in
-    let half-at = c .before .before .before .before .before .before .before .before .before .before .before .before .half-at in
+    let head-at = c .before .before .before .before .before .before .before .before .before .before .before .before .head-at in
     let a = start .args in
     let w = now (a .work) in
     let p = a .scope in
@@ -102,9 +102,9 @@ returns-2 c =
     let deep = shallow (a .step) fine (enum-told .given .1) in
     let room = due (a .step .outcome) (start .pre .1 .roomy) (goes (enum-told .given .1)) in
     let small = due (a .step .outcome) (start .pre .3) (goes (enum-told .given .1)) in
-    let r : 5724 + 2 * n + i < 12288 + 10 * n = omega (arith, local-room deep room .0) in
-    let pushed = pushed-by w n (5708 + n + p .block) i b (a .name) (a .register) (s .long) (s .count) (s .few) (omega arith) (omega (arith, s .blocks)) r (bucket .ensures .1) (start .pre .2) small in
-    let u = rw (set-half2 .ensures, set-half .ensures, half-at .ensures) at (unlink .ensures) in
+    let r : first-local n + i < top n = omega (arith, local-room deep room .0) in
+    let pushed = pushed-by w n (first-edge n + p .block) i b (a .name) (a .register) (s .long) (s .count) (s .few) (omega arith) (omega (arith, s .blocks)) r (bucket .ensures .1) (start .pre .2) small in
+    let u = rw (set-head .ensures, set-half .ensures, head-at .ensures) at (unlink .ensures) in
     local-leaf w _ p (a .step) _ fine deep room (pushed-then (s .blocks) pushed u) (u .linked) _ (enum-told .given .1)
 
 pub allocate-register-spec : {M : Type 1} → statement M
@@ -120,9 +120,6 @@ allocate-register-spec =
     (λ c. search needs)
     (λ c. search needs)
     (λ c κs. search needs)
-    (λ c. search needs)
-    (λ c. search needs)
-    (λ c. search needs)
     (λ c κs. search needs)
     (λ c. search needs)
     set-half-requires

@@ -5,7 +5,7 @@ use Rattle.store.proofs.local.get_var_register.Tie as tie
 use Prim.Native.Nat.{_+_}
 use native.Mathlib.Omega.{arith}
 use denote.Ref.{now}
-use Rattle.store.specs.Layout.{edge, first}
+use Rattle.store.specs.Layout.{first-edge, edge, first}
 use Rattle.store.proofs.Finding.{walkable-of, found-small, variable-told}
 
 cast-first : tie.Need-cast-first
@@ -32,7 +32,7 @@ cast-start : tie.Need-cast-start
 cast-start c =
     let start = c .before .before .before .before in
     let a = start .args in
-    omega (arith, c .shared-slice-known3 .given (5708 + a .scope .nodes + first (now (a .work)) (a .scope .depth)))
+    omega (arith, c .shared-slice-known3 .given (first-edge (a .scope .nodes) + first (now (a .work)) (a .scope .depth)))
 
 look-requires : tie.Need-look-requires
 look-requires c κs =

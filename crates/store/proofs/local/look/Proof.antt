@@ -7,7 +7,7 @@ use Prim.Native.Nat.{ℕ, _+_, _-_, _*_, _%_, _<_, _≤_, max}
 use mathlib.Core.Path.{_≡_, refl, sym, ap, _∙_}
 use native.Mathlib.Omega.{arith}
 use denote.Ref.{now}
-use Rattle.store.specs.Layout.{edge, local-at, latest, head}
+use Rattle.store.specs.Layout.{first-local, edge, local-at, latest, head}
 use Rattle.store.specs.Search.{found-of}
 use Rattle.store.proofs.Links.{head-within, turn-less, turn-self, walk-self, walk-start, walk-hit, walk-none, walk-miss, skip-start, skip-self, skip-next, skip-end}
 
@@ -29,10 +29,10 @@ bucket-requires c κs =
     let start = c .before in
     (start .pre .some, start .pre .few)
 
-half-at-requires : tie.Need-half-at-requires Inv-loop μ-loop Inv-loop2 μ-loop2
-half-at-requires c κs =
+head-at-requires : tie.Need-head-at-requires Inv-loop μ-loop Inv-loop2 μ-loop2
+head-at-requires c κs =
     let start = c .before .before in
-    omega (arith, c .bucket .ensures .1, start .pre .long)
+    (start .pre .long, start .pre .few, c .bucket .ensures .1)
 
 loop-holds : tie.Need-loop-holds Inv-loop μ-loop Inv-loop2 μ-loop2
 loop-holds c =
@@ -43,25 +43,25 @@ loop-holds c =
     let k : ℕ = a .name % (10 * a .nodes) in
     let p = start .pre in
     let b = bucket .ensures in
-    let e = c .half-at .ensures ∙ ap (λ x. head w (a .nodes) x) (b .0) in
+    let e = c .head-at .ensures ∙ ap (λ x. head w (a .nodes) x) (b .0) in
     (omega arith, rw e (skip-start w (a .nodes) (p .blocks) k (p .linked) (omega (arith, b .0, b .1)) (a .end) (p .within)))
 
 shared-slice-read-i : tie.Need-shared-slice-read-i Inv-loop μ-loop Inv-loop2 μ-loop2
 shared-slice-read-i c =
     let start = c .before .before .before .before .before .before in
     let bucket = c .before .before .before .before .bucket in
-    let half-at = c .before .before .before .half-at in
+    let head-at = c .before .before .before .head-at in
     let loop = c .before .before .loop in
     let a = start .args in
     let w = now (a .work) in
     let p = start .pre in
     let b = bucket .ensures in
-    omega (arith, half-at .ensures, head-within w (a .nodes) (p .blocks) (bucket .result) (p .linked) (b .1), p .long, p .fits, loop .inv .0)
+    omega (arith, head-at .ensures, head-within w (a .nodes) (p .blocks) (bucket .result) (p .linked) (b .1), p .long, p .fits, loop .inv .0)
 
 cast-i-2 : tie.Need-cast-i-2 Inv-loop μ-loop Inv-loop2 μ-loop2
 cast-i-2 c =
     let start = c .before .before .before .before .before .before in
-    omega (arith, c .shared-slice-known2 .given (5724 + 2 * start .args .nodes + (c .before .before .loop .i - 1)))
+    omega (arith, c .shared-slice-known2 .given (first-local (start .args .nodes) + (c .before .before .loop .i - 1)))
 
 loop-less : tie.Need-loop-less Inv-loop μ-loop Inv-loop2 μ-loop2
 loop-less c =
@@ -69,7 +69,7 @@ loop-less c =
     let bucket = c .before .before .before .before .bucket in
     let loop = c .before .before .loop in
     let loop-test = c .before .loop-test in
-    let half-at = c .before .before .before .half-at in
+    let head-at = c .before .before .before .head-at in
     let a = start .args in
     let w = now (a .work) in
     let k : ℕ = a .name % (10 * a .nodes) in
@@ -77,7 +77,7 @@ loop-less c =
     let b = bucket .ensures in
     let u = head-within w (a .nodes) (p .blocks) (bucket .result) (p .linked) (b .1) in
     let s = skip-self w (a .nodes) k (loop .i) (a .end) (loop-test .taken) (loop .inv .1) in
-    omega (arith, turn-less w (a .nodes) (p .blocks) k (loop .i) (p .linked) (omega arith) (omega (arith, half-at .ensures, loop .inv .0)) s)
+    omega (arith, turn-less w (a .nodes) (p .blocks) k (loop .i) (p .linked) (omega arith) (omega (arith, head-at .ensures, loop .inv .0)) s)
 
 loop-again : tie.Need-loop-again Inv-loop μ-loop Inv-loop2 μ-loop2
 loop-again c =
@@ -85,7 +85,7 @@ loop-again c =
     let bucket = c .before .before .before .before .bucket in
     let loop = c .before .before .loop in
     let loop-test = c .before .loop-test in
-    let half-at = c .before .before .before .half-at in
+    let head-at = c .before .before .before .head-at in
     let a = start .args in
     let w = now (a .work) in
     let k : ℕ = a .name % (10 * a .nodes) in
@@ -93,7 +93,7 @@ loop-again c =
     let b = bucket .ensures in
     let u = head-within w (a .nodes) (p .blocks) (bucket .result) (p .linked) (b .1) in
     let s = skip-self w (a .nodes) k (loop .i) (a .end) (loop-test .taken) (loop .inv .1) in
-    let l : loop .i ≤ edge w (a .nodes) (p .blocks) = omega (arith, half-at .ensures, loop .inv .0) in (
+    let l : loop .i ≤ edge w (a .nodes) (p .blocks) = omega (arith, head-at .ensures, loop .inv .0) in (
       omega (arith, loop .inv .0, turn-less w (a .nodes) (p .blocks) k (loop .i) (p .linked) (omega arith) l s),
       skip-next w (a .nodes) (p .blocks) k (loop .i) (p .linked) (omega arith) l s (p .block) (a .end) (p .among) (p .ends) (loop-test .taken),
     )
@@ -115,8 +115,8 @@ shared-slice-read-x c =
     let loop2 = c .before .before .loop2 in
     omega (arith, start .pre .long, start .pre .within, start .pre .fits, loop2 .inv .0)
 
-half-at-requires-2 : tie.Need-half-at-requires-2 Inv-loop μ-loop Inv-loop2 μ-loop2
-half-at-requires-2 c κs =
+half-at-requires : tie.Need-half-at-requires Inv-loop μ-loop Inv-loop2 μ-loop2
+half-at-requires c κs =
     let start = c .before .before .before .before .before .before .before .before .before in
     let loop2 = c .before .before .before .loop2 in
     omega (arith, start .pre .long, start .pre .within, start .pre .fits, loop2 .inv .0)
@@ -128,13 +128,13 @@ returns c =
     let loop2-test = c .before .before .before .loop2-test in
     let a = start .args in
     let w = now (a .work) in
-    rw (c .half-at2 .ensures)
+    rw (c .half-at .ensures)
     (ap found-of (sym (walk-hit w (a .nodes) (a .name) (a .start) (a .end) (loop2 .i) (loop2 .inv .0) (loop2 .inv .2) (loop2-test .taken) (c .before .if1 .taken))))
 
 cast-i-3 : tie.Need-cast-i-3 Inv-loop μ-loop Inv-loop2 μ-loop2
 cast-i-3 c =
     let start = c .before .before .before .before .before .before .before .before .before in
-    omega (arith, c .before .shared-slice-known3 .given (5724 + 2 * start .args .nodes + (c .before .before .before .loop2 .i - 1)))
+    omega (arith, c .before .shared-slice-known3 .given (first-local (start .args .nodes) + (c .before .before .before .loop2 .i - 1)))
 
 loop2-less : tie.Need-loop2-less Inv-loop μ-loop Inv-loop2 μ-loop2
 loop2-less c =
@@ -179,10 +179,7 @@ look-spec =
     bucket-requires
     (λ c. search needs)
     (λ c. search needs)
-    (λ c. search needs)
-    (λ c. search needs)
-    (λ c. search needs)
-    half-at-requires
+    head-at-requires
     (λ c. search needs)
     loop-holds
     (λ c. search needs)
@@ -200,7 +197,7 @@ look-spec =
     (λ c. search needs)
     (λ c. search needs)
     (λ c. search needs)
-    half-at-requires-2
+    half-at-requires
     returns
     cast-i-3
     loop2-less

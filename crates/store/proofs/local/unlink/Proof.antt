@@ -10,7 +10,7 @@ use native.Mathlib.Omega.{arith}
 use lib.ListN.{length, getD, length-set}
 use denote.Ref.{now}
 use Rattle.store.specs.declared.Scope.{Scope}
-use Rattle.store.specs.Layout.{edge, local-at, link}
+use Rattle.store.specs.Layout.{first-edge, first-local, edge, local-at, link}
 use Rattle.store.specs.Store.{Sound}
 use Rattle.store.specs.Promise.{Latest}
 use Rattle.store.proofs.Shadows.{link-le, taken-out}
@@ -32,7 +32,7 @@ module _ {w : List ℕ} {p : Scope} {name last next : ℕ} (s : Sound w p) (g : 
 cast-from : tie.Need-cast-from Inv-loop μ-loop
 cast-from c =
     let a = c .before .before .args in
-    omega (arith, c .slice-known .given (5708 + a .scope .nodes + a .scope .block - 1))
+    omega (arith, c .slice-known .given (first-edge (a .scope .nodes) + a .scope .block - 1))
 
 add-next : tie.Need-add-next Inv-loop μ-loop
 add-next c =
@@ -52,7 +52,7 @@ slice-read-next c =
 cast-next : tie.Need-cast-next Inv-loop μ-loop
 cast-next c =
     let a = c .before .before .before .before .args in
-    omega (arith, c .slice-known3 .given (5724 + 2 * a .scope .nodes + (edge (now (a .work)) (a .scope .nodes) (a .scope .block) - 1)))
+    omega (arith, c .slice-known3 .given (first-local (a .scope .nodes) + (edge (now (a .work)) (a .scope .nodes) (a .scope .block) - 1)))
 
 loop-holds : tie.Need-loop-holds Inv-loop μ-loop
 loop-holds c = (refl, omega arith, refl)
@@ -78,7 +78,7 @@ slice-read-x c =
 mul-work : tie.Need-mul-work Inv-loop μ-loop
 mul-work c =
     let start = c .before .before .before .before .before .before .before .before in
-    omega (arith, c .before .slice-known4 .given (5724 + 2 * start .args .scope .nodes + (c .before .before .before .loop .next - 1)))
+    omega (arith, c .before .slice-known4 .given (first-local (start .args .scope .nodes) + (c .before .before .before .loop .next - 1)))
 
 add-work : tie.Need-add-work Inv-loop μ-loop
 add-work c =
@@ -99,7 +99,7 @@ slice-read-work c =
 add-work-2 : tie.Need-add-work-2 Inv-loop μ-loop
 add-work-2 c =
     let start = c .before .before .before .before .before .before .before .before .before in
-    omega (arith, c .before .before .slice-known4 .given (5724 + 2 * start .args .scope .nodes + (c .before .before .before .before .loop .next - 1)))
+    omega (arith, c .before .before .slice-known4 .given (first-local (start .args .scope .nodes) + (c .before .before .before .before .loop .next - 1)))
 
 add-work-3 : tie.Need-add-work-3 Inv-loop μ-loop
 add-work-3 c =
@@ -131,14 +131,14 @@ returns c =
     let n = p .nodes in
     let s = start .pre .0 in
     let some = s .starts 0 (omega arith) in
-    let e : getD w (5708 + n + p .block - 1) 0 ≡ edge w n (p .block - 1) = ap (λ i. getD w i 0) (omega arith) in
+    let e : getD w (first-edge n + p .block - 1) 0 ≡ edge w n (p .block - 1) = ap (λ i. getD w i 0) (omega arith) in
     let own : local-at w n (loop .next - 1) .name ≡ a .name = rw (loop .inv .0) at (c .before .if1 .taken) in
     rw (loop .inv .0) (taken-out (loop .last) (loop .next - 1) s (start .pre .1) (omega (arith, loop .inv .1, start .pre .1 .here)) (omega (arith, loop .inv .2)) (omega (arith, e)) own)
 
 cast-next-2 : tie.Need-cast-next-2 Inv-loop μ-loop
 cast-next-2 c =
     let start = c .before .before .before .before .before .before .before .before in
-    omega (arith, c .before .slice-known4 .given (5724 + 2 * start .args .scope .nodes + (c .before .before .before .loop .next - 1)))
+    omega (arith, c .before .slice-known4 .given (first-local (start .args .scope .nodes) + (c .before .before .before .loop .next - 1)))
 
 loop-less : tie.Need-loop-less Inv-loop μ-loop
 loop-less c =

@@ -10,7 +10,7 @@ use Rattle.store.specs.Layout.{registers}
 use Rattle.store.specs.Promise.{a-register}
 use Rattle.store.proofs.Regions.{only-set}
 use Rattle.store.proofs.Runs.{leaf-absorbed}
-use Rattle.store.proofs.Steps.{refused-small, stopped-small, shallow}
+use Rattle.store.proofs.Refusals.{refused-small, stopped-small, shallow}
 use Rattle.store.proofs.Registers.{register-leaf, register-none, counted-by}
 use Rattle.meaning.specs.State.{next-register}
 use Rattle.meaning.specs.declared.Cause.the-variants.{Registers}

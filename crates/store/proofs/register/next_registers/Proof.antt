@@ -9,7 +9,7 @@ use Rattle.store.specs.Layout.{registers}
 use Rattle.store.specs.Promise.{some-registers}
 use Rattle.store.proofs.Regions.{only-set}
 use Rattle.store.proofs.Runs.{leaf-absorbed}
-use Rattle.store.proofs.Steps.{refused-small, stopped-small, shallow}
+use Rattle.store.proofs.Refusals.{refused-small, stopped-small, shallow}
 use Rattle.store.proofs.Registers.{registers-leaf, registers-none, counted-by}
 use Rattle.meaning.specs.Expressions.{next-registers}
 use Rattle.meaning.specs.declared.Cause.the-variants.{Registers}

@@ -1,7 +1,7 @@
 -- Each variant is made of its own parts.
 use borrow.Author.Needs.{needs}
-use Rattle.store.proofs.again.Statement.{statement}
-use Rattle.store.proofs.again.Tie as tie
+use Rattle.store.proofs.steps.again.Statement.{statement}
+use Rattle.store.proofs.steps.again.Tie as tie
 use mathlib.Core.Path.{sym}
 
 returns : tie.Need-returns

@@ -1,8 +1,8 @@
 -- A refused step is its own `refused-step`; any other is built anew.
 use borrow.Author.Needs.{needs}
-use Rattle.store.proofs.refuse.Statement.{statement}
-use Rattle.store.proofs.refuse.Tie as tie
-use Rattle.store.proofs.Steps.{refused-again, refused-now}
+use Rattle.store.proofs.steps.refuse.Statement.{statement}
+use Rattle.store.proofs.steps.refuse.Tie as tie
+use Rattle.store.proofs.Refusals.{refused-again, refused-now}
 
 returns : tie.Need-returns
 returns c =

@@ -1,7 +1,7 @@
 -- The outcome that was made anew is the step's.
 use borrow.Author.Needs.{needs}
-use Rattle.store.proofs.advance.Statement.{statement}
-use Rattle.store.proofs.advance.Tie as tie
+use Rattle.store.proofs.steps.advance.Statement.{statement}
+use Rattle.store.proofs.steps.advance.Tie as tie
 
 returns : tie.Need-returns
 returns c = rw (c .again .ensures)
