@@ -2,44 +2,26 @@
 mod constants;
 
 pub use constants::finish;
-ghost use Prim.Native.Nat.{_+_, _*_, _%_, _<_, _≤_};
+ghost use Prim.Native.Nat.{_+_, _*_, _<_, _≤_};
 ghost use mathlib.Core.Path.{_≡_};
 ghost use mathlib.Core.List.{[], _∷_};
 ghost use lib.ListN.{length};
 ghost use Rattle.meaning.specs.Images.{inst-size};
 ghost use Rattle.meaning.specs.Image.{capture-bytes, inst-bytes, proto-bytes};
-ghost use Rattle.store.specs.Half.{half};
 ghost use Rattle.store.specs.Table.{tab};
-ghost use Rattle.store.specs.Layout.{top, capture-of, capture-at, held, unpacked, inst-at};
+ghost use Rattle.store.specs.Layout.{top, capture-of, capture-at, held, inst-at};
 ghost use Rattle.writers.specs.Spliced.{Spliced};
 ghost use Rattle.writers.specs.Values.{capture-of as captured};
 ghost use Rattle.image.specs.Output.{Placed, proto-of};
 use instruction::OpCode;
-use meaning::Instruction;
 use meaning::NO_MARK;
-use store::CAPTURES;
 use store::HELD;
 use store::NAMES;
 use store::REGISTERS;
-use store::TOP;
 use writers::Capture;
 use writers::Header;
 
 const RETURN: u32 = OpCode::Return as u32;
-
-// Capture i of function j, as it is stored.
-fn capture_at(work: &[u32], j: usize, i: usize) -> u32
-    requires { ⌜ (5724 ≤ length (now work)) × (j ≤ 7) × (i < 256) ⌝ }
-    ensures { λ r. ⌜ r ≡ half (now (work .entry)) (6288 + 256 * j + i) % 512 ⌝ }
-{
-    let k = CAPTURES + 256 * j + i;
-    let x = work[k / 2];
-    if k % 2 == 0 {
-        x % 65536 % 512
-    } else {
-        x / 65536 % 65536 % 512
-    }
-}
 
 // A capture as it is stored: from 256 on a local.
 fn capture_of(x: u32) -> Capture
@@ -54,27 +36,14 @@ fn capture_of(x: u32) -> Capture
 
 // The captures of function j.
 fn put_captures(work: &[u32], out: &mut [u8], at: usize, j: usize, count: usize)
-    requires { ⌜ (5724 ≤ length (now work)) × (j ≤ 7) × (count < 256) × (at + 5 * count ≤ length (now out)) ⌝ }
+    requires { ⌜ (4168 ≤ length (now work)) × (j ≤ 7) × (count < 256) × (at + 5 * count ≤ length (now out)) ⌝ }
     ensures { λ _. ⌜ Spliced (now (out .entry)) at (capture-bytes (tab (capture-at (now (work .entry)) j) count)) (now (out .exit)) ⌝ }
 {
     let mut i: usize = 0;
     while i < count {
-        let capture = capture_of(capture_at(work, j, i));
+        let capture = capture_of(store::capture_word(work, j, i));
         writers::put_capture(out, at + 5 * i, capture);
         i += 1;
-    }
-}
-
-// An instruction by its packed word and its mark.
-fn unpacked(x: u32, mark: u32) -> Instruction
-    ensures { λ r. ⌜ r ≡ unpacked x mark ⌝ }
-{
-    Instruction {
-        opcode: (x % 256) as u8,
-        a: (x / 256 % 256) as u8,
-        b: (x / 65536 % 256) as u8,
-        c: (x / 16777216 % 256) as u8,
-        mark: mark,
     }
 }
 
@@ -98,13 +67,11 @@ fn put_code(
     requires { ⌜ (top nodes ≤ length (now work)) × (2 * (first + count) ≤ top nodes) × (nodes ≤ 32768) × (from + count * (3 + inst-size tag) ≤ length (now out)) ⌝ }
     ensures { λ _. ⌜ Spliced (now (out .entry)) from (inst-bytes tag (tab (λ i. inst-at (now (work .entry)) nodes (first + i)) count)) (now (out .exit)) ⌝ }
 {
-    let top = TOP + 10 * nodes;
     let size = span(tag);
     let mut at = from;
     let mut i: usize = 0;
     while i < count {
-        let k = 2 * (first + i);
-        let x = unpacked(work[top - (k + 2)], work[top - (k + 1)]);
+        let x = store::inst_at(work, nodes, first + i);
         writers::put_inst(out, at, tag, x);
         at += size;
         i += 1;
@@ -142,7 +109,7 @@ fn put_prototype(
     let code = at + 13 + 5 * captures;
     put_code(work, out, code, tag, nodes, first, count);
     let size = span(tag);
-    writers::put_inst(out, code + count * size, tag, unpacked(RETURN, NO_MARK));
+    writers::put_inst(out, code + count * size, tag, store::unpacked(RETURN, NO_MARK));
 }
 
 // The same where it fits; in any case where it ends.

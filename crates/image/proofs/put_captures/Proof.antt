@@ -28,8 +28,8 @@ loop-holds c =
     let a = start .args in
     (omega arith, spliced-as (sym (ap capture-bytes (tab-none (capture-at (now (a .work)) (a .j))))) (spliced-none (now (a .out)) (a .at) (omega (arith, start .pre .3))))
 
-capture-at-requires : tie.Need-capture-at-requires Inv-loop μ-loop
-capture-at-requires c κs =
+capture-word-requires : tie.Need-capture-word-requires Inv-loop μ-loop
+capture-word-requires c κs =
     let start = c .before .before .before .before in
     (start .pre .0, start .pre .1, omega (arith, c .loop-test .taken, start .pre .2))
 
@@ -44,7 +44,7 @@ loop-again c =
     let a = turn .before .before .before .before .args in
     let f = capture-at (now (a .work)) (a .j) in
     let i : ℕ = turn .before .loop .i in
-    let one : captured (c .before .before .before .before .capture-of .result) ≡ f i = (c .before .before .before .before .capture-of .ensures) ∙ ap capture-of (c .before .before .before .before .before .capture-at .ensures) in
+    let one : captured (c .before .before .before .before .capture-of .result) ≡ f i = (c .before .before .before .before .capture-of .ensures) ∙ ap capture-of (c .before .before .before .before .before .capture-word .ensures) in
     let put = spliced-as (ap (λ k. capture-bytes (k ∷ [])) one) (c .before .before .put-capture .ensures) in
     (omega (arith, turn .loop-test .taken), spliced-as (sym (captures-more f i)) (spliced-then (turn .before .loop .inv .1) put (omega (arith, captures-size (tab f i), tab-length f i))))
 
@@ -65,8 +65,8 @@ put-captures-spec =
     Inv-loop
     μ-loop
     loop-holds
-    capture-at-requires
-    (λ c κs. omega (arith, c .capture-at .ensures))
+    capture-word-requires
+    (λ c κs. omega (arith, c .capture-word .ensures))
     (λ c. omega (arith, c .before .before .before .loop-test .taken, c .before .before .before .before .before .before .before .pre .2))
     (λ c. omega (arith, c .before .before .before .loop-test .taken, c .before .before .before .before .before .before .before .pre .3))
     put-capture-requires

@@ -18,11 +18,11 @@ use Rattle.image.proofs.put_code.Statement.{statement}
 use Rattle.image.proofs.put_code.Tie as tie
 
 abbrev Inv-loop : tie.InvT-loop
-Inv-loop work out₀ from tag nodes first count top size at₀ i₀ out at i =
+Inv-loop work out₀ from tag nodes first count size at₀ i₀ out at i =
     (i ≤ count) × (at ≡ from + i * (3 + inst-size tag)) × Spliced out₀ from (inst-bytes tag (tab (λ k. inst-at work nodes (first + k)) i)) out
 
 abbrev μ-loop : tie.MeasureT-loop
-μ-loop work out₀ from tag nodes first count top size at₀ i₀ out at i = count - i
+μ-loop work out₀ from tag nodes first count size at₀ i₀ out at i = count - i
 
 loop-holds : tie.Need-loop-holds Inv-loop μ-loop
 loop-holds c =
@@ -31,9 +31,14 @@ loop-holds c =
     let none = ap (inst-bytes (a .tag)) (tab-none (λ k. inst-at (now (a .work)) (a .nodes) (a .first + k))) in
     (omega arith, omega (arith, zero-mul (3 + inst-size (a .tag))), spliced-as (sym none) (spliced-none (now (a .out)) (a .from) (omega (arith, start .pre .3))))
 
+inst-at-requires : tie.Need-inst-at-requires Inv-loop μ-loop
+inst-at-requires c κs =
+    let start = c .before .before .before .before .before in
+    (start .pre .0, omega (arith, c .loop-test .taken, start .pre .1), start .pre .2)
+
 put-inst-requires : tie.Need-put-inst-requires Inv-loop μ-loop
 put-inst-requires c κs =
-    let turn = c .before .before .before .before in
+    let turn = c .before .before in
     let start = turn .before .before .before .before .before in
     let a = start .args in
     let v = turn .before .loop .inv in
@@ -41,7 +46,7 @@ put-inst-requires c κs =
 
 add-at : tie.Need-add-at Inv-loop μ-loop
 add-at c =
-    let turn = c .before .before .before .before .before .before .before in
+    let turn = c .before .before .before .before .before in
     let start = turn .before .before .before .before .before in
     let a = start .args in
     let span = turn .before .before .span in
@@ -49,13 +54,13 @@ add-at c =
 
 loop-again : tie.Need-loop-again Inv-loop μ-loop
 loop-again c =
-    let turn = c .before .before .before .before .before .before .before in
+    let turn = c .before .before .before .before .before in
     let a = turn .before .before .before .before .before .args in
     let f : ℕ → Instruction = λ k. inst-at (now (a .work)) (a .nodes) (a .first + k) in
     let i : ℕ = turn .before .loop .i in
     let v = turn .before .loop .inv in
     let span = turn .before .before .span in
-    let put = spliced-as (ap (λ x. inst-bytes (a .tag) (x ∷ [])) (c .before .before .before .before .unpacked .ensures)) (c .before .before .put-inst .ensures) in
+    let put = spliced-as (ap (λ x. inst-bytes (a .tag) (x ∷ [])) (c .before .before .before .before .inst-at .ensures)) (c .before .before .put-inst .ensures) in
     (omega (arith, turn .loop-test .taken), omega (arith, v .1, span .ensures .0, one-more i (3 + inst-size (a .tag))), spliced-as (sym (insts-more (a .tag) f i)) (spliced-then (v .2) put (omega (arith, v .1, insts-long (a .tag) f i))))
 
 same-length : tie.Need-same-length Inv-loop μ-loop
@@ -74,25 +79,14 @@ put-code-spec =
     (tie.spec
     Inv-loop
     μ-loop
-    (λ c. omega (arith, (c .before .before) .pre .2))
-    (λ c. omega (arith, (c .before .before) .pre .2))
     (λ c κs. tt)
     loop-holds
     (λ c. omega (arith, c .loop-test .taken, c .before .before .before .before .before .pre .1, c .before .before .before .before .before .pre .2))
-    (λ c. omega (arith, c .loop-test .taken, c .before .before .before .before .before .pre .1, c .before .before .before .before .before .pre .2))
-    (λ c. omega (arith, c .loop-test .taken, c .before .before .before .before .before .pre .1, c .before .before .before .before .before .pre .2))
-    (λ c. omega (arith, c .loop-test .taken, c .before .before .before .before .before .pre .1))
-    (λ c. omega (arith, c .before .before .before .before .before .pre .2))
-    (λ c. omega (arith, c .before .loop-test .taken, c .before .before .before .before .before .before .pre .0, c .before .before .before .before .before .before .pre .1))
-    (λ c. omega (arith, c .before .loop-test .taken, c .before .before .before .before .before .before .pre .1, c .before .before .before .before .before .before .pre .2))
-    (λ c. omega (arith, c .before .loop-test .taken, c .before .before .before .before .before .before .pre .1))
-    (λ c. omega (arith, c .before .before .before .before .before .before .pre .2))
-    (λ c. omega (arith, c .before .before .loop-test .taken, c .before .before .before .before .before .before .before .pre .0, c .before .before .before .before .before .before .before .pre .1))
-    (λ c κs. tt)
+    inst-at-requires
     put-inst-requires
     add-at
-    (λ c. omega (arith, c .before .before .before .before .before .before .before .loop-test .taken, c .before .before .before .before .before .before .before .before .before .before .before .before .pre .1, c .before .before .before .before .before .before .before .before .before .before .before .before .pre .2))
-    (λ c. omega (arith, c .before .before .before .before .before .before .before .loop-test .taken))
+    (λ c. omega (arith, c .before .before .before .before .before .loop-test .taken, c .before .before .before .before .before .before .before .before .before .before .pre .1, c .before .before .before .before .before .before .before .before .before .before .pre .2))
+    (λ c. omega (arith, c .before .before .before .before .before .loop-test .taken))
     loop-again
     same-length
     returns)
