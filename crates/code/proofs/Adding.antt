@@ -9,12 +9,12 @@ use Rattle.store.specs.declared.Step.{Step}
 use Rattle.store.specs.declared.Scope.{Scope}
 use Rattle.store.specs.Table.{tab}
 use Rattle.store.specs.Layout.{inst-at}
-use Rattle.store.specs.Store.{open-at, state-of, config-of, run, refused-step, code-tag, Written, image-by, written-by, Image, Fine}
+use Rattle.store.specs.Store.{open-at, state-of, config-of, run, refused-step, prototype-more, code-tag, Written, image-by, written-by, Image, Fine}
 use Rattle.store.specs.Promise.{nothing}
 use Rattle.store.proofs.Tables.{tab-length, tab-take, tab-drop}
 use Rattle.store.proofs.Regions.{below-256}
 use Rattle.store.proofs.Runs.{goes, none-due, run-stopped, stays, image-none}
-use Rattle.store.proofs.Steps.{refused-outcome, refused-moves, refused-small, stopped-small, shallow}
+use Rattle.store.proofs.Refusals.{refused-outcome, refused-moves, refused-small, stopped-small, shallow}
 use Rattle.meaning.specs.Images.{inst-size}
 use Rattle.meaning.specs.Image.{proto-bytes}
 use Rattle.meaning.specs.State.{State, Proto, refuse, if-then, add-prototype}
@@ -56,9 +56,6 @@ was-written {x} p o s ps e i = by (s .outcome) e i
 
 -- ---- the step, where a prototype is added
 
-abbrev pub added-step : Step → (first end : ℕ) → Step
-added-step s first end = record { outcome = Accepted end; code = first; constants = s .constants; globals = s .globals; functions = s .functions + 1; result = s .functions }
-
 module _ {w : List ℕ} {p : Scope} {s : Step} {x : ℕ} (first node params : ℕ) (fine : Fine w p s) (on : s .outcome ≡ Accepted x) (le : first ≤ s .code) where
   abbrev count : ℕ
   count = s .code - first
@@ -91,7 +88,7 @@ module _ {w : List ℕ} {p : Scope} {s : Step} {x : ℕ} (first node params : �
   many-runs h ps e = refused-runs Prototypes ps (too-many f first count node params (s .result) (state-of w p s ps) h e ∙ ap (λ k. adding first node params (config (tab f k) (s .result) (state-of w p s ps))) whole)
 
   pub added-runs : (end : ℕ) → s .code - first ≤ 32766 → ¬ (s .functions ≡ 256) → (ps : List Proto) → s .functions ≡ length ps
-      → run w p (added-step s first end) (ps ++ proto-of w (p .nodes) (p .depth) first (s .code - first) params ∷ []) ≡ bind (run w p s ps) (adding first node params)
+      → run w p (prototype-more s first end) (ps ++ proto-of w (p .nodes) (p .depth) first (s .code - first) params ∷ []) ≡ bind (run w p s ps) (adding first node params)
   unfolding run config-of state-of open-at fwd-by add-prototype if-then on
   added-runs end h ne ps e =
       let n : length (tab (λ i. f (first + i)) (s .code - first)) ≡ s .code - first = tab-length (λ i. f (first + i)) (s .code - first) in
@@ -101,7 +98,7 @@ module _ {w : List ℕ} {p : Scope} {s : Step} {x : ℕ} (first node params : �
   bytes = proto-bytes (code-tag p) (proto-of w (p .nodes) (p .depth) first (s .code - first) params ∷ [])
 
   -- written where it fits
-  pub added-image : {o o' : List ℕ} {end : ℕ} → Placed o x bytes o' end → (ps : List Proto) → Image p o s ps → Image p o' (added-step s first end) (ps ++ proto-of w (p .nodes) (p .depth) first (s .code - first) params ∷ [])
+  pub added-image : {o o' : List ℕ} {end : ℕ} → Placed o x bytes o' end → (ps : List Proto) → Image p o s ps → Image p o' (prototype-more s first end) (ps ++ proto-of w (p .nodes) (p .depth) first (s .code - first) params ∷ [])
   added-image {o} {o'} {end} placed ps i = by-written (was-written p o s ps on i)
     where
       all : proto-bytes (code-tag p) (ps ++ proto-of w (p .nodes) (p .depth) first (s .code - first) params ∷ []) ≡ proto-bytes (code-tag p) ps ++ bytes
@@ -117,7 +114,7 @@ module _ {w : List ℕ} {p : Scope} {s : Step} {x : ℕ} (first node params : �
                 ap (λ k. take k o') (placed .ends) ∙ spliced-take z ∙ ap (λ l. l ++ bytes) (h .bytes (omega (arith, z .fits))) ∙ sym all;
           }
 
-  pub added-fine : {o o' : List ℕ} {end : ℕ} → Placed o x bytes o' end → s .code - first ≤ 32766 → ¬ (s .functions ≡ 256) → Fine w p (added-step s first end)
+  pub added-fine : {o o' : List ℕ} {end : ℕ} → Placed o x bytes o' end → s .code - first ≤ 32766 → ¬ (s .functions ≡ 256) → Fine w p (prototype-more s first end)
   added-fine placed h ne =
       let wr : x ≤ 370000 * s .functions = rw on at (fine .written) in
       let n = proto-size (code-tag p) w (p .nodes) (p .depth) first (s .code - first) params in
@@ -180,7 +177,7 @@ module _ {w o : List ℕ} {p : Scope} {s : Step} {x : ℕ} (first node params : 
   adds-many h e = adds-refused Prototypes (λ ps i. many-runs first node params fine on le h ps (sym (was-written p o s ps on i .counted) ∙ e))
 
   pub adds-done : {o' : List ℕ} {end tag : ℕ} → s .code - first ≤ 32766 → ¬ (s .functions ≡ 256) → tag ≡ code-tag p
-      → Placed o x (proto-bytes tag (proto-of w (p .nodes) (p .depth) first (s .code - first) params ∷ [])) o' end → Adds first w o p s o' (added-step s first end) node params
+      → Placed o x (proto-bytes tag (proto-of w (p .nodes) (p .depth) first (s .code - first) params ∷ [])) o' end → Adds first w o p s o' (prototype-more s first end) node params
   adds-done {o'} {end} h ne e placed-so =
       let placed = subst (λ t. Placed o x (proto-bytes t (proto-of w (p .nodes) (p .depth) first (s .code - first) params ∷ [])) o' end) e placed-so in
       record {

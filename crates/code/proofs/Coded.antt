@@ -8,13 +8,13 @@ use lib.ListN.{length, set, length-append}
 use Rattle.store.specs.declared.Step.{Step}
 use Rattle.store.specs.declared.Scope.{Scope}
 use Rattle.store.specs.Table.{tab}
-use Rattle.store.specs.Layout.{edge, top, inst-at}
+use Rattle.store.specs.Layout.{first-local, edge, top, inst-at}
 use Rattle.store.specs.Store.{state-of, config-of, run-by, run, while-going, result-limit, advanced, refused-step, Fine}
 use Rattle.store.specs.Promise.{uses, Cost, Room, Leaf}
 use Rattle.store.proofs.Tables.{tab-length}
 use Rattle.store.proofs.Regions.{Same, Only, below, same-count, constants-same, globals-same}
 use Rattle.store.proofs.Runs.{due, promised, goes}
-use Rattle.store.proofs.Steps.{refused-moves, shallow}
+use Rattle.store.proofs.Refusals.{refused-moves, shallow}
 use Rattle.store.proofs.Compose.{taken-few}
 use Rattle.store.proofs.Steady.{Clear, sound-apart, kept-apart, edge-apart, open-apart, around-apart, taken-apart}
 use Rattle.meaning.specs.Opcode.{wide, Jmp}
@@ -31,7 +31,7 @@ pub met : {P : Type 0} {o : Outcome} {x : ℕ} → o ≡ Accepted x → while-go
 met {o = o} e h = due o h (goes e)
 
 -- the potential leaves room for a words
-pub room-for : {w : List ℕ} {p : Scope} {s : Step} {x : ℕ} (a : ℕ) → Fine w p s → s .outcome ≡ Accepted x → Room w p s 0 a 0 → 5724 + 2 * p .nodes + 2 * s .code + edge w (p .nodes) (p .block) + a ≤ top (p .nodes)
+pub room-for : {w : List ℕ} {p : Scope} {s : Step} {x : ℕ} (a : ℕ) → Fine w p s → s .outcome ≡ Accepted x → Room w p s 0 a 0 → first-local (p .nodes) + 2 * s .code + edge w (p .nodes) (p .block) + a ≤ top (p .nodes)
 room-for {w} {p} {s} a fine on room = omega (arith, met on (room .roomy) .words, taken-few w (p .depth), shallow s fine on)
 
 -- ---- the code alone
@@ -51,11 +51,11 @@ result-due {w} {p} {s} fine = cases (s .outcome) (fine .result)
     cases (Refused k n) small = tt
 
 -- what is written starts with the code that there is
-pub starts : {w : List ℕ} {p : Scope} {s : Step} → Fine w p s → Spelled w w (p .nodes) (5724 + 2 * p .nodes + edge w (p .nodes) (p .block)) (s .code) (tab (inst-at w (p .nodes)) (s .code))
-starts {w} {p} {s} fine = spelled w (p .nodes) (5724 + 2 * p .nodes + edge w (p .nodes) (p .block)) (s .code) (omega (arith, fine .room)) (omega (arith, fine .sound .long))
+pub starts : {w : List ℕ} {p : Scope} {s : Step} → Fine w p s → Spelled w w (p .nodes) (first-local (p .nodes) + edge w (p .nodes) (p .block)) (s .code) (tab (inst-at w (p .nodes)) (s .code))
+starts {w} {p} {s} fine = spelled w (p .nodes) (first-local (p .nodes) + edge w (p .nodes) (p .block)) (s .code) (omega (arith, fine .room)) (omega (arith, fine .sound .long))
 
-module _ {w w' : List ℕ} {p : Scope} {s : Step} {x : ℕ} (fine : Fine w p s) (on : s .outcome ≡ Accepted x) (only : Only w w' (5724 + 2 * p .nodes + edge w (p .nodes) (p .block)) (top (p .nodes))) where
-  clear : Clear w p (5724 + 2 * p .nodes + edge w (p .nodes) (p .block)) (top (p .nodes))
+module _ {w w' : List ℕ} {p : Scope} {s : Step} {x : ℕ} (fine : Fine w p s) (on : s .outcome ≡ Accepted x) (only : Only w w' (first-local (p .nodes) + edge w (p .nodes) (p .block)) (top (p .nodes))) where
+  clear : Clear w p (first-local (p .nodes) + edge w (p .nodes) (p .block)) (top (p .nodes))
   clear = (λ c h k l. absurd (omega arith), λ c h l. h)
 
   frames : Same w w' 3072 4168
@@ -74,7 +74,7 @@ module _ {w w' : List ℕ} {p : Scope} {s : Step} {x : ℕ} (fine : Fine w p s) 
 
 -- k instructions l are there at last, and the operation wants them and the result v
 pub coded : {w w' : List ℕ} {p : Scope} {s : Step} {x k : ℕ} {l : List Instruction} (v a : ℕ) (op : Config → Run)
-    → Fine w p s → s .outcome ≡ Accepted x → Spelled w w' (p .nodes) (5724 + 2 * p .nodes + edge w (p .nodes) (p .block)) k l → s .code ≤ k → 2 * k ≤ 2 * s .code + a → v < 1024
+    → Fine w p s → s .outcome ≡ Accepted x → Spelled w w' (p .nodes) (first-local (p .nodes) + edge w (p .nodes) (p .block)) k l → s .code ≤ k → 2 * k ≤ 2 * s .code + a → v < 1024
     → ((t : State) → going (config l v t) ≡ op (config (tab (inst-at w (p .nodes)) (s .code)) (s .result) t))
     → Leaf w p s w' p (advanced s k v) (uses a 0 0) op
 unfolding run config-of state-of bind

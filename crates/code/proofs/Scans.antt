@@ -1,4 +1,4 @@
--- A scan turns the instructions of a region one by one: those before place i are done, the others are as they were. Assumes nothing.
+-- A scan turns the instructions of a region one by one: those before (cell n i) i are done, the others are as they were. Assumes nothing.
 use mathlib.Core.Path.{_≡_, refl, sym, ap, ap₂, subst, _∙_}
 use mathlib.Core.Bool.{true, false}
 use mathlib.Core.List.{List, [], _∷_, _++_, append-assoc, append-nil}
@@ -6,9 +6,10 @@ use Prim.Native.Nat.{ℕ, zero, suc, _+_, _*_, _-_, _<_, _≤_}
 use native.Mathlib.Omega.{arith}
 use native.Mathlib.Decide.{ℕ-discrete}
 use lib.ListN.{length, getD, set, take, drop, length-set}
-use lib.Seq.{getD-set-same, getD-set-other}
+use lib.Seq.{getD-set-other}
 use Rattle.store.specs.Table.{tab}
-use Rattle.store.specs.Layout.{top, unpacked, inst-at}
+use Rattle.store.specs.Layout.{top, cell, mark-cell, unpacked, inst-at}
+use Rattle.store.proofs.Cells.{word-here, word-else}
 use Rattle.store.proofs.Tables.{tab-ext, tab-length, tab-front, tab-add, tab-take, tab-drop}
 use Rattle.meaning.specs.Opcode.{is-end-jump}
 use Rattle.meaning.specs.Chunk.{each-at, jump-by, patch-first}
@@ -48,31 +49,25 @@ pub scan-starts : (w : List ℕ) (n first : ℕ) (f : ℕ → Instruction → In
 scan-starts w n first f = record { same = refl; other = λ j h. refl; turned = λ k a b. absurd (omega arith) }
 
 module _ {w w' : List ℕ} {n first i : ℕ} {f : ℕ → Instruction → Instruction} (scan : Scanning w w' n first i f) (lo : first ≤ i) (hi : 2 * i + 2 ≤ top n) (long : top n ≤ length w') where
-  abbrev place : ℕ
-  place = top n - (2 * i + 2)
-
   -- the words of instruction i are as they were
   fresh : (j : ℕ) → j < top n - 2 * i → getD w' j 0 ≡ getD w j 0
   fresh j h = scan .other j (λ k. absurd (omega arith))
 
-  pub scan-step : {y : ℕ} → Turns (getD w' place 0) (f (i - first)) y → Scanning w (set w' place y) n first (i + 1) f
+  pub scan-step : {y : ℕ} → Turns (getD w' (cell n i) 0) (f (i - first)) y → Scanning w (set w' (cell n i) y) n first (i + 1) f
   scan-step {y} turns =
       record {
-        same = length-set w' place y ∙ scan .same;
-        other = λ j h. getD-set-other w' place j y 0 (λ e. past j e (h (omega arith))) ∙ scan .other j (λ k. h (omega arith));
+        same = length-set w' (cell n i) y ∙ scan .same;
+        other = λ j h. getD-set-other w' (cell n i) j y 0 (λ e. past j e (h (omega arith))) ∙ scan .other j (λ k. h (omega arith));
         turned = λ k a b. cases k a b (ℕ-discrete k i);
       }
     where
-      past : (j : ℕ) → j ≡ place → top n - 2 * first ≤ j → ⊥
+      past : (j : ℕ) → j ≡ cell n i → top n - 2 * first ≤ j → ⊥
       past j e k = omega arith
 
-      cases : (k : ℕ) → first ≤ k → k < i + 1 → Dec (k ≡ i) → inst-at (set w' place y) n k ≡ f (k - first) (inst-at w n k)
+      cases : (k : ℕ) → first ≤ k → k < i + 1 → Dec (k ≡ i) → inst-at (set w' (cell n i) y) n k ≡ f (k - first) (inst-at w n k)
       cases k a b (yes e) =
-          let word : getD (set w' place y) place 0 ≡ y = getD-set-same w' place y 0 (omega arith) in
-          let mark : getD (set w' place y) (top n - (2 * i + 1)) 0 ≡ getD w (top n - (2 * i + 1)) 0 = getD-set-other w' place (top n - (2 * i + 1)) y 0 (omega arith) ∙ fresh (top n - (2 * i + 1)) (omega arith) in
-          rw e (ap₂ unpacked word mark ∙ turns .is (getD w (top n - (2 * i + 1)) 0) ∙ ap (λ x. f (i - first) (unpacked x (getD w (top n - (2 * i + 1)) 0))) (fresh place (omega arith)))
-      cases k a b (no e) =
-          ap₂ unpacked (getD-set-other w' place (top n - (2 * k + 2)) y 0 (omega arith)) (getD-set-other w' place (top n - (2 * k + 1)) y 0 (omega arith)) ∙ scan .turned k a (omega arith)
+          rw e (word-here w' n i y hi long ∙ turns .is (getD w' (mark-cell n i) 0) ∙ ap₂ (λ x m. f (i - first) (unpacked x m)) (fresh (cell n i) (omega arith)) (fresh (mark-cell n i) (omega arith)))
+      cases k a b (no e) = word-else w' n i y hi long k (omega arith) e ∙ scan .turned k a (omega arith)
 
 module _ {w w' : List ℕ} {n first : ℕ} {f : ℕ → Instruction → Instruction} (g : List Instruction → List Instruction) where
   -- the region has m instructions
@@ -88,7 +83,7 @@ module _ {w w' : List ℕ} {n first : ℕ} {f : ℕ → Instruction → Instruct
       size = ap length (tab-drop (inst-at w n) first m) ∙ tab-length _ m
 
       before : (j : ℕ) → j < first → inst-at w' n j ≡ inst-at w n j
-      before j h = ap₂ unpacked (scan .other (top n - (2 * j + 2)) (λ k. omega arith)) (scan .other (top n - (2 * j + 1)) (λ k. omega arith))
+      before j h = ap₂ unpacked (scan .other (cell n j) (λ k. omega arith)) (scan .other (mark-cell n j) (λ k. omega arith))
 
       after : (j : ℕ) → j < m → inst-at w' n (first + j) ≡ f j (inst-at w n (first + j))
       after j h =
@@ -148,30 +143,28 @@ module _ (w : List ℕ) (n first offset : ℕ) where
           }
 
   pub first-found : {y : ℕ} (end i : ℕ) → first ≤ i → i < end → 2 * end ≤ top n → top n ≤ length w → None i → is-end-jump (inst-at w n i) ≡ true
-      → Turns (getD w (top n - (2 * i + 2)) 0) (λ x. jump-by x offset) y → Recoded w n end end (mended (patch-first offset) first) (set w (top n - (2 * i + 2)) y)
+      → Turns (getD w (cell n i) 0) (λ x. jump-by x offset) y → Recoded w n end end (mended (patch-first offset) first) (set w (cell n i) y)
   first-found {y} end i lo hi fits long none is turns = subst (λ k. Recoded w n k k (mended (patch-first offset) first) w') (omega arith) (done (end - i - 1) (omega arith))
     where
       w' : List ℕ
-      w' = set w (top n - (2 * i + 2)) y
+      w' = set w (cell n i) y
 
-      here : inst-at (set w (top n - (2 * i + 2)) y) n i ≡ jump-by (inst-at w n i) offset
-      here =
-          ap₂ unpacked (getD-set-same w (top n - (2 * i + 2)) y 0 (omega arith)) (getD-set-other w (top n - (2 * i + 2)) (top n - (2 * i + 1)) y 0 (omega arith))
-          ∙ turns .is (getD w (top n - (2 * i + 1)) 0)
+      here : inst-at (set w (cell n i) y) n i ≡ jump-by (inst-at w n i) offset
+      here = word-here w n i y (omega arith) long ∙ turns .is (getD w (mark-cell n i) 0)
 
-      else : (k : ℕ) → 2 * k + 2 ≤ top n → ¬ (k ≡ i) → inst-at (set w (top n - (2 * i + 2)) y) n k ≡ inst-at w n k
-      else k f ne = ap₂ unpacked (getD-set-other w (top n - (2 * i + 2)) (top n - (2 * k + 2)) y 0 (omega arith)) (getD-set-other w (top n - (2 * i + 2)) (top n - (2 * k + 1)) y 0 (omega arith))
+      else : (k : ℕ) → 2 * k + 2 ≤ top n → ¬ (k ≡ i) → inst-at (set w (cell n i) y) n k ≡ inst-at w n k
+      else k f ne = word-else w n i y (omega arith) long k f ne
 
-      done : (r : ℕ) → 2 * (first + (i - first + suc r)) ≤ top n → Recoded w n (first + (i - first + suc r)) (first + (i - first + suc r)) (mended (patch-first offset) first) (set w (top n - (2 * i + 2)) y)
+      done : (r : ℕ) → 2 * (first + (i - first + suc r)) ≤ top n → Recoded w n (first + (i - first + suc r)) (first + (i - first + suc r)) (mended (patch-first offset) first) (set w (cell n i) y)
       done r room =
           let e : first + (i - first) ≡ i = omega arith in
           let is-here : is-end-jump (inst-at w n (first + (i - first))) ≡ true = rw e is in
-          let turned : inst-at (set w (top n - (2 * i + 2)) y) n (first + (i - first)) ≡ jump-by (inst-at w n (first + (i - first))) offset = rw e here in
+          let turned : inst-at (set w (cell n i) y) n (first + (i - first)) ≡ jump-by (inst-at w n (first + (i - first))) offset = rw e here in
           record {
-            same = length-set w (top n - (2 * i + 2)) y;
-            other = λ j h. getD-set-other w (top n - (2 * i + 2)) j y 0 (λ x. let t = h (omega arith) in omega arith);
+            same = length-set w (cell n i) y;
+            other = λ j h. getD-set-other w (cell n i) j y 0 (λ x. let t = h (omega arith) in omega arith);
             code = rw (tab-take (inst-at w n) first (i - first + suc r), tab-drop (inst-at w n) first (i - first + suc r))
-                (tab-add (inst-at (set w (top n - (2 * i + 2)) y) n) first (i - first + suc r)
+                (tab-add (inst-at (set w (cell n i) y) n) first (i - first + suc r)
                 ∙ ap₂ (λ x z. x ++ z) (tab-ext _ _ first (λ j h. else j (omega arith) (omega arith)))
-                (first-at offset (λ j. inst-at (set w (top n - (2 * i + 2)) y) n (first + j)) (λ j. inst-at w n (first + j)) (i - first) r (λ j h. none (first + j) (omega arith) (omega arith)) is-here turned (λ j h ne. else (first + j) (omega arith) (omega arith))));
+                (first-at offset (λ j. inst-at (set w (cell n i) y) n (first + j)) (λ j. inst-at w n (first + j)) (i - first) r (λ j h. none (first + j) (omega arith) (omega arith)) is-here turned (λ j h ne. else (first + j) (omega arith) (omega arith))));
           }

@@ -9,7 +9,8 @@ use Rattle.store.specs.Layout.{unpacked}
 use Rattle.meaning.specs.Opcode.{wide, Jmp, is-continue, is-break, is-end-jump}
 use Rattle.meaning.specs.Chunk.{continue-offset, patch-jump, patch-end, jump-by}
 use Rattle.meaning.proofs.Lists.{and-left, and-right}
-use Rattle.code.specs.Words.{Packs, Turns}
+use Rattle.store.specs.Cell.{Packs}
+use Rattle.code.specs.Words.{Turns}
 
 -- a jump's opcode
 jump-opcode : (x k : ℕ) → eqb (x % 256) 3 && eqb (x / 256 % 256) k ≡ true → x % 256 ≡ 3

@@ -1,5 +1,5 @@
 -- Pending code as words: what the inner functions promise.
-use Prim.Native.Nat.{ℕ, _+_, _-_, _*_, _<_, _≤_}
+use Prim.Native.Nat.{ℕ, _+_, _-_, _*_, _≤_}
 use mathlib.Core.Path.{_≡_}
 use mathlib.Core.Bool.{Bool, true, false}
 use mathlib.Core.List.{List, _++_}
@@ -8,25 +8,6 @@ use Rattle.store.specs.Table.{tab}
 use Rattle.store.specs.Layout.{top, unpacked, inst-at}
 use Rattle.meaning.specs.Chunk.{each-at, patch-jump, patch-end}
 use Rattle.meaning.specs.declared.Instruction.{Instruction}
-
--- operands that fit their bytes
-pub record Bytes (op a b c : ℕ) : Type 0 where
-  pub op-small : op < 256
-  pub a-small : a < 256
-  pub b-small : b < 256
-  pub c-small : c < 256
-
--- the word x with any mark is that instruction
-pub record Packs (x : ℕ) (i : ℕ → Instruction) : Type 0 where
-  pub is : (mark : ℕ) → unpacked x mark ≡ i mark
-
--- instruction i set anew, by its packed word and its mark
-abbrev pub with-inst : List ℕ → (n i word mark : ℕ) → List ℕ
-with-inst w n i word mark = set (set w (top n - (2 * i + 2)) word) (top n - (2 * i + 1)) mark
-
--- instruction i is written, and nothing else changed
-pub record Wrote (w : List ℕ) (n i word mark : ℕ) (w' : List ℕ) : Type 0 where
-  pub is : w' ≡ with-inst w n i word mark
 
 -- the word x became y: any instruction that x packs is turned by f
 pub record Turns (x : ℕ) (f : Instruction → Instruction) (y : ℕ) : Type 0 where

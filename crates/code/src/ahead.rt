@@ -4,8 +4,8 @@ ghost use Rattle.forward.specs.Forward.{sure, test-and-jump};
 ghost use Rattle.store.specs.Store.{Fine, while-going};
 ghost use Rattle.store.specs.Promise.{uses, Room, Leaf};
 use crate::JMP;
-use crate::word::pack;
-use crate::word::write;
+use store::pack;
+use store::write_cell;
 use instruction::OpCode;
 use meaning::Outcome;
 use store::Scope;
@@ -24,13 +24,13 @@ pub fn test_and_jump(work: &mut [u32], step: Step, scope: Scope, flag: u32, mark
     };
     let code = step.code;
     let result = step.result;
-    write(
+    write_cell(
         work,
         scope.nodes,
         code,
         pack(TEST, result, result, flag),
         mark,
     );
-    write(work, scope.nodes, code + 1, JMP, mark);
+    write_cell(work, scope.nodes, code + 1, JMP, mark);
     store::advance(step, code + 2, result)
 }

@@ -4,7 +4,6 @@ mod ahead;
 mod one;
 mod patches;
 mod prototype;
-mod word;
 
 pub use ahead::test_and_jump;
 use instruction::OpCode;
@@ -18,10 +17,6 @@ pub use patches::patch_first;
 pub use patches::patch_loop;
 pub use prototype::end_program;
 pub use prototype::leave_function;
-pub use word::jump_back;
-pub use word::pack;
-pub use word::pack_wide;
-pub use word::write;
 
 // The opcode that several files write, by document 01's numbers.
 pub(crate) const JMP: u32 = OpCode::Jmp as u32;

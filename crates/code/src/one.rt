@@ -5,11 +5,11 @@ ghost use Rattle.meaning.specs.Opcode.{inst, wide};
 ghost use Rattle.forward.specs.Forward.{sure, emit, put};
 ghost use Rattle.store.specs.Store.{Fine, while-going};
 ghost use Rattle.store.specs.Promise.{uses, Room, Leaf};
-ghost use Rattle.code.specs.Words.{Bytes};
+ghost use Rattle.store.specs.Cell.{Bytes};
 ghost use Rattle.code.specs.Cuts.{rolled-step};
-use crate::word::pack;
-use crate::word::pack_wide;
-use crate::word::write;
+use store::pack;
+use store::pack_wide;
+use store::write_cell;
 use meaning::Outcome;
 use store::Scope;
 use store::Step;
@@ -34,7 +34,7 @@ pub fn put(
         return step;
     };
     let code = step.code;
-    write(work, scope.nodes, code, pack(op, a, b, c), mark);
+    write_cell(work, scope.nodes, code, pack(op, a, b, c), mark);
     store::advance(step, code + 1, result)
 }
 
@@ -57,7 +57,7 @@ pub fn put_wide(
         return step;
     };
     let code = step.code;
-    write(work, scope.nodes, code, pack_wide(op, a, n as usize), mark);
+    write_cell(work, scope.nodes, code, pack_wide(op, a, n as usize), mark);
     store::advance(step, code + 1, result)
 }
 

@@ -4,11 +4,13 @@ ghost use lib.ListN.{length};
 ghost use Rattle.meaning.specs.Chunk.{continue-offset, patch-jump, patch-loop, patch-end, patch-ends, patch-first};
 ghost use Rattle.meaning.specs.Opcode.{wide, Jmp};
 ghost use Rattle.store.specs.Layout.{top};
-ghost use Rattle.code.specs.Words.{Packs, Turns, Recoded, mended, patch-by, patched};
+ghost use Rattle.store.specs.Cell.{Packs};
+ghost use Rattle.code.specs.Words.{Turns, Recoded, mended, patch-by, patched};
 use crate::JMP;
-use crate::word::jump_back;
-use crate::word::pack_wide;
-use store::TOP;
+use store::jump_back;
+use store::pack_wide;
+use store::set_word;
+use store::word_at;
 
 // The low half of a continue's and of a break's word, by which fn is_continue and fn is_break go: the opcode and a.
 const CONTINUE: u32 = JMP + 256 * (instruction::JMP_CONTINUE as u32);
@@ -67,12 +69,11 @@ fn patch_each(work: &mut [u32], nodes: usize, first: usize, end: usize, looped: 
     requires { ⌜ (top nodes ≤ length (now work)) × (2 * end ≤ top nodes) × (first ≤ end) × (nodes ≤ 32768) ⌝ }
     ensures { λ _. ⌜ Recoded (now (work .entry)) nodes end end (mended (patched looped goal) first) (now (work .exit)) ⌝ }
 {
-    let top = TOP + 10 * nodes;
     let size = end - first;
     let mut i = first;
     while i < end {
-        let at = top - (2 * i + 2);
-        work[at] = patch(work[at], looped, goal, size, i - first);
+        let word = patch(word_at(work, nodes, i), looped, goal, size, i - first);
+        set_word(work, nodes, i, word);
         i += 1;
     }
 }
@@ -98,12 +99,10 @@ pub fn patch_first(work: &mut [u32], nodes: usize, first: usize, end: usize, off
     requires { ⌜ (top nodes ≤ length (now work)) × (2 * end ≤ top nodes) × (first ≤ end) × (nodes ≤ 32768) ⌝ }
     ensures { λ _. ⌜ Recoded (now (work .entry)) nodes end end (mended (patch-first offset) first) (now (work .exit)) ⌝ }
 {
-    let top = TOP + 10 * nodes;
     let mut i = first;
     while i < end {
-        let at = top - (2 * i + 2);
-        if work[at] == JMP {
-            work[at] = pack_wide(JMP, 0, offset);
+        if word_at(work, nodes, i) == JMP {
+            set_word(work, nodes, i, pack_wide(JMP, 0, offset));
             return;
         }
         i += 1;

@@ -36,11 +36,10 @@ fn add_prototype(
         return step;
     };
     let count = step.code - first;
-    let index = step.functions;
     if 32766 < count {
         return store::refuse(step, Cause::Long, node);
     }
-    if index == 256 {
+    if step.functions == 256 {
         return store::refuse(step, Cause::Prototypes, node);
     }
     let end = image::place_prototype(
@@ -54,14 +53,7 @@ fn add_prototype(
         count,
         params as u32,
     );
-    Step {
-        outcome: Outcome::Accepted(end),
-        code: first,
-        constants: step.constants,
-        globals: step.globals,
-        functions: index + 1,
-        result: index as u32,
-    }
+    store::prototype_more(step, first, end)
 }
 
 // fn leave_function of a function inside `scope`: its prototype, its code cut off, its locals popped.
@@ -77,14 +69,7 @@ pub fn leave_function(
     requires { ⌜ Fine (now work) (inner scope) step × Leavable (now work) scope × while-going (step .outcome) (first ≤ step .code) × (params < 65536) ⌝ }
     ensures { λ r. ⌜ Ends first (now (work .entry)) (now (out .entry)) scope step (now (work .exit)) (now (out .exit)) r nothing (leave-function first node params) × (r .result < 256) ⌝ }
 {
-    let inside = Scope {
-        nodes: scope.nodes,
-        depth: scope.depth + 1,
-        block: scope.block + 1,
-        loops: 0,
-        mode: scope.mode,
-        wide: scope.wide,
-    };
+    let inside = store::inner(scope);
     let next = add_prototype(work, out, step, inside, first, node, params);
     store::leave_block(work, scope);
     next

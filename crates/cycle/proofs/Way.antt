@@ -27,7 +27,7 @@ use Rattle.store.proofs.Runs.{due, promised, going-is, none-due, run-going, lea
 use Rattle.store.proofs.Compose.{none-moved, moves-then, moves-by, leaf-after, leaf-does, known}
 use Rattle.store.proofs.Around.{loop-entered}
 use Rattle.store.proofs.Visiting.{ticked-moves, ticked-runs}
-use Rattle.code.specs.Words.{Bytes}
+use Rattle.store.specs.Cell.{Bytes}
 use Rattle.routines.specs.Pieces.{Small}
 use Rattle.routines.specs.Node.{Lawful, OnNode, Gives}
 use Rattle.routines.proofs.Held.{lawful-kept}

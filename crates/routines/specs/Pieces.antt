@@ -10,7 +10,7 @@ use Rattle.meaning.specs.Chunk.{patch-loop}
 use Rattle.meaning.specs.declared.Instruction.{Instruction}
 use Rattle.store.specs.declared.Step.{Step}
 use Rattle.store.specs.declared.Scope.{Scope}
-use Rattle.store.specs.Layout.{edge, top}
+use Rattle.store.specs.Layout.{first-local, edge, top}
 use Rattle.store.specs.Store.{is-wide, while-going}
 use Rattle.store.specs.Promise.{Cost, uses, gives, live, taken}
 use Rattle.code.specs.Words.{mended}
@@ -41,7 +41,7 @@ a-name-back p = gives 0 0 (2 - (p .depth + p .block))
 
 -- room for a words and b locals, where e names of globals wait for their constants
 pub record Spare (w : List ℕ) (p : Scope) (s : Step) (a b e : ℕ) : Type 0 where
-  pub words : 11844 + 2 * p .nodes + live w p s + a ≤ top (p .nodes) + 3 * taken w (p .depth)
+  pub words : first-local (p .nodes) + 6120 + live w p s + a ≤ top (p .nodes) + 3 * taken w (p .depth)
   pub locals : edge w (p .nodes) (p .block) + b ≤ p .nodes + taken w (p .depth)
   pub globals : s .globals + 1 ≤ s .constants + min 2 (p .block) + e
 

@@ -1,8 +1,8 @@
 // A function's parameters, the end of its body and its Closure, which visit_fn_stmt and visit_function_expr share (`body` of `cycle`).
-ghost use Prim.Native.Nat.{_+_, _*_, _<_, _≤_};
+ghost use Prim.Native.Nat.{_+_, _<_, _≤_};
 ghost use Rattle.meaning.specs.Functions.{parameters};
 ghost use Rattle.forward.specs.Forward.{fwd-zero, sure, closure, end-body};
-ghost use Rattle.store.specs.Layout.{top};
+ghost use Rattle.store.specs.Layout.{first-local, top};
 ghost use Rattle.store.specs.Store.{while-going, Fine};
 ghost use Rattle.store.specs.Promise.{uses, some-registers, both, Room, Leaf, live};
 ghost use Rattle.routines.specs.Pieces.{tokens-from};
@@ -12,7 +12,6 @@ use meaning::Cause;
 use meaning::Outcome;
 use store::Scope;
 use store::Step;
-use store::TOP;
 
 const CLOSURE: u32 = OpCode::Closure as u32;
 
@@ -64,13 +63,12 @@ pub fn end_body(
         if code == first {
             return store::refuse(step, Cause::Empty, node);
         }
-        let top = TOP + 10 * scope.nodes;
-        let mark = work[top - (2 * code - 1)];
-        code::write(
+        let mark = store::mark_at(work, scope.nodes, code - 1);
+        store::write_cell(
             work,
             scope.nodes,
             code,
-            code::pack(RETURN, result, result + 2, 0),
+            store::pack(RETURN, result, result + 2, 0),
             mark,
         );
         return store::advance(step, code + 1, 0);
@@ -80,7 +78,7 @@ pub fn end_body(
 
 // Closure of the prototype that is the result.
 pub(crate) fn closure(work: &mut [u32], step: Step, scope: Scope, register: u32, mark: u32) -> Step
-    requires { ⌜ Fine (now work) scope step × while-going (step .outcome) ((5724 + 2 * scope .nodes + live (now work) scope step + 2 ≤ top (scope .nodes)) × (register < 256)) ⌝ }
+    requires { ⌜ Fine (now work) scope step × while-going (step .outcome) ((first-local (scope .nodes) + live (now work) scope step + 2 ≤ top (scope .nodes)) × (register < 256)) ⌝ }
     ensures { λ r. ⌜ Leaf (now (work .entry)) scope step (now (work .exit)) scope r (uses 2 0 0) (sure (closure register mark)) ⌝ }
 {
     let o = step.outcome;
@@ -88,11 +86,11 @@ pub(crate) fn closure(work: &mut [u32], step: Step, scope: Scope, register: u32,
         return step;
     };
     let code = step.code;
-    code::write(
+    store::write_cell(
         work,
         scope.nodes,
         code,
-        code::pack_wide(CLOSURE, register, step.result as usize),
+        store::pack_wide(CLOSURE, register, step.result as usize),
         mark,
     );
     store::advance(step, code + 1, register)

@@ -83,11 +83,11 @@ pub fn make_class(work: &mut [u32], step: Step, scope: Scope, class: u32, mark: 
         return step;
     };
     let code = step.code;
-    code::write(
+    store::write_cell(
         work,
         scope.nodes,
         code,
-        code::pack(CLASS, class, class + 1, step.result),
+        store::pack(CLASS, class, class + 1, step.result),
         mark,
     );
     store::advance(step, code + 1, step.result)

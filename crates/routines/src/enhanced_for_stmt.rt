@@ -219,11 +219,11 @@ pub fn end_for_in(
         return step;
     };
     let code = step.code;
-    code::write(
+    store::write_cell(
         work,
         scope.nodes,
         code,
-        code::pack(ADDI, counter, counter, 1),
+        store::pack(ADDI, counter, counter, 1),
         mark,
     );
     let goal = continue_goal(scope.mode, first, code);

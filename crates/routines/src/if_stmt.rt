@@ -18,12 +18,12 @@ pub fn end_branch(work: &mut [u32], step: Step, scope: Scope, test: usize, mark:
         return step;
     };
     let code = step.code;
-    code::write(work, scope.nodes, code, JMP, mark);
-    code::write(
+    store::write_cell(work, scope.nodes, code, JMP, mark);
+    store::write_cell(
         work,
         scope.nodes,
         test + 1,
-        code::pack_wide(JMP, 0, code - test),
+        store::pack_wide(JMP, 0, code - test),
         mark,
     );
     store::advance(step, code + 1, 0)

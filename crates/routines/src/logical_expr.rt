@@ -26,18 +26,18 @@ pub fn end_logical(
         return step;
     };
     let code = step.code;
-    code::write(
+    store::write_cell(
         work,
         scope.nodes,
         code,
-        code::pack(MOVE, left, step.result, 0),
+        store::pack(MOVE, left, step.result, 0),
         mark,
     );
-    code::write(
+    store::write_cell(
         work,
         scope.nodes,
         test + 1,
-        code::pack_wide(JMP, 0, code - test),
+        store::pack_wide(JMP, 0, code - test),
         mark,
     );
     store::advance(step, code + 1, left)

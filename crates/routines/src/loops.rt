@@ -36,12 +36,12 @@ pub(crate) fn close_loop(
     requires { ⌜ (top nodes ≤ length (now work)) × (2 * code + 2 ≤ top nodes) × (nodes ≤ 32768) × (first ≤ code) × (condition ≤ code) × (test + 2 ≤ code) ⌝ }
     ensures { λ _. ⌜ Recoded (now (work .entry)) nodes code (code + 1) (closed-loop goal first condition test mark) (now (work .exit)) ⌝ }
 {
-    code::write(work, nodes, code, code::jump_back(code - condition), mark);
-    code::write(
+    store::write_cell(work, nodes, code, store::jump_back(code - condition), mark);
+    store::write_cell(
         work,
         nodes,
         test + 1,
-        code::pack_wide(JMP, 0, code - test),
+        store::pack_wide(JMP, 0, code - test),
         mark,
     );
     code::patch_loop(work, nodes, first, code + 1, goal);

@@ -37,11 +37,11 @@ pub fn end_return(work: &mut [u32], step: Step, scope: Scope, node: usize, mark:
     if result == 254 {
         return store::refuse(step, Cause::Returned, node);
     }
-    code::write(
+    store::write_cell(
         work,
         scope.nodes,
         code,
-        code::pack(RETURN, result, result + 2, 0),
+        store::pack(RETURN, result, result + 2, 0),
         mark,
     );
     store::advance(step, code + 1, 0)

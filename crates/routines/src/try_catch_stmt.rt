@@ -35,8 +35,8 @@ pub fn end_try_body(work: &mut [u32], step: Step, scope: Scope) -> Step
         return step;
     };
     let code = step.code;
-    code::write(work, scope.nodes, code, DEREGISTER_TRY_CATCH, NO_MARK);
-    code::write(work, scope.nodes, code + 1, JMP, NO_MARK);
+    store::write_cell(work, scope.nodes, code, DEREGISTER_TRY_CATCH, NO_MARK);
+    store::write_cell(work, scope.nodes, code + 1, JMP, NO_MARK);
     store::advance(step, code + 2, step.result)
 }
 
@@ -67,11 +67,11 @@ pub fn end_try(work: &mut [u32], step: Step, scope: Scope, first: usize, body: u
         return step;
     };
     let code = step.code;
-    code::write(
+    store::write_cell(
         work,
         scope.nodes,
         first,
-        code::pack_wide(REGISTER_TRY_CATCH, 0, body + 2 - first),
+        store::pack_wide(REGISTER_TRY_CATCH, 0, body + 2 - first),
         NO_MARK,
     );
     code::patch_first(work, scope.nodes, first, code, code - (body + 1));

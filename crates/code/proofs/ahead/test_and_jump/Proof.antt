@@ -26,13 +26,13 @@ returns-2 c =
     let start = c .before .before .before .before .before .before .before .before .before .before .before .before .before in
     let told = c .before .before .before .before .before .before .before .before .before .before .enum-told in
     let pack = c .before .before .before .before .before .before .before .before .pack in
-    let write = c .before .before .before .before .before .before .before .write in
+    let write = c .before .before .before .before .before .before .before .write-cell in
     let a = start .args in
     let fine = start .pre .0 in
     let on = told .given .1 in
     let room = room-for 4 fine on (start .pre .1) in
     let one = spell (starts fine) (pack .ensures) (write .ensures) (omega (arith, room)) in
-    let two = spell {x = 3} {i = inst Jmp 0 0 0} one (record { is = λ m. refl }) ((c .before .before .before .write2) .ensures) (omega (arith, room)) in
+    let two = spell {x = 3} {i = inst Jmp 0 0 0} one (record { is = λ m. refl }) ((c .before .before .before .write-cell2) .ensures) (omega (arith, room)) in
     rw (c .advance .ensures) (coded (a .step .result) 4 _ fine on (as-many (omega arith) two) (omega arith) (omega arith) (result-small fine on) (λ t. refl))
 
 pub test-and-jump-spec : {M : Type 1} → statement M

@@ -10,22 +10,33 @@ use Rattle.code.proofs.patches.patch_each.Statement.{statement}
 use Rattle.code.proofs.patches.patch_each.Tie as tie
 
 abbrev Inv-loop : tie.InvT-loop
-Inv-loop work₀ nodes first end looped goal top size i₀ work i = (first ≤ i) × (i ≤ end) × Scanning work₀ work nodes first i (patch-by looped goal (end - first))
+Inv-loop work₀ nodes first end looped goal size i₀ work i = (first ≤ i) × (i ≤ end) × Scanning work₀ work nodes first i (patch-by looped goal (end - first))
 
 abbrev μ-loop : tie.MeasureT-loop
-μ-loop work₀ nodes first end looped goal top size i₀ work i = end - i
+μ-loop work₀ nodes first end looped goal size i₀ work i = end - i
 
 loop-holds : tie.Need-loop-holds Inv-loop μ-loop
 loop-holds c =
     let a = (c .before) .args in
     (omega arith, (c .before) .pre .2, scan-starts (now (a .work)) (a .nodes) (a .first) (patch-by (a .looped) (a .goal) (a .end - a .first)))
 
+word-at-requires : tie.Need-word-at-requires Inv-loop μ-loop
+word-at-requires c κs =
+    let start = c .before .before .before .before in
+    (omega (arith, start .pre .0, (c .before .before .loop) .inv .2 .same), omega (arith, start .pre .1, (c .before .loop-test) .taken), start .pre .3)
+
+set-word-requires : tie.Need-set-word-requires Inv-loop μ-loop
+set-word-requires c κs =
+    let start = c .before .before .before .before .before .before .before in
+    (omega (arith, start .pre .0, (c .before .before .before .before .before .loop) .inv .2 .same), omega (arith, start .pre .1, (c .before .before .before .before .loop-test) .taken), start .pre .3)
+
 loop-again : tie.Need-loop-again Inv-loop μ-loop
 loop-again c =
-    let start = c .before .before .before .before .before in
-    let test = c .before .before .loop-test in
-    let v = (c .before .before .before .loop) .inv in
-    (omega (arith, v .0), omega (arith, test .taken), scan-step (v .2) (v .0) (omega (arith, start .pre .1, test .taken)) (omega (arith, start .pre .0, v .2 .same)) ((c .patch) .ensures))
+    let start = c .before .before .before .before .before .before .before .before .before .before in
+    let test = c .before .before .before .before .before .before .before .loop-test in
+    let v = (c .before .before .before .before .before .before .before .before .loop) .inv in
+    let turned = rw (c .before .before .before .before .before .word-at .ensures) at (c .before .before .before .before .patch .ensures) in
+    (omega (arith, v .0), omega (arith, test .taken), rw (c .before .before .set-word .ensures) (scan-step (v .2) (v .0) (omega (arith, start .pre .1, test .taken)) (omega (arith, start .pre .0, v .2 .same)) turned))
 
 same-length : tie.Need-same-length Inv-loop μ-loop
 same-length c = (c .before .loop) .inv .2 .same
@@ -43,21 +54,14 @@ patch-each-spec =
     (tie.spec
     Inv-loop
     μ-loop
-    (λ c. omega (arith, (c .before) .pre .3))
-    (λ c. omega (arith, (c .before) .pre .3))
     (λ c. omega (arith, (c .before) .pre .2))
     loop-holds
-    (λ c. omega (arith, (c .before .before .before) .pre .1, (c .before .before .before) .pre .3, (c .loop-test) .taken))
-    (λ c. omega (arith, (c .before .before .before) .pre .1, (c .before .before .before) .pre .3, (c .loop-test) .taken))
-    (λ c. omega (arith, (c .before .before .before) .pre .1, (c .loop-test) .taken))
-    (λ c. omega (arith, (c .before .before .before) .pre .1, (c .before .before .before) .pre .3, (c .loop-test) .taken))
-    (λ c. omega (arith, (c .before .before .before .before) .pre .0, (c .before .before .loop) .inv .2 .same))
-    (λ c. omega (arith, (c .before .before .loop) .inv .0))
-    (λ c κs. omega (arith, (c .before .before .loop) .inv .0, (c .before .loop-test) .taken))
-    (λ c. omega (arith, (c .before .before .before .before .before) .pre .1, (c .before .before .before .before .before) .pre .3, (c .before .before .loop-test) .taken))
-    (λ c. omega (arith, (c .before .before .before .before .before) .pre .0, (c .before .before .before .loop) .inv .2 .same))
-    (λ c. omega (arith, (c .before .before .before .before .before) .pre .1, (c .before .before .before .before .before) .pre .3, (c .before .before .loop-test) .taken))
-    (λ c. omega (arith, (c .before .before .loop-test) .taken))
+    word-at-requires
+    (λ c. omega (arith, (c .before .before .before .loop) .inv .0))
+    (λ c κs. omega (arith, (c .before .before .before .loop) .inv .0, (c .before .before .loop-test) .taken))
+    set-word-requires
+    (λ c. omega (arith, (c .before .before .before .before .before .before .before .before .before .before) .pre .1, (c .before .before .before .before .before .before .before .before .before .before) .pre .3, (c .before .before .before .before .before .before .before .loop-test) .taken))
+    (λ c. omega (arith, (c .before .before .before .before .before .before .before .loop-test) .taken))
     loop-again
     same-length
     returns)

@@ -1,69 +1,61 @@
 -- `code::patches::patch_first` meets its contract: no jump to the end is passed over, and the first one is set. Assumes nothing.
-use mathlib.Core.Path.{_≡_, refl, ap, _∙_}
-use Prim.Native.Nat.{ℕ, _+_, _*_, _≤_, _-_}
+use mathlib.Core.Path.{_≡_, refl, sym, ap, _∙_}
+use Prim.Native.Nat.{_≤_, _-_}
 use native.Mathlib.Omega.{arith}
-use lib.ListN.{length, length-set}
+use lib.ListN.{length}
 use denote.Ref.{now}
-use Rattle.store.specs.Layout.{top}
+use Rattle.store.specs.Layout.{cell}
 use Rattle.code.proofs.Scans.{None, none-more, first-none, first-found}
 use Rattle.code.proofs.Turning.{no-end, end-is, turns-first}
 use Rattle.code.proofs.patches.patch_first.Statement.{statement}
 use Rattle.code.proofs.patches.patch_first.Tie as tie
 
 abbrev Inv-loop : tie.InvT-loop
-Inv-loop work₀ nodes first end offset top i₀ work i = (first ≤ i) × (i ≤ end) × (work ≡ work₀) × None work₀ nodes first offset i
+Inv-loop work₀ nodes first end offset i₀ work i = (first ≤ i) × (i ≤ end) × (work ≡ work₀) × None work₀ nodes first offset i
 
 abbrev μ-loop : tie.MeasureT-loop
-μ-loop work₀ nodes first end offset top i₀ work i = end - i
+μ-loop work₀ nodes first end offset i₀ work i = end - i
 
 loop-holds : tie.Need-loop-holds Inv-loop μ-loop
 loop-holds c = (omega arith, (c .before) .pre .2, refl, λ k a b. absurd (omega arith))
 
-slice-read-if1 : tie.Need-slice-read-if1 Inv-loop μ-loop
-slice-read-if1 c =
+word-at-requires : tie.Need-word-at-requires Inv-loop μ-loop
+word-at-requires c κs =
     let start = c .before .before .before .before in
-    rw ((c .before .before .loop) .inv .2) (omega (arith, start .pre .0))
+    (rw ((c .before .before .loop) .inv .2) (start .pre .0), omega (arith, start .pre .1, (c .before .loop-test) .taken), start .pre .3)
 
 pack-wide-requires : tie.Need-pack-wide-requires Inv-loop μ-loop
 pack-wide-requires c κs = (omega arith, omega arith)
 
-mul-work : tie.Need-mul-work Inv-loop μ-loop
-mul-work c =
-    let start = c .before .before .before .before .before .before in
-    omega (arith, start .pre .1, start .pre .3, (c .before .before .before .loop-test) .taken)
-
-slice-write-work : tie.Need-slice-write-work Inv-loop μ-loop
-slice-write-work c =
-    let start = c .before .before .before .before .before .before in
-    let turn = c .before .before .before .before .loop in
-    rw (turn .inv .2) (omega (arith, start .pre .0))
+set-word-requires : tie.Need-set-word-requires Inv-loop μ-loop
+set-word-requires c κs =
+    let start = c .before .before .before .before .before .before .before .before in
+    (rw ((c .before .before .before .before .before .before .loop) .inv .2) (start .pre .0), omega (arith, start .pre .1, (c .before .before .before .before .before .loop-test) .taken), start .pre .3)
 
 same-length : tie.Need-same-length Inv-loop μ-loop
-same-length c =
-    let turn = c .before .before .before .before .loop in
-    length-set (turn .work) _ ((c .pack-wide) .result) ∙ ap length (turn .inv .2)
+same-length c = c .before .before .set-word .kept .0 ∙ ap length ((c .before .before .before .before .before .before .before .before .before .loop) .inv .2)
 
 returns : tie.Need-returns Inv-loop μ-loop
 returns c =
+    let start = c .before .before .before .before .before .before .before .before .before .before .before in
+    let turn = c .before .before .before .before .before .before .before .before .before .loop in
+    let a = start .args in
+    let w = now (a .work) in
+    let v = turn .inv in
+    let x = rw (v .2) at (sym (c .before .before .before .before .before .before .word-at .ensures) ∙ (c .before .before .before .before .before .if1) .taken) in
+    rw (c .before .before .set-word .ensures, v .2)
+    (first-found w (a .nodes) (a .first) (a .offset) (a .end) (turn .i) (v .0) ((c .before .before .before .before .before .before .before .before .loop-test) .taken) (start .pre .1) (start .pre .0) (v .3) (end-is _ x) (turns-first (a .offset) x ((c .before .before .before .pack-wide) .ensures)))
+
+loop-again : tie.Need-loop-again Inv-loop μ-loop
+loop-again c =
     let start = c .before .before .before .before .before .before in
+    let slice-known = c .before .before .before .before .before .slice-known in
     let turn = c .before .before .before .before .loop in
     let a = start .args in
     let w = now (a .work) in
     let v = turn .inv in
-    let x = rw (v .2) at ((c .before .if1) .taken) in
-    rw (v .2) (first-found w (a .nodes) (a .first) (a .offset) (a .end) (turn .i) (v .0) ((c .before .before .before .loop-test) .taken) (start .pre .1) (start .pre .0) (v .3) (end-is _ x) (turns-first (a .offset) x ((c .pack-wide) .ensures)))
-
-loop-again : tie.Need-loop-again Inv-loop μ-loop
-loop-again c =
-    let start = c .before .before .before .before .before in
-    let slice-known = c .before .before .before .before .slice-known in
-    let turn = c .before .before .before .loop in
-    let a = start .args in
-    let w = now (a .work) in
-    let v = turn .inv in
-    let at : ℕ = top (a .nodes) - (2 * turn .i + 2) in
-    let ne = rw (v .2) at ((c .if1) .left) in
-    (omega (arith, v .0), omega (arith, (c .before .before .loop-test) .taken), v .2, none-more w (a .nodes) (a .first) (a .offset) (turn .i) (v .3) (no-end _ (omega (arith, slice-known .given at)) ne))
+    let ne = rw (c .before .word-at .ensures, v .2) at ((c .if1) .left) in
+    (omega (arith, v .0), omega (arith, (c .before .before .before .loop-test) .taken), v .2, none-more w (a .nodes) (a .first) (a .offset) (turn .i) (v .3) (no-end _ (omega (arith, slice-known .given (cell (a .nodes) (turn .i)))) ne))
 
 same-length-2 : tie.Need-same-length-2 Inv-loop μ-loop
 same-length-2 c = ap length ((c .before .loop) .inv .2)
@@ -82,21 +74,14 @@ patch-first-spec =
     (tie.spec
     Inv-loop
     μ-loop
-    (λ c. omega (arith, (c .before) .pre .3))
-    (λ c. omega (arith, (c .before) .pre .3))
     loop-holds
-    (λ c. omega (arith, (c .before .before .before) .pre .1, (c .before .before .before) .pre .3, (c .loop-test) .taken))
-    (λ c. omega (arith, (c .before .before .before) .pre .1, (c .before .before .before) .pre .3, (c .loop-test) .taken))
-    (λ c. omega (arith, (c .before .before .before) .pre .1, (c .loop-test) .taken))
-    (λ c. omega (arith, (c .before .before .before) .pre .1, (c .before .before .before) .pre .3, (c .loop-test) .taken))
-    slice-read-if1
+    word-at-requires
     pack-wide-requires
-    mul-work
-    slice-write-work
+    set-word-requires
     same-length
     returns
-    (λ c. omega (arith, (c .before .before .before .before .before) .pre .1, (c .before .before .before .before .before) .pre .3, (c .before .before .loop-test) .taken))
-    (λ c. omega (arith, (c .before .before .loop-test) .taken))
+    (λ c. omega (arith, (c .before .before .before .before .before .before) .pre .1, (c .before .before .before .before .before .before) .pre .3, (c .before .before .before .loop-test) .taken))
+    (λ c. omega (arith, (c .before .before .before .loop-test) .taken))
     loop-again
     same-length-2
     returns-2)

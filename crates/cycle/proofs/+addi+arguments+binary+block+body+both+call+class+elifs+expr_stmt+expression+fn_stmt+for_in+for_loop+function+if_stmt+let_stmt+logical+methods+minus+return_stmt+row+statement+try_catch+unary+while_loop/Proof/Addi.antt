@@ -7,7 +7,7 @@ use Rattle.code.proofs.emit.Reads as emit-reads
 use Rattle.cycle.proofs.reading.words_of.Reads as words-of-reads
 use Rattle.store.proofs.next_register.Reads as next-register-reads
 use Rattle.cycle.proofs.+addi+arguments+binary+block+body+both+call+class+elifs+expr_stmt+expression+fn_stmt+for_in+for_loop+function+if_stmt+let_stmt+logical+methods+minus+return_stmt+row+statement+try_catch+unary+while_loop.Proof.Order.{addi-at, expression-below}
-use Rattle.code.specs.Words.{Bytes}
+use Rattle.store.specs.Cell.{Bytes}
 use Rattle.cycle.proofs.Nodes.{a-binary, binary-stands}
 use Rattle.cycle.proofs.Sizes.{binary-size}
 use Rattle.cycle.proofs.Way.{_▹_, arrive, ends, fits, from, give-expr, headed, keeps, next-leaf, readable, small, stand}

@@ -9,7 +9,7 @@ use Rattle.cycle.proofs.reading.payload_of.Reads as payload-of-reads
 use Rattle.nodes.proofs.child.Reads as child-reads
 use Rattle.store.proofs.settle.Reads as settle-reads
 use Rattle.cycle.proofs.+addi+arguments+binary+block+body+both+call+class+elifs+expr_stmt+expression+fn_stmt+for_in+for_loop+function+if_stmt+let_stmt+logical+methods+minus+return_stmt+row+statement+try_catch+unary+while_loop.Proof.Order.{arguments-at, expression-below}
-use Rattle.code.specs.Words.{Bytes}
+use Rattle.store.specs.Cell.{Bytes}
 use Rattle.cycle.proofs.Sizes.{exprs-size, exprs-size-none}
 use Rattle.cycle.proofs.Turns.{Turning, closed, none-turned, turned}
 use Rattle.cycle.proofs.Way.{_▹_, arrive, counted, fits, from, give-expr, narrow-or-wide, next-leaf, placed, readable, small, spends, stand}

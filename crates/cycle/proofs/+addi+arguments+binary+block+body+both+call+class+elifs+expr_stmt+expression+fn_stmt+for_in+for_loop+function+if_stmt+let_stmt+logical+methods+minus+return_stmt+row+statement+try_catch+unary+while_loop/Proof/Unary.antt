@@ -7,7 +7,7 @@ use Rattle.code.proofs.emit.Reads as emit-reads
 use Rattle.cycle.proofs.operators.unary_opcode.Reads as unary-opcode-reads
 use Rattle.cycle.proofs.reading.three_of.Reads as three-of-reads
 use Rattle.cycle.proofs.+addi+arguments+binary+block+body+both+call+class+elifs+expr_stmt+expression+fn_stmt+for_in+for_loop+function+if_stmt+let_stmt+logical+methods+minus+return_stmt+row+statement+try_catch+unary+while_loop.Proof.Order.{expression-below, unary-at}
-use Rattle.code.specs.Words.{Bytes}
+use Rattle.store.specs.Cell.{Bytes}
 use Rattle.cycle.proofs.Nodes.{a-unary, unary-stands}
 use Rattle.cycle.proofs.Visited.{unary-visits}
 use Rattle.cycle.proofs.Sizes.{unary-size}

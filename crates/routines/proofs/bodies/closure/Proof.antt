@@ -18,8 +18,8 @@ pack-wide-requires c κs =
     let start = c .before .before .before .before .before in
     (omega arith, met ((c .before .before .enum-told) .given .1) (start .pre .1) .1)
 
-write-requires : tie.Need-write-requires
-write-requires c κs =
+write-cell-requires : tie.Need-write-cell-requires
+write-cell-requires c κs =
     let start = c .before .before .before .before .before .before in
     let fine = start .pre .0 in
     let h = met ((c .before .before .before .enum-told) .given .1) (start .pre .1) in
@@ -34,7 +34,7 @@ returns-2 c =
     let fine = start .pre .0 in
     let on = told .given .1 in
     let h = met on (start .pre .1) in
-    let one = spell (starts fine) ((c .before .before .before .before .pack-wide) .ensures) ((c .before .before .before .write) .ensures) (omega (arith, h .0)) in
+    let one = spell (starts fine) ((c .before .before .before .before .pack-wide) .ensures) ((c .before .before .before .write-cell) .ensures) (omega (arith, h .0)) in
     rw (c .advance .ensures) (coded (a .register) 2 _ fine on one (omega arith) (omega arith) (omega (arith, h .1)) (λ t. refl))
 
 pub closure-spec : {M : Type 1} → statement M
@@ -46,7 +46,7 @@ closure-spec =
     returns
     (λ c. search needs)
     pack-wide-requires
-    write-requires
+    write-cell-requires
     (λ c. search needs)
     (λ c κs. search needs)
     (λ c. search needs)

@@ -7,7 +7,7 @@ use denote.Ref.{now}
 use Prim.Native.Nat.{ℕ, _+_, _*_, _-_, _≤_}
 use Rattle.meaning.specs.Opcode.{inst}
 use Rattle.store.specs.Table.{tab}
-use Rattle.store.specs.Layout.{top, inst-at}
+use Rattle.store.specs.Layout.{mark-cell, inst-at}
 use native.Mathlib.Omega.{arith}
 use Rattle.store.specs.Promise.{uses}
 use Rattle.store.proofs.Runs.{leaf-absorbed}
@@ -21,10 +21,9 @@ use Rattle.routines.proofs.bodies.end_body.Statement.{statement}
 use Rattle.routines.proofs.bodies.end_body.Tie as tie
 
 -- the mark of the last instruction
-last-mark : (w : List ℕ) (n k : ℕ) → 1 ≤ k → getD w (top n - (2 * k - 1)) 0 ≡ getD (tab (inst-at w n) k) (length (tab (inst-at w n) k) - 1) (inst 0 0 0 0 0) .mark
+last-mark : (w : List ℕ) (n k : ℕ) → 1 ≤ k → getD w (mark-cell n (k - 1)) 0 ≡ getD (tab (inst-at w n) k) (length (tab (inst-at w n) k) - 1) (inst 0 0 0 0 0) .mark
 last-mark w n k h =
-    let e : 2 * k - 1 ≡ 2 * (k - 1) + 1 = omega arith in
-    rw (tab-length (inst-at w n) k, e) (sym (ap (λ i. i .mark) (tab-getD (inst-at w n) k (k - 1) (inst 0 0 0 0 0) (omega arith))))
+    rw (tab-length (inst-at w n) k) (sym (ap (λ i. i .mark) (tab-getD (inst-at w n) k (k - 1) (inst 0 0 0 0 0) (omega arith))))
 
 returns : tie.Need-returns
 returns c = leaf-absorbed (uses 2 0 0) _ ((c .before .before .before) .pre .0) ((c .enum-told2) .given .1)
@@ -46,6 +45,13 @@ returns-3 c =
     let size = tab-length (inst-at (now (a .work)) (a .scope .nodes)) (a .step .code) in
     rw ((c .refuse2) .ensures)
     (refusing (uses 2 0 0) _ Empty (a .node) (start .pre .0) (told .given .1) (λ t. rw (eq-eqb (a .count) 1 ((c .before .before .before .if1) .taken), ne-eqb (a .step .result) 254 ((c .before .before .if2) .left), size, eq-eqb (a .step .code) (a .first) ((c .before .if3) .taken))))
+
+mark-at-requires : tie.Need-mark-at-requires
+mark-at-requires c κs =
+    let start = c .before .before .before .before .before .before .before in
+    let fine = start .pre .0 in
+    let h = met ((c .before .before .before .before .enum-told) .given .1) (start .pre .2) in
+    (omega (arith, fine .sound .long), omega (arith, fine .room, h, (c .before .if3) .left), fine .sound .few)
 
 add-pack : tie.Need-add-pack
 add-pack c =
@@ -78,10 +84,10 @@ returns-4 c =
     let room = room-for 2 fine on (start .pre .1) in
     let some : 1 ≤ a .step .code = omega (arith, h, if3 .left) in
     let size = tab-length (inst-at w (a .scope .nodes)) (a .step .code) in
-    let one = spell (starts fine) ((c .before .before .before .before .pack) .ensures) ((c .before .before .before .write) .ensures) (omega (arith, room)) in
+    let one = spell (starts fine) ((c .before .before .before .before .pack) .ensures) ((c .before .before .before .write-cell) .ensures) (omega (arith, room)) in
     rw (c .advance .ensures)
     (coded 0 2 _ fine on one (omega arith) (omega arith) (omega arith)
-    (λ t. rw (eq-eqb (a .count) 1 (if1 .taken), ne-eqb (a .step .result) 254 (if2 .left), ← (last-mark w (a .scope .nodes) (a .step .code) some), size, ne-eqb (a .step .code) (a .first) (if3 .left))))
+    (λ t. rw (c .before .before .before .before .before .before .mark-at .ensures, eq-eqb (a .count) 1 (if1 .taken), ne-eqb (a .step .result) 254 (if2 .left), ← (last-mark w (a .scope .nodes) (a .step .code) some), size, ne-eqb (a .step .code) (a .first) (if3 .left))))
 
 returns-5 : tie.Need-returns-5
 unfolding end-body pick
@@ -102,13 +108,8 @@ end-body-spec =
     returns-2
     (λ c κs. search needs)
     returns-3
-    (λ c. search needs)
-    (λ c. search needs)
-    (λ c. search needs)
     (λ c. omega (arith, met ((c .before .before .before .before .enum-told) .given .1) ((c .before .before .before .before .before .before .before) .pre .2), (c .before .if3) .left))
-    (λ c. search needs)
-    (λ c. search needs)
-    (λ c. search needs)
+    mark-at-requires
     add-pack
     pack-requires
     (λ c κs. search needs)

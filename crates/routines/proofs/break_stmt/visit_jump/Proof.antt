@@ -8,7 +8,7 @@ use Rattle.meaning.specs.declared.Cause.the-variants.{Stray}
 use Rattle.forward.proofs.Chains.{jump-chain}
 use Rattle.store.specs.Promise.{uses}
 use Rattle.store.proofs.Compose.{loops-told, refused-leaf}
-use Rattle.code.specs.Words.{Bytes}
+use Rattle.store.specs.Cell.{Bytes}
 use Rattle.routines.proofs.NodeLine.{one, always, small-put, small-refused, gives}
 use Rattle.routines.proofs.break_stmt.visit_jump.Statement.{statement}
 use Rattle.routines.proofs.break_stmt.visit_jump.Tie as tie

@@ -28,7 +28,7 @@ returns-2 c =
     let fine = start .pre .0 in
     let on = told .given .1 in
     let room = room-for 2 fine on (start .pre .1) in
-    let one = spell (starts fine) ((c .before .before .before .before .pack) .ensures) ((c .before .before .before .write) .ensures) (omega (arith, room)) in
+    let one = spell (starts fine) ((c .before .before .before .before .pack) .ensures) ((c .before .before .before .write-cell) .ensures) (omega (arith, room)) in
     rw (c .advance .ensures) (coded (a .step .result) 2 _ fine on one (omega arith) (omega arith) (result-small fine on) (λ t. refl))
 
 pub make-class-spec : {M : Type 1} → statement M

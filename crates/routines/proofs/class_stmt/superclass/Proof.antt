@@ -14,7 +14,7 @@ use Rattle.forward.proofs.Chains.{super-chain, super-none-chain}
 use Rattle.store.specs.Promise.{nothing, takes}
 use Rattle.store.proofs.Visiting.{ticked-runs}
 use Rattle.store.proofs.Compose.{known}
-use Rattle.code.specs.Words.{Bytes}
+use Rattle.store.specs.Cell.{Bytes}
 use Rattle.routines.proofs.Held.{inside, readable, lawful-kept, class-named, super-none, super-some}
 use Rattle.routines.proofs.NodeLine.{one, counting, _▹_, room-after, always, small-emit, gives}
 use Rattle.routines.proofs.class_stmt.superclass.Statement.{statement}

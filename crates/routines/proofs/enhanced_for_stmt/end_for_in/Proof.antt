@@ -42,7 +42,7 @@ close-loop-requires c κs =
     let fine = start .pre .0 in
     let on = told .given .1 in
     let h = met on (start .pre .2) in
-    (omega (arith, fine .sound .long, (c .before .before .before .before .write) .kept .0), omega (arith, room-for 4 fine on (start .pre .1)), fine .sound .few, omega (arith, h .0), omega (arith, h .1), omega (arith, h .1))
+    (omega (arith, fine .sound .long, (c .before .before .before .before .write-cell) .kept .0), omega (arith, room-for 4 fine on (start .pre .1)), fine .sound .few, omega (arith, h .0), omega (arith, h .1), omega (arith, h .1))
 
 returns-2 : tie.Need-returns-2
 unfolding end-for-in end-loop jump-here
@@ -50,7 +50,7 @@ returns-2 c =
     let start = c .before .before .before .before .before .before .before .before .before .before .before .before .before .before in
     let told = c .before .before .before .before .before .before .before .before .before .before .before .enum-told in
     let pack = c .before .before .before .before .before .before .before .before .before .pack in
-    let write = c .before .before .before .before .before .before .before .before .write in
+    let write = c .before .before .before .before .before .before .before .before .write-cell in
     let a = start .args in
     let fine = start .pre .0 in
     let on = told .given .1 in

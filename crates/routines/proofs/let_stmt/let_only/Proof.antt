@@ -13,7 +13,7 @@ use Rattle.forward.proofs.Chains.{let-only-chain}
 use Rattle.store.specs.Promise.{uses}
 use Rattle.store.proofs.Compose.{known, room-by}
 use Rattle.store.proofs.Pools.{global-here}
-use Rattle.code.specs.Words.{Bytes}
+use Rattle.store.specs.Cell.{Bytes}
 use Rattle.routines.proofs.Held.{inside, readable, let-named}
 use Rattle.routines.proofs.NodeLine.{one, _▹_, room-after, always, small-put, gives}
 use Rattle.routines.proofs.let_stmt.let_only.Statement.{statement}

@@ -18,7 +18,7 @@ pack-requires c κs =
     let h = met ((c .before .enum-told) .given .1) (start .pre .2) in
     record { op-small = omega arith; a-small = h .1; b-small = h .2; c-small = omega arith }
 
-add-write : tie.Need-add-write
+add-write : tie.Need-add-write-cell
 add-write c =
     let start = c .before .before .before .before .before .before .before .before .before in
     let told = c .before .before .before .before .before .before .enum-told in
@@ -30,11 +30,11 @@ sub-pack-wide c =
     let told = c .before .before .before .before .before .before .enum-told in
     omega (arith, met (told .given .1) (start .pre .2) .0)
 
-write-requires-2 : tie.Need-write-requires-2
-write-requires-2 c κs =
+write-cell-requires-2 : tie.Need-write-cell-requires-2
+write-cell-requires-2 c κs =
     let start = c .before .before .before .before .before .before .before .before .before .before in
     let told = c .before .before .before .before .before .before .before .enum-told in
-    let write = c .before .before .before .before .write in
+    let write = c .before .before .before .before .write-cell in
     let fine = start .pre .0 in
     let h = met (told .given .1) (start .pre .2) in
     (omega (arith, fine .sound .long, write .kept .0), omega (arith, fine .room, h .0), fine .sound .few)
@@ -45,14 +45,14 @@ returns-2 c =
     let start = c .before .before .before .before .before .before .before .before .before .before .before .before .before .before in
     let told = c .before .before .before .before .before .before .before .before .before .before .before .enum-told in
     let pack = c .before .before .before .before .before .before .before .before .before .pack in
-    let write = c .before .before .before .before .before .before .before .before .write in
+    let write = c .before .before .before .before .before .before .before .before .write-cell in
     let a = start .args in
     let fine = start .pre .0 in
     let on = told .given .1 in
     let h = met on (start .pre .2) in
     let room = room-for 2 fine on (start .pre .1) in
     let one = spell (starts fine) (pack .ensures) (write .ensures) (omega (arith, room)) in
-    let two = spell-over one ((c .before .before .before .before .pack-wide) .ensures) ((c .before .before .before .write2) .ensures) (omega (arith, h .0)) in
+    let two = spell-over one ((c .before .before .before .before .pack-wide) .ensures) ((c .before .before .before .write-cell2) .ensures) (omega (arith, h .0)) in
     rw (c .advance .ensures) (coded (a .left) 2 _ fine on two (omega arith) (omega arith) (omega (arith, h .1)) (jumped _ (a .step .code) (a .test) (a .mark) (a .left) _ _))
 
 pub end-logical-spec : {M : Type 1} → statement M
@@ -67,7 +67,7 @@ end-logical-spec =
     add-write
     sub-pack-wide
     (λ c κs. search needs)
-    write-requires-2
+    write-cell-requires-2
     (λ c. search needs)
     (λ c κs. search needs)
     (λ c. search needs)

@@ -29,9 +29,9 @@ returns : tie.Need-returns
 returns c =
     let start = c .before .before .before .before .before .before .before .before .before .before .before .before .before .before .before in
     let jump-back = c .before .before .before .before .before .before .before .before .before .before .before .before .jump-back in
-    let write = c .before .before .before .before .before .before .before .before .before .before .before .write in
+    let write = c .before .before .before .before .before .before .before .before .before .before .before .write-cell in
     let pack-wide = c .before .before .before .before .before .before .before .pack-wide in
-    let write2 = c .before .before .before .before .before .before .write2 in
+    let write2 = c .before .before .before .before .before .before .write-cell2 in
     let a = start .args in
     let pre = start .pre in
     let n : ℕ = a .nodes in

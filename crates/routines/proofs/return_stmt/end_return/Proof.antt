@@ -38,7 +38,7 @@ returns-3 c =
     let fine = start .pre .0 in
     let on = told .given .1 in
     let room = room-for 2 fine on (start .pre .1) in
-    let one = spell (starts fine) ((c .before .before .before .before .pack) .ensures) ((c .before .before .before .write) .ensures) (omega (arith, room)) in
+    let one = spell (starts fine) ((c .before .before .before .before .pack) .ensures) ((c .before .before .before .write-cell) .ensures) (omega (arith, room)) in
     rw (c .advance .ensures) (coded 0 2 _ fine on one (omega arith) (omega arith) (omega arith) (λ t. rw (ne-eqb (a .step .result) 254 (if1 .left))))
 
 pub end-return-spec : {M : Type 1} → statement M

@@ -11,7 +11,7 @@ use Rattle.meaning.proofs.Reading.{return-node}
 use Rattle.forward.proofs.Chains.{return-none-chain}
 use Rattle.store.specs.Promise.{uses}
 use Rattle.store.proofs.Compose.{room-by}
-use Rattle.code.specs.Words.{Bytes}
+use Rattle.store.specs.Cell.{Bytes}
 use Rattle.routines.proofs.Held.{inside, readable, return-mark}
 use Rattle.routines.proofs.NodeLine.{one, always, small-put, gives}
 use Rattle.routines.proofs.return_stmt.return_none.Statement.{statement}

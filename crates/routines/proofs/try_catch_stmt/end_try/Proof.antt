@@ -15,8 +15,8 @@ use Rattle.routines.proofs.try_catch_stmt.end_try.Tie as tie
 returns : tie.Need-returns
 returns c = leaf-absorbed (uses 0 0 0) _ ((c .before .before .before) .pre .0) ((c .enum-told2) .given .1)
 
-write-requires : tie.Need-write-requires
-write-requires c κs =
+write-cell-requires : tie.Need-write-cell-requires
+write-cell-requires c κs =
     let start = c .before .before .before .before .before in
     let fine = start .pre .0 in
     let h = met ((c .before .before .enum-told) .given .1) (start .pre .1) in
@@ -40,7 +40,7 @@ patch-first-requires c κs =
     let told = c .before .before .before .before .before .before .enum-told in
     let fine = start .pre .0 in
     let h = met (told .given .1) (start .pre .1) in
-    (omega (arith, fine .sound .long, (c .before .before .before .write) .kept .0), omega (arith, fine .room), omega (arith, h .0, h .1), fine .sound .few)
+    (omega (arith, fine .sound .long, (c .before .before .before .write-cell) .kept .0), omega (arith, fine .room), omega (arith, h .0, h .1), fine .sound .few)
 
 returns-2 : tie.Need-returns-2
 unfolding end-try
@@ -48,7 +48,7 @@ returns-2 c =
     let start = c .before .before .before .before .before .before .before .before .before .before .before .before .before in
     let told = c .before .before .before .before .before .before .before .before .before .before .enum-told in
     let pack-wide = c .before .before .before .before .before .before .before .before .pack-wide in
-    let write = c .before .before .before .before .before .before .before .write in
+    let write = c .before .before .before .before .before .before .before .write-cell in
     let a = start .args in
     let fine = start .pre .0 in
     let on = told .given .1 in
@@ -67,7 +67,7 @@ end-try-spec =
     (λ c. omega (arith, met ((c .before .enum-told) .given .1) ((c .before .before .before .before) .pre .1) .1, (c .before .before .before .before) .pre .0 .room, (c .before .before .before .before) .pre .0 .sound .few))
     (λ c. omega (arith, met ((c .before .enum-told) .given .1) ((c .before .before .before .before) .pre .1) .0))
     (λ c κs. search needs)
-    write-requires
+    write-cell-requires
     add-patch-first
     sub-patch-first
     patch-first-requires

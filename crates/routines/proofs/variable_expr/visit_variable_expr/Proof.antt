@@ -7,7 +7,7 @@ use Rattle.forward.proofs.Chains.{variable-chain}
 use Rattle.store.specs.Search.{option-of}
 use Rattle.store.specs.Promise.{nothing}
 use Rattle.store.proofs.Compose.{known, settled}
-use Rattle.code.specs.Words.{Bytes}
+use Rattle.store.specs.Cell.{Bytes}
 use Rattle.routines.proofs.Held.{not-found, found-small}
 use Rattle.routines.proofs.NodeLine.{one, asked, _▹_, room-after, always, small-emit, gives, told-by}
 use Rattle.routines.proofs.variable_expr.visit_variable_expr.Statement.{statement}
