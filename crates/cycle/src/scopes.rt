@@ -8,12 +8,5 @@ pub(crate) fn in_loop(scope: Scope) -> Scope
     requires { ⌜ (scope .loops < scope .nodes + 10) × (scope .nodes ≤ 32768) ⌝ }
     ensures { λ r. ⌜ r ≡ looped scope ⌝ }
 {
-    Scope {
-        nodes: scope.nodes,
-        depth: scope.depth,
-        block: scope.block,
-        loops: scope.loops + 1,
-        mode: scope.mode,
-        wide: scope.wide,
-    }
+    store::looped(scope)
 }

@@ -17,6 +17,58 @@ use Rattle.meaning.specs.declared.Outcome.{Outcome}
 use Rattle.meaning.specs.declared.Outcome.the-variants.{Accepted, Refused}
 use Rattle.forward.specs.Forward.{Config, config, Run, stopped, going}
 
+-- ---- what a scope and a step hold: specs outside this crate name it so, and how the two records are laid out is said here alone
+
+-- the number of nodes, which fixes the layout
+abbrev pub nodes-of : Scope → ℕ
+nodes-of p = p .nodes
+
+-- the functions around the current one
+abbrev pub depth-of : Scope → ℕ
+depth-of p = p .depth
+
+-- the open blocks
+abbrev pub block-of : Scope → ℕ
+block-of p = p .block
+
+-- the current function's open loops
+abbrev pub loops-of : Scope → ℕ
+loops-of p = p .loops
+
+-- the mode of the call
+abbrev pub mode-of : Scope → ℕ
+mode-of p = p .mode
+
+-- 1 where marks have four bytes, else 0
+abbrev pub wide-of : Scope → ℕ
+wide-of p = p .wide
+
+-- accepted so far, or the refusal
+abbrev pub outcome-of : Step → Outcome
+outcome-of s = s .outcome
+
+-- how many instructions are pending
+abbrev pub pc-of : Step → ℕ
+pc-of s = s .code
+
+-- how many constants there are
+abbrev pub constants-of : Step → ℕ
+constants-of s = s .constants
+
+-- how many globals
+abbrev pub globals-of : Step → ℕ
+globals-of s = s .globals
+
+-- how many finished prototypes
+abbrev pub functions-of : Step → ℕ
+functions-of s = s .functions
+
+-- the register of the last result
+abbrev pub result-of : Step → ℕ
+result-of s = s .result
+
+-- ---- what the words stand for
+
 -- function j, whose blocks end at e and whose open loops are l
 unfoldable pub open-at : List ℕ → (n j e l : ℕ) → Open
 open-at w n j e l =
