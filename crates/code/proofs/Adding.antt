@@ -56,20 +56,20 @@ was-written {x} p o s ps e i = by (s .outcome) e i
 
 -- ---- the step, where a prototype is added
 
-module _ {w : List ℕ} {p : Scope} {s : Step} {x : ℕ} (first node params : ℕ) (fine : Fine w p s) (on : s .outcome ≡ Accepted x) (le : first ≤ s .code) where
+module _ {w : List ℕ} {p : Scope} {s : Step} {x : ℕ} (first node params : ℕ) (fine : Fine w p s) (on : s .outcome ≡ Accepted x) (le : first ≤ s .pc) where
   abbrev count : ℕ
-  count = s .code - first
+  count = s .pc - first
 
   abbrev f : ℕ → Instruction
   f = inst-at w (p .nodes)
 
-  whole : first + (s .code - first) ≡ s .code
+  whole : first + (s .pc - first) ≡ s .pc
   whole = omega arith
 
-  taken-code : take first (tab f (s .code)) ≡ tab f first
+  taken-code : take first (tab f (s .pc)) ≡ tab f first
   taken-code = ap (λ k. take first (tab f k)) (sym whole) ∙ tab-take f first count
 
-  dropped-code : drop first (tab f (s .code)) ≡ tab (λ i. f (first + i)) (s .code - first)
+  dropped-code : drop first (tab f (s .pc)) ≡ tab (λ i. f (first + i)) (s .pc - first)
   dropped-code = ap (λ k. drop first (tab f k)) (sym whole) ∙ tab-drop f first count
 
   opened : (ps : List Proto) (op : Config → Run) → bind (run w p s ps) op ≡ op (config-of w p s ps)
@@ -79,46 +79,46 @@ module _ {w : List ℕ} {p : Scope} {s : Step} {x : ℕ} (first node params : �
   refused-runs : (cause : Cause) (ps : List Proto) → stopped cause node ≡ adding first node params (config-of w p s ps) → run w p (refused-step s cause node) ps ≡ bind (run w p s ps) (adding first node params)
   refused-runs cause ps h = run-stopped w p (refused-step s cause node) ps cause node (refused-outcome s cause node on) ∙ h ∙ sym (opened ps (adding first node params))
 
-  pub long-runs : 32766 < s .code - first → (ps : List Proto) → run w p (refused-step s Long node) ps ≡ bind (run w p s ps) (adding first node params)
+  pub long-runs : 32766 < s .pc - first → (ps : List Proto) → run w p (refused-step s Long node) ps ≡ bind (run w p s ps) (adding first node params)
   unfolding config-of
   long-runs h ps = refused-runs Long ps (too-long f first count node params (s .result) (state-of w p s ps) h ∙ ap (λ k. adding first node params (config (tab f k) (s .result) (state-of w p s ps))) whole)
 
-  pub many-runs : s .code - first ≤ 32766 → (ps : List Proto) → length ps ≡ 256 → run w p (refused-step s Prototypes node) ps ≡ bind (run w p s ps) (adding first node params)
+  pub many-runs : s .pc - first ≤ 32766 → (ps : List Proto) → length ps ≡ 256 → run w p (refused-step s Prototypes node) ps ≡ bind (run w p s ps) (adding first node params)
   unfolding config-of state-of
   many-runs h ps e = refused-runs Prototypes ps (too-many f first count node params (s .result) (state-of w p s ps) h e ∙ ap (λ k. adding first node params (config (tab f k) (s .result) (state-of w p s ps))) whole)
 
-  pub added-runs : (end : ℕ) → s .code - first ≤ 32766 → ¬ (s .functions ≡ 256) → (ps : List Proto) → s .functions ≡ length ps
-      → run w p (prototype-more s first end) (ps ++ proto-of w (p .nodes) (p .depth) first (s .code - first) params ∷ []) ≡ bind (run w p s ps) (adding first node params)
+  pub added-runs : (end : ℕ) → s .pc - first ≤ 32766 → ¬ (s .functions ≡ 256) → (ps : List Proto) → s .functions ≡ length ps
+      → run w p (prototype-more s first end) (ps ++ proto-of w (p .nodes) (p .depth) first (s .pc - first) params ∷ []) ≡ bind (run w p s ps) (adding first node params)
   unfolding run config-of state-of open-at fwd-by add-prototype if-then on
   added-runs end h ne ps e =
-      let n : length (tab (λ i. f (first + i)) (s .code - first)) ≡ s .code - first = tab-length (λ i. f (first + i)) (s .code - first) in
-      sym (opened ps (adding first node params) ∙ rw (dropped-code, taken-code, n, le-ltb 32767 (s .code - first + 1) (omega arith), ne-eqb (length ps) 256 (rw e at ne), sym e))
+      let n : length (tab (λ i. f (first + i)) (s .pc - first)) ≡ s .pc - first = tab-length (λ i. f (first + i)) (s .pc - first) in
+      sym (opened ps (adding first node params) ∙ rw (dropped-code, taken-code, n, le-ltb 32767 (s .pc - first + 1) (omega arith), ne-eqb (length ps) 256 (rw e at ne), sym e))
 
   abbrev bytes : List ℕ
-  bytes = proto-bytes (code-tag p) (proto-of w (p .nodes) (p .depth) first (s .code - first) params ∷ [])
+  bytes = proto-bytes (code-tag p) (proto-of w (p .nodes) (p .depth) first (s .pc - first) params ∷ [])
 
   -- written where it fits
-  pub added-image : {o o' : List ℕ} {end : ℕ} → Placed o x bytes o' end → (ps : List Proto) → Image p o s ps → Image p o' (prototype-more s first end) (ps ++ proto-of w (p .nodes) (p .depth) first (s .code - first) params ∷ [])
+  pub added-image : {o o' : List ℕ} {end : ℕ} → Placed o x bytes o' end → (ps : List Proto) → Image p o s ps → Image p o' (prototype-more s first end) (ps ++ proto-of w (p .nodes) (p .depth) first (s .pc - first) params ∷ [])
   added-image {o} {o'} {end} placed ps i = by-written (was-written p o s ps on i)
     where
-      all : proto-bytes (code-tag p) (ps ++ proto-of w (p .nodes) (p .depth) first (s .code - first) params ∷ []) ≡ proto-bytes (code-tag p) ps ++ bytes
-      all = protos-append (code-tag p) ps (proto-of w (p .nodes) (p .depth) first (s .code - first) params ∷ [])
+      all : proto-bytes (code-tag p) (ps ++ proto-of w (p .nodes) (p .depth) first (s .pc - first) params ∷ []) ≡ proto-bytes (code-tag p) ps ++ bytes
+      all = protos-append (code-tag p) ps (proto-of w (p .nodes) (p .depth) first (s .pc - first) params ∷ [])
 
-      by-written : Written (code-tag p) o x (s .functions) ps → Written (code-tag p) o' end (s .functions + 1) (ps ++ proto-of w (p .nodes) (p .depth) first (s .code - first) params ∷ [])
+      by-written : Written (code-tag p) o x (s .functions) ps → Written (code-tag p) o' end (s .functions + 1) (ps ++ proto-of w (p .nodes) (p .depth) first (s .pc - first) params ∷ [])
       by-written h =
           record {
-            counted = omega (arith, h .counted, length-append ps (proto-of w (p .nodes) (p .depth) first (s .code - first) params ∷ []));
+            counted = omega (arith, h .counted, length-append ps (proto-of w (p .nodes) (p .depth) first (s .pc - first) params ∷ []));
             sized = omega (arith, placed .ends, h .sized, length-append (proto-bytes (code-tag p) ps) bytes) ∙ sym (ap length all);
             bytes = λ fits.
                 let z = placed .fits (omega (arith, placed .same)) in
                 ap (λ k. take k o') (placed .ends) ∙ spliced-take z ∙ ap (λ l. l ++ bytes) (h .bytes (omega (arith, z .fits))) ∙ sym all;
           }
 
-  pub added-fine : {o o' : List ℕ} {end : ℕ} → Placed o x bytes o' end → s .code - first ≤ 32766 → ¬ (s .functions ≡ 256) → Fine w p (prototype-more s first end)
+  pub added-fine : {o o' : List ℕ} {end : ℕ} → Placed o x bytes o' end → s .pc - first ≤ 32766 → ¬ (s .functions ≡ 256) → Fine w p (prototype-more s first end)
   added-fine placed h ne =
       let wr : x ≤ 370000 * s .functions = rw on at (fine .written) in
-      let n = proto-size (code-tag p) w (p .nodes) (p .depth) first (s .code - first) params in
-      let few = few-bytes (s .code - first + 1) (3 + inst-size (code-tag p)) (omega arith) (short-inst (code-tag p)) in
+      let n = proto-size (code-tag p) w (p .nodes) (p .depth) first (s .pc - first) params in
+      let few = few-bytes (s .pc - first + 1) (3 + inst-size (code-tag p)) (omega arith) (short-inst (code-tag p)) in
       let small = below-256 (getD w (3074 + 8 * p .depth) 0) in
       record {
         sound = fine .sound;
@@ -153,7 +153,7 @@ adds-absorbed {w} {o} {p} {s} {cause} {place} first node params fine off =
       does = λ ps i. record { protos = ps; image = i; runs = stays w w p p s s (adding first node params) cause place off off ps };
     }
 
-module _ {w o : List ℕ} {p : Scope} {s : Step} {x : ℕ} (first node params : ℕ) (fine : Fine w p s) (on : s .outcome ≡ Accepted x) (le : first ≤ s .code) where
+module _ {w o : List ℕ} {p : Scope} {s : Step} {x : ℕ} (first node params : ℕ) (fine : Fine w p s) (on : s .outcome ≡ Accepted x) (le : first ≤ s .pc) where
   adds-refused : (cause : Cause) → ((ps : List Proto) → Image p o s ps → run w p (refused-step s cause node) ps ≡ bind (run w p s ps) (adding first node params)) → Adds first w o p s o (refused-step s cause node) node params
   adds-refused cause runs =
       let m = refused-moves {w = w} {p = p} s cause node nothing fine on in
@@ -170,16 +170,16 @@ module _ {w o : List ℕ} {p : Scope} {s : Step} {x : ℕ} (first node params : 
         does = λ ps i. record { protos = ps; image = image-none p s (refused-step s cause node) off o ps i; runs = runs ps i };
       }
 
-  pub adds-long : 32766 < s .code - first → Adds first w o p s o (refused-step s Long node) node params
+  pub adds-long : 32766 < s .pc - first → Adds first w o p s o (refused-step s Long node) node params
   adds-long h = adds-refused Long (λ ps i. long-runs first node params fine on le h ps)
 
-  pub adds-many : s .code - first ≤ 32766 → s .functions ≡ 256 → Adds first w o p s o (refused-step s Prototypes node) node params
+  pub adds-many : s .pc - first ≤ 32766 → s .functions ≡ 256 → Adds first w o p s o (refused-step s Prototypes node) node params
   adds-many h e = adds-refused Prototypes (λ ps i. many-runs first node params fine on le h ps (sym (was-written p o s ps on i .counted) ∙ e))
 
-  pub adds-done : {o' : List ℕ} {end tag : ℕ} → s .code - first ≤ 32766 → ¬ (s .functions ≡ 256) → tag ≡ code-tag p
-      → Placed o x (proto-bytes tag (proto-of w (p .nodes) (p .depth) first (s .code - first) params ∷ [])) o' end → Adds first w o p s o' (prototype-more s first end) node params
+  pub adds-done : {o' : List ℕ} {end tag : ℕ} → s .pc - first ≤ 32766 → ¬ (s .functions ≡ 256) → tag ≡ code-tag p
+      → Placed o x (proto-bytes tag (proto-of w (p .nodes) (p .depth) first (s .pc - first) params ∷ [])) o' end → Adds first w o p s o' (prototype-more s first end) node params
   adds-done {o'} {end} h ne e placed-so =
-      let placed = subst (λ t. Placed o x (proto-bytes t (proto-of w (p .nodes) (p .depth) first (s .code - first) params ∷ [])) o' end) e placed-so in
+      let placed = subst (λ t. Placed o x (proto-bytes t (proto-of w (p .nodes) (p .depth) first (s .pc - first) params ∷ [])) o' end) e placed-so in
       record {
         fine = added-fine first node params fine on le placed h ne;
         same = placed .same;
@@ -191,7 +191,7 @@ module _ {w o : List ℕ} {p : Scope} {s : Step} {x : ℕ} (first node params : 
         index = omega (arith, fine .functions);
         does = λ ps i.
             record {
-              protos = ps ++ proto-of w (p .nodes) (p .depth) first (s .code - first) params ∷ [];
+              protos = ps ++ proto-of w (p .nodes) (p .depth) first (s .pc - first) params ∷ [];
               image = added-image first node params fine on le placed ps i;
               runs = added-runs first node params fine on le end h ne ps (was-written p o s ps on i .counted);
             };

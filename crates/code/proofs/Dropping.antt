@@ -23,14 +23,14 @@ cut-tab f first k h = let e : k ≡ first + (k - first) = omega arith in rw e (t
 
 module _ (s : Step) (first : ℕ) where
   abbrev stepped : Outcome → Step
-  stepped o = record { outcome = o; code = s .code; constants = s .constants; globals = s .globals; functions = s .functions; result = s .result }
+  stepped o = record { outcome = o; pc = s .pc; constants = s .constants; globals = s .globals; functions = s .functions; result = s .result }
 
-  runs-by : (o : Outcome) (w : List ℕ) (p : Scope) (ps : List Proto) → first ≤ s .code → run w p (rolled-by o (stepped o) first) ps ≡ bind (run w p (stepped o) ps) (sure (roll-back first))
+  runs-by : (o : Outcome) (w : List ℕ) (p : Scope) (ps : List Proto) → first ≤ s .pc → run w p (rolled-by o (stepped o) first) ps ≡ bind (run w p (stepped o) ps) (sure (roll-back first))
   unfolding run config-of state-of bind roll-back
-  runs-by (Accepted x) w p ps le = rw (cut-tab (inst-at w (p .nodes)) first (s .code) le)
+  runs-by (Accepted x) w p ps le = rw (cut-tab (inst-at w (p .nodes)) first (s .pc) le)
   runs-by (Refused k n) w p ps le = refl
 
-  fine-by : (o : Outcome) (w : List ℕ) (p : Scope) → first ≤ s .code → Fine w p (stepped o) → Fine w p (rolled-by o (stepped o) first)
+  fine-by : (o : Outcome) (w : List ℕ) (p : Scope) → first ≤ s .pc → Fine w p (stepped o) → Fine w p (rolled-by o (stepped o) first)
   fine-by (Accepted x) w p le fine =
       record {
         sound = fine .sound;
@@ -48,11 +48,11 @@ module _ (s : Step) (first : ℕ) where
   outcome-by (Accepted x) = refl
   outcome-by (Refused k n) = refl
 
-  code-by : (o : Outcome) → goes-on o → rolled-by o (stepped o) first .code ≡ first
+  code-by : (o : Outcome) → goes-on o → rolled-by o (stepped o) first .pc ≡ first
   code-by (Accepted x) g = refl
   code-by (Refused k n) g = absurd g
 
-  least-by : (o : Outcome) → first ≤ s .code → first ≤ rolled-by o (stepped o) first .code
+  least-by : (o : Outcome) → first ≤ s .pc → first ≤ rolled-by o (stepped o) first .pc
   least-by (Accepted x) le = omega arith
   least-by (Refused k n) le = le
 
@@ -65,10 +65,10 @@ module _ (s : Step) (first : ℕ) where
   image-by-case (Refused k n) p o ps i = i
 
   -- no word changes, so that this holds of any
-  pub rolled-runs : (w : List ℕ) (p : Scope) (ps : List Proto) → first ≤ s .code → run w p (rolled-step s first) ps ≡ bind (run w p s ps) (sure (roll-back first))
+  pub rolled-runs : (w : List ℕ) (p : Scope) (ps : List Proto) → first ≤ s .pc → run w p (rolled-step s first) ps ≡ bind (run w p s ps) (sure (roll-back first))
   rolled-runs = runs-by (s .outcome)
 
-  pub rolled-fine : (w : List ℕ) (p : Scope) → first ≤ s .code → Fine w p s → Fine w p (rolled-step s first)
+  pub rolled-fine : (w : List ℕ) (p : Scope) → first ≤ s .pc → Fine w p s → Fine w p (rolled-step s first)
   rolled-fine = fine-by (s .outcome)
 
   pub rolled-image : (p : Scope) (o : List ℕ) (ps : List Proto) → Image p o s ps → Image p o (rolled-step s first) ps
@@ -77,10 +77,10 @@ module _ (s : Step) (first : ℕ) where
   pub rolled-outcome : rolled-step s first .outcome ≡ s .outcome
   rolled-outcome = outcome-by (s .outcome)
 
-  pub rolled-code : goes-on (s .outcome) → rolled-step s first .code ≡ first
+  pub rolled-code : goes-on (s .outcome) → rolled-step s first .pc ≡ first
   rolled-code = code-by (s .outcome)
 
-  pub rolled-least : first ≤ s .code → first ≤ rolled-step s first .code
+  pub rolled-least : first ≤ s .pc → first ≤ rolled-step s first .pc
   rolled-least = least-by (s .outcome)
 
   pub rolled-pools : (rolled-step s first .constants ≡ s .constants) × (rolled-step s first .globals ≡ s .globals)

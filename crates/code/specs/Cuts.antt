@@ -35,8 +35,8 @@ pub record Adds (first : ℕ) (w o : List ℕ) (p : Scope) (s : Step) (o' : List
   pub fine : Fine w p r
   pub same : length o' ≡ length o
   pub back : goes-on (r .outcome) → goes-on (s .outcome)
-  pub code : while-going (r .outcome) (r .code ≡ first)
-  pub longer : first ≤ s .code → first ≤ r .code
+  pub code : while-going (r .outcome) (r .pc ≡ first)
+  pub longer : first ≤ s .pc → first ≤ r .pc
   pub constants : r .constants ≡ s .constants
   pub globals : r .globals ≡ s .globals
   pub index : r .result < 256
@@ -50,7 +50,7 @@ pub record Leaves (first : ℕ) (w : List ℕ) (p : Scope) (s : Step) (w' : List
   pub kept : Kept w p w'
   pub back : goes-on (r .outcome) → goes-on (s .outcome)
   pub used : while-going (r .outcome) (Used w p (cut-step s first) w' p r u)
-  pub longer : first ≤ s .code → first ≤ r .code
+  pub longer : first ≤ s .pc → first ≤ r .pc
   pub still : u .locals ≡ 0 → edge w' (p .nodes) (p .block) ≡ edge w (p .nodes) (p .block)
 
 -- the same, and what was done: `op`, from the run inside the function

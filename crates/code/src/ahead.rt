@@ -22,15 +22,15 @@ pub fn test_and_jump(work: &mut [u32], step: Step, scope: Scope, flag: u32, mark
     let Outcome::Accepted(_) = o else {
         return step;
     };
-    let code = step.code;
+    let pc = step.pc;
     let result = step.result;
     write_cell(
         work,
         scope.nodes,
-        code,
+        pc,
         pack(TEST, result, result, flag),
         mark,
     );
-    write_cell(work, scope.nodes, code + 1, JMP, mark);
-    store::advance(step, code + 2, result)
+    write_cell(work, scope.nodes, pc + 1, JMP, mark);
+    store::advance(step, pc + 2, result)
 }

@@ -33,9 +33,9 @@ pub fn put(
     let Outcome::Accepted(_) = o else {
         return step;
     };
-    let code = step.code;
-    write_cell(work, scope.nodes, code, pack(op, a, b, c), mark);
-    store::advance(step, code + 1, result)
+    let pc = step.pc;
+    write_cell(work, scope.nodes, pc, pack(op, a, b, c), mark);
+    store::advance(step, pc + 1, result)
 }
 
 // The same with a 16-bit number.
@@ -56,9 +56,9 @@ pub fn put_wide(
     let Outcome::Accepted(_) = o else {
         return step;
     };
-    let code = step.code;
-    write_cell(work, scope.nodes, code, pack_wide(op, a, n as usize), mark);
-    store::advance(step, code + 1, result)
+    let pc = step.pc;
+    write_cell(work, scope.nodes, pc, pack_wide(op, a, n as usize), mark);
+    store::advance(step, pc + 1, result)
 }
 
 // One instruction more; the result stays.

@@ -28,14 +28,14 @@ fn add_prototype(
     node: usize,
     params: usize,
 ) -> Step
-    requires { ⌜ Fine (now work) scope step × while-going (step .outcome) (first ≤ step .code) × (params < 65536) ⌝ }
+    requires { ⌜ Fine (now work) scope step × while-going (step .outcome) (first ≤ step .pc) × (params < 65536) ⌝ }
     ensures { λ r. ⌜ Adds first (now (work .entry)) (now (out .entry)) scope step (now (out .exit)) r node params ⌝ }
 {
     let o = step.outcome;
     let Outcome::Accepted(written) = o else {
         return step;
     };
-    let count = step.code - first;
+    let count = step.pc - first;
     if 32766 < count {
         return store::refuse(step, Cause::Long, node);
     }
@@ -66,7 +66,7 @@ pub fn leave_function(
     node: usize,
     params: usize,
 ) -> Step
-    requires { ⌜ Fine (now work) (inner scope) step × Leavable (now work) scope × while-going (step .outcome) (first ≤ step .code) × (params < 65536) ⌝ }
+    requires { ⌜ Fine (now work) (inner scope) step × Leavable (now work) scope × while-going (step .outcome) (first ≤ step .pc) × (params < 65536) ⌝ }
     ensures { λ r. ⌜ Ends first (now (work .entry)) (now (out .entry)) scope step (now (work .exit)) (now (out .exit)) r nothing (leave-function first node params) × (r .result < 256) ⌝ }
 {
     let inside = store::inner(scope);

@@ -21,12 +21,12 @@ pub record Rolls (s : Step) (first : ℕ) (r : Step) : Type 0 where
   pub image : (p : Scope) (o : List ℕ) (ps : List Proto) → Image p o s ps → Image p o r ps
   pub fine : (w : List ℕ) (p : Scope) → Fine w p s → Fine w p r
   pub outcome : r .outcome ≡ s .outcome
-  pub code : while-going (s .outcome) (r .code ≡ first)
-  pub least : first ≤ s .code → first ≤ r .code
+  pub code : while-going (s .outcome) (r .pc ≡ first)
+  pub least : first ≤ s .pc → first ≤ r .pc
   pub constants : r .constants ≡ s .constants
   pub globals : r .globals ≡ s .globals
 
-pub rolls : (s : Step) (first : ℕ) {r : Step} → first ≤ s .code → r ≡ rolled-step s first → Rolls s first r
+pub rolls : (s : Step) (first : ℕ) {r : Step} → first ≤ s .pc → r ≡ rolled-step s first → Rolls s first r
 rolls s first h e =
     rw e
     (record {
@@ -40,7 +40,7 @@ rolls s first h e =
       globals = rolled-pools s first .1;
     })
 
-rolled-moves : {w w2 : List ℕ} {p : Scope} {s s2 r : Step} {u : Cost} → Rolls s2 (s .code) r → u .locals ≡ 0 → u .names ≤ u .names-back → Moves w p s w2 p s2 u → Moves w p s w2 p r (takes 0 0 (u .visits))
+rolled-moves : {w w2 : List ℕ} {p : Scope} {s s2 r : Step} {u : Cost} → Rolls s2 (s .pc) r → u .locals ≡ 0 → u .names ≤ u .names-back → Moves w p s w2 p s2 u → Moves w p s w2 p r (takes 0 0 (u .visits))
 rolled-moves {w} {w2} {p} {s} {s2} {r} {u} x z n m =
     record {
       fine = x .fine w2 p (m .fine);
@@ -54,7 +54,7 @@ rolled-moves {w} {w2} {p} {s} {s2} {r} {u} x z n m =
     going : goes-on (r .outcome) → goes-on (s2 .outcome)
     going g = rw (x .outcome) at g
 
-    again : r .code ≡ s .code → Used w p s w2 p s2 u → Used w p s w2 p r (takes 0 0 (u .visits))
+    again : r .pc ≡ s .pc → Used w p s w2 p s2 u → Used w p s w2 p r (takes 0 0 (u .visits))
     again e h =
         record {
           words = omega (arith, e, m .still z, h .registers);
@@ -65,7 +65,7 @@ rolled-moves {w} {w2} {p} {s} {s2} {r} {u} x z n m =
         }
 
 -- where a member stands after it
-pub rolled : {t w w2 : List ℕ} {p : Scope} {s s2 r : Step} {k a b : ℕ} {u : Cost} → Rolls s2 (s .code) r → u .locals ≡ 0 → u .names ≤ u .names-back → Way t w p s k a b w2 p s2 u → Way t w p s k a b w2 p r (takes 0 0 (u .visits))
+pub rolled : {t w w2 : List ℕ} {p : Scope} {s s2 r : Step} {k a b : ℕ} {u : Cost} → Rolls s2 (s .pc) r → u .locals ≡ 0 → u .names ≤ u .names-back → Way t w p s k a b w2 p s2 u → Way t w p s k a b w2 p r (takes 0 0 (u .visits))
 rolled x z n y = record { ready = y .ready; moves = rolled-moves x z n (y .moves); nodes = y .nodes; wide = y .wide; depth = y .depth; block = y .block }
 
 -- what it does

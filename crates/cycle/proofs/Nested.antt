@@ -36,7 +36,7 @@ module _ {w w1 w2 w4 : List ℕ} {p : Scope} {s s1 s2 s4 : Step} {u1 u : Cost} {
   taken-around : taken w4 (p .depth) ≡ taken w1 (p .depth)
   taken-around = taken-by w1 w4 (p .depth) registers-around
 
-  used-around : goes-on (s4 .outcome) → Used w p s w4 p (cut-step s4 (s1 .code)) (visiting u1 (u .visits))
+  used-around : goes-on (s4 .outcome) → Used w p s w4 p (cut-step s4 (s1 .pc)) (visiting u1 (u .visits))
   used-around g =
       let h2 = m .back g in
       let i1 = due (s1 .outcome) (m1 .used) (e .leaf .moves .back h2) in
@@ -51,26 +51,26 @@ module _ {w w1 w2 w4 : List ℕ} {p : Scope} {s s1 s2 s4 : Step} {u1 u : Cost} {
 
   -- room outside, as soon as the function is gone
   pub cut-room : {t : List ℕ} {k a b : ℕ} (k' a' b' : ℕ) → Ready t w p s k a b → 8 * k' + a' + u1 .words ≤ 8 * k + a + u1 .words-back → k' + b' + u1 .locals ≤ k + b + u1 .locals-back → u1 .names ≤ u1 .names-back
-      → Room w4 p (cut-step s4 (s1 .code)) k' a' b'
+      → Room w4 p (cut-step s4 (s1 .pc)) k' a' b'
   cut-room {t} {k} {a} {b} k' a' b' r l l' n = record { roomy = promised (s4 .outcome) (λ g. after (used-around g) (due (s .outcome) (r .room .roomy) (starts g))) }
     where
-      after : Used w p s w4 p (cut-step s4 (s1 .code)) (visiting u1 (u .visits)) → Roomy w p s k a b → Roomy w4 p (cut-step s4 (s1 .code)) k' a' b'
+      after : Used w p s w4 p (cut-step s4 (s1 .pc)) (visiting u1 (u .visits)) → Roomy w p s k a b → Roomy w4 p (cut-step s4 (s1 .pc)) k' a' b'
       after i j = record { words = omega (arith, i .words, j .words, l); locals = omega (arith, i .locals, j .locals, l'); globals = omega (arith, i .names, j .globals, n) }
 
   -- the same, where the name of a global function waits for its constant
   pub cut-owing : {t : List ℕ} {k a b : ℕ} (a' b' x : ℕ) → Ready t w p s k a b → a' + u1 .words ≤ 8 * k + a + u1 .words-back → b' + u1 .locals ≤ k + b + u1 .locals-back → u1 .names ≤ x + u1 .names-back
-      → Owing w4 p (cut-step s4 (s1 .code)) a' b' x
+      → Owing w4 p (cut-step s4 (s1 .pc)) a' b' x
   cut-owing {t} {k} {a} {b} a' b' x r l l' n = record { spare = promised (s4 .outcome) (λ g. after (used-around g) (due (s .outcome) (r .room .roomy) (starts g))) }
     where
-      after : Used w p s w4 p (cut-step s4 (s1 .code)) (visiting u1 (u .visits)) → Roomy w p s k a b → Spare w4 p (cut-step s4 (s1 .code)) a' b' x
+      after : Used w p s w4 p (cut-step s4 (s1 .pc)) (visiting u1 (u .visits)) → Roomy w p s k a b → Spare w4 p (cut-step s4 (s1 .pc)) a' b' x
       after i j = record { words = omega (arith, i .words, j .words, l); locals = omega (arith, i .locals, j .locals, l'); globals = omega (arith, i .names, j .globals, n) }
 
   -- where the function's code begins
-  pub begun : s1 .code ≤ s4 .code
+  pub begun : s1 .pc ≤ s4 .pc
   begun = omega (arith, e .leaf .moves .longer, m .longer)
 
   -- the function's end
-  pub ended : {w5 : List ℕ} {s5 : Step} {v : Cost} → Leaves (s1 .code) w4 p s4 w5 s5 v → Moves w p s w5 p s5 (both (visiting u1 (u .visits)) v)
+  pub ended : {w5 : List ℕ} {s5 : Step} {v : Cost} → Leaves (s1 .pc) w4 p s4 w5 s5 v → Moves w p s w5 p s5 (both (visiting u1 (u .visits)) v)
   ended {w5} {s5} {v} x =
       record {
         fine = x .fine;
@@ -84,5 +84,5 @@ module _ {w w1 w2 w4 : List ℕ} {p : Scope} {s s1 s2 s4 : Step} {u1 u : Cost} {
       outside : Kept w2 p w4
       outside = let k = m .kept in record { same = k .same; firsts = λ j l. k .firsts j (omega arith); saves = λ j l. k .saves j (omega arith); outer = λ j l. k .outer j (omega arith); edges = λ j l. k .edges j (omega arith); offsets = k .offsets }
 
-      after : Used w p s w4 p (cut-step s4 (s1 .code)) (visiting u1 (u .visits)) → Used w4 p (cut-step s4 (s1 .code)) w5 p s5 v → Used w p s w5 p s5 (both (visiting u1 (u .visits)) v)
+      after : Used w p s w4 p (cut-step s4 (s1 .pc)) (visiting u1 (u .visits)) → Used w4 p (cut-step s4 (s1 .pc)) w5 p s5 v → Used w p s w5 p s5 (both (visiting u1 (u .visits)) v)
       after i j = record { words = omega (arith, i .words, j .words); locals = omega (arith, i .locals, j .locals); names = omega (arith, i .names, j .names); registers = omega (arith, i .registers, j .registers); visits = omega (arith, i .visits, j .visits) }

@@ -104,7 +104,7 @@ ends a e = record { protos = a .protos; image = a .image; runs = e }
 
 -- of the code's length and the result, where the step goes on
 pub leaf-known : {w w' : List ℕ} {p q : Scope} {s r : Step} {u : Cost} {op : Config → Run} (P : (code result code' result' : ℕ) → Type 0)
-    → Leaf w p s w' q r u op → ((c d : Config) → op c ≡ going d → P (length (c .code)) (c .result) (length (d .code)) (d .result)) → while-going (r .outcome) (P (s .code) (s .result) (r .code) (r .result))
+    → Leaf w p s w' q r u op → ((c d : Config) → op c ≡ going d → P (length (c .code)) (c .result) (length (d .code)) (d .result)) → while-going (r .outcome) (P (s .pc) (s .result) (r .pc) (r .result))
 unfolding bind config-of
 leaf-known {w} {w'} {p} {q} {s} {r} {u} {op} P l h = promised (r .outcome) λ g.
     let e = going-is (r .outcome) g in
@@ -137,7 +137,7 @@ module _ {w w' : List ℕ} {p q : Scope} {s r : Step} {u : Cost} {f : Config →
   sets v h m = sets-by v l (λ c d e. sym (ap (λ (x : Config). x .result) (sure-is f c d e)) ∙ h c) m
 
   -- n instructions more
-  pub adds : (n : ℕ) → ((c : Config) → length (f c .code) ≡ length (c .code) + n) → goes-on (r .outcome) → r .code ≡ s .code + n
+  pub adds : (n : ℕ) → ((c : Config) → length (f c .code) ≡ length (c .code) + n) → goes-on (r .outcome) → r .pc ≡ s .pc + n
   adds n h g = due (r .outcome) (leaf-known (λ m x m' x'. m' ≡ m + n) l (λ c d e. sym (ap (λ (x : Config). length (x .code)) (sure-is f c d e)) ∙ h c)) g
 
 pub twice : (l : List Instruction) (i j : Instruction) → length ((l ++ i ∷ []) ++ j ∷ []) ≡ length l + 2

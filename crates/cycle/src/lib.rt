@@ -143,7 +143,7 @@ fn try_catch(
     let caught = routines::open_catch(work, ended, inside, node, x.child1, x.c);
     let last = statement(tree, work, out, caught, inside, x.child3);
     store::leave_block(work, scope);
-    routines::end_try(work, last, scope, step.code, body.code)
+    routines::end_try(work, last, scope, step.pc, body.pc)
 }
 
 // fn visit_classic_for_stmt: the body is lowered before the increment
@@ -179,10 +179,10 @@ fn for_loop(
         work,
         last,
         scope,
-        step.code,
-        body.code,
-        first.code,
-        condition.code,
+        step.pc,
+        body.pc,
+        first.pc,
+        condition.pc,
         0,
         x.a,
     )
@@ -222,8 +222,8 @@ fn for_in(
         work,
         body,
         scope,
-        step.code,
-        collection.code,
+        step.pc,
+        collection.pc,
         counter.result,
         x.a,
     )
@@ -304,10 +304,10 @@ fn while_loop(
         work,
         body,
         scope,
-        step.code,
-        step.code,
-        step.code,
-        condition.code,
+        step.pc,
+        step.pc,
+        step.pc,
+        condition.pc,
         condition.result,
         x.a,
     )
@@ -353,7 +353,7 @@ fn if_stmt(
     let condition = expression(tree, work, out, step, scope, x.child1);
     let tested = code::test_and_jump(work, condition, scope, 0, x.a);
     let then = row(tree, work, out, tested, scope, node, 3, ends.thens, wide);
-    let branch = routines::end_branch(work, then, scope, condition.code, x.a);
+    let branch = routines::end_branch(work, then, scope, condition.pc, x.a);
     let others = elifs(
         tree,
         work,
@@ -376,7 +376,7 @@ fn if_stmt(
         ends.all,
         wide,
     );
-    routines::end_if(work, last, scope, step.code)
+    routines::end_if(work, last, scope, step.pc)
 }
 
 // fn visit_if_stmt, `for elif in &stmt.elifs`
@@ -404,7 +404,7 @@ fn elifs(
         let condition = expression(tree, work, out, last, scope, x.child0);
         let tested = code::test_and_jump(work, condition, scope, 0, NO_MARK);
         let then = row(tree, work, out, tested, scope, child, 1, n, 0);
-        last = routines::end_branch(work, then, scope, condition.code, NO_MARK);
+        last = routines::end_branch(work, then, scope, condition.pc, NO_MARK);
         store::visit(work);
         k += 1;
     }
@@ -454,7 +454,7 @@ fn fn_stmt(
         out,
         last,
         scope,
-        own.code,
+        own.pc,
         node,
         x.child0,
         x.b,
@@ -592,7 +592,7 @@ fn function(
         out,
         last,
         scope,
-        own.code,
+        own.pc,
         node,
         n,
         own.result,
@@ -617,7 +617,7 @@ fn body(
     let n = count_of(tree, work, scope, node, skew);
     let inside = store::enter_block(work, scope);
     let last = row(tree, work, out, step, inside, node, from, n, skew);
-    let ended = routines::end_body(work, last, inside, n - from, step.code, node);
+    let ended = routines::end_body(work, last, inside, n - from, step.pc, node);
     store::leave_block(work, scope);
     ended
 }
@@ -680,7 +680,7 @@ fn minus(
     let x = words_of(tree, work, scope, node, 1);
     let right = expression(tree, work, out, step, scope, x.child3);
     let last = store::next_register(work, right, scope, node);
-    let again = code::roll_back(last, step.code);
+    let again = code::roll_back(last, step.pc);
     both(tree, work, out, again, scope, node)
 }
 
@@ -777,7 +777,7 @@ fn logical(
     let left = expression(tree, work, out, step, scope, x.child2);
     let tested = code::test_and_jump(work, left, scope, or_flag(x.a), x.b);
     let right = expression(tree, work, out, tested, scope, x.child3);
-    routines::end_logical(work, right, scope, left.code, left.result, x.b)
+    routines::end_logical(work, right, scope, left.pc, left.result, x.b)
 }
 
 // fn visit_unary_expr

@@ -47,33 +47,33 @@ pub fn end_body(
     first: usize,
     node: usize,
 ) -> Step
-    requires { ⌜ Fine (now work) scope step × Room (now work) scope step 0 2 0 × while-going (step .outcome) (first ≤ step .code) × while-going (step .outcome) (step .result < 255) ⌝ }
+    requires { ⌜ Fine (now work) scope step × Room (now work) scope step 0 2 0 × while-going (step .outcome) (first ≤ step .pc) × while-going (step .outcome) (step .result < 255) ⌝ }
     ensures { λ r. ⌜ Leaf (now (work .entry)) scope step (now (work .exit)) scope r (uses 2 0 0) (end-body count first node) ⌝ }
 {
     let o = step.outcome;
     let Outcome::Accepted(_) = o else {
         return step;
     };
-    let code = step.code;
+    let pc = step.pc;
     let result = step.result;
     if count == 1 {
         if result == 254 {
             return store::refuse(step, Cause::Returned, node);
         }
-        if code == first {
+        if pc == first {
             return store::refuse(step, Cause::Empty, node);
         }
-        let mark = store::mark_at(work, scope.nodes, code - 1);
+        let mark = store::mark_at(work, scope.nodes, pc - 1);
         store::write_cell(
             work,
             scope.nodes,
-            code,
+            pc,
             store::pack(RETURN, result, result + 2, 0),
             mark,
         );
-        return store::advance(step, code + 1, 0);
+        return store::advance(step, pc + 1, 0);
     }
-    store::advance(step, code, 0)
+    store::advance(step, pc, 0)
 }
 
 // Closure of the prototype that is the result.
@@ -85,13 +85,13 @@ pub(crate) fn closure(work: &mut [u32], step: Step, scope: Scope, register: u32,
     let Outcome::Accepted(_) = o else {
         return step;
     };
-    let code = step.code;
+    let pc = step.pc;
     store::write_cell(
         work,
         scope.nodes,
-        code,
+        pc,
         store::pack_wide(CLOSURE, register, step.result as usize),
         mark,
     );
-    store::advance(step, code + 1, register)
+    store::advance(step, pc + 1, register)
 }

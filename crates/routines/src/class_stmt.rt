@@ -82,15 +82,15 @@ pub fn make_class(work: &mut [u32], step: Step, scope: Scope, class: u32, mark: 
     let Outcome::Accepted(_) = o else {
         return step;
     };
-    let code = step.code;
+    let pc = step.pc;
     store::write_cell(
         work,
         scope.nodes,
-        code,
+        pc,
         store::pack(CLASS, class, class + 1, step.result),
         mark,
     );
-    store::advance(step, code + 1, step.result)
+    store::advance(step, pc + 1, step.result)
 }
 
 // A method that is the result; `op` is ClassMeth or ClassStMeth.

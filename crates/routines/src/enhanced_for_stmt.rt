@@ -211,31 +211,31 @@ pub fn end_for_in(
     counter: u32,
     mark: u32,
 ) -> Step
-    requires { ⌜ Fine (now work) scope step × Room (now work) scope step 0 4 0 × while-going (step .outcome) ((first ≤ step .code) × (condition + 4 ≤ step .code) × (counter < 256)) ⌝ }
+    requires { ⌜ Fine (now work) scope step × Room (now work) scope step 0 4 0 × while-going (step .outcome) ((first ≤ step .pc) × (condition + 4 ≤ step .pc) × (counter < 256)) ⌝ }
     ensures { λ r. ⌜ Leaf (now (work .entry)) scope step (now (work .exit)) scope r (uses 4 0 0) (sure (end-for-in (scope .mode) first condition counter mark)) ⌝ }
 {
     let o = step.outcome;
     let Outcome::Accepted(_) = o else {
         return step;
     };
-    let code = step.code;
+    let pc = step.pc;
     store::write_cell(
         work,
         scope.nodes,
-        code,
+        pc,
         store::pack(ADDI, counter, counter, 1),
         mark,
     );
-    let goal = continue_goal(scope.mode, first, code);
+    let goal = continue_goal(scope.mode, first, pc);
     close_loop(
         work,
         scope.nodes,
-        code + 1,
+        pc + 1,
         goal,
         first,
         condition,
         condition + 2,
         mark,
     );
-    store::advance(step, code + 2, 0)
+    store::advance(step, pc + 2, 0)
 }

@@ -49,7 +49,7 @@ pub fn end_fun(
     params: usize,
     register: u32,
 ) -> Step
-    requires { ⌜ Fine (now work) (inner scope) step × Leavable (now work) scope × Owing (now work) scope (cut-step step first) 4 1 (2 - (scope .depth + scope .block)) × while-going (step .outcome) ((first ≤ step .code) × (register < 255)) × (params < 65536) × (name < 65536) ⌝ }
+    requires { ⌜ Fine (now work) (inner scope) step × Leavable (now work) scope × Owing (now work) scope (cut-step step first) 4 1 (2 - (scope .depth + scope .block)) × while-going (step .outcome) ((first ≤ step .pc) × (register < 255)) × (params < 65536) × (name < 65536) ⌝ }
     ensures { λ r. ⌜ Ends first (now (work .entry)) (now (out .entry)) scope step (now (work .exit)) (now (out .exit)) r (both (uses 4 1 0) (a-name-back scope)) (end-fun first node (token name mark) params register) × Small r ⌝ }
 {
     let left = code::leave_function(work, out, step, scope, first, node, params);

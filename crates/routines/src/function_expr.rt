@@ -40,7 +40,7 @@ pub fn end_function(
     register: u32,
     mark: u32,
 ) -> Step
-    requires { ⌜ Fine (now work) (inner scope) step × Leavable (now work) scope × Room (now work) scope (cut-step step first) 0 2 0 × while-going (step .outcome) ((first ≤ step .code) × (register < 255)) × (params < 65536) ⌝ }
+    requires { ⌜ Fine (now work) (inner scope) step × Leavable (now work) scope × Room (now work) scope (cut-step step first) 0 2 0 × while-going (step .outcome) ((first ≤ step .pc) × (register < 255)) × (params < 65536) ⌝ }
     ensures { λ r. ⌜ Ends first (now (work .entry)) (now (out .entry)) scope step (now (work .exit)) (now (out .exit)) r (uses 2 0 0) (end-function first node params register mark) × Small r ⌝ }
 {
     let left = code::leave_function(work, out, step, scope, first, node, params);

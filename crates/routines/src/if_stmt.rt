@@ -10,34 +10,34 @@ use store::Step;
 
 // visit_if_stmt after the statements of a condition: the jump to the end, which end_if sets.
 pub fn end_branch(work: &mut [u32], step: Step, scope: Scope, test: usize, mark: u32) -> Step
-    requires { ⌜ Fine (now work) scope step × Room (now work) scope step 0 2 0 × while-going (step .outcome) (test + 2 ≤ step .code) ⌝ }
+    requires { ⌜ Fine (now work) scope step × Room (now work) scope step 0 2 0 × while-going (step .outcome) (test + 2 ≤ step .pc) ⌝ }
     ensures { λ r. ⌜ Leaf (now (work .entry)) scope step (now (work .exit)) scope r (uses 2 0 0) (sure (end-branch test mark)) ⌝ }
 {
     let o = step.outcome;
     let Outcome::Accepted(_) = o else {
         return step;
     };
-    let code = step.code;
-    store::write_cell(work, scope.nodes, code, JMP, mark);
+    let pc = step.pc;
+    store::write_cell(work, scope.nodes, pc, JMP, mark);
     store::write_cell(
         work,
         scope.nodes,
         test + 1,
-        store::pack_wide(JMP, 0, code - test),
+        store::pack_wide(JMP, 0, pc - test),
         mark,
     );
-    store::advance(step, code + 1, 0)
+    store::advance(step, pc + 1, 0)
 }
 
 // visit_if_stmt: every jump to the end, from `first` on.
 pub fn end_if(work: &mut [u32], step: Step, scope: Scope, first: usize) -> Step
-    requires { ⌜ Fine (now work) scope step × while-going (step .outcome) (first ≤ step .code) ⌝ }
+    requires { ⌜ Fine (now work) scope step × while-going (step .outcome) (first ≤ step .pc) ⌝ }
     ensures { λ r. ⌜ Leaf (now (work .entry)) scope step (now (work .exit)) scope r (uses 0 0 0) (sure (end-if first)) ⌝ }
 {
     let o = step.outcome;
     let Outcome::Accepted(_) = o else {
         return step;
     };
-    code::patch_ends(work, scope.nodes, first, step.code);
+    code::patch_ends(work, scope.nodes, first, step.pc);
     store::settle(step, 0)
 }

@@ -18,18 +18,18 @@ pub fn end_logical(
     left: u32,
     mark: u32,
 ) -> Step
-    requires { ⌜ Fine (now work) scope step × Room (now work) scope step 0 2 0 × while-going (step .outcome) ((test + 2 ≤ step .code) × (left < 256) × (step .result < 256)) ⌝ }
+    requires { ⌜ Fine (now work) scope step × Room (now work) scope step 0 2 0 × while-going (step .outcome) ((test + 2 ≤ step .pc) × (left < 256) × (step .result < 256)) ⌝ }
     ensures { λ r. ⌜ Leaf (now (work .entry)) scope step (now (work .exit)) scope r (uses 2 0 0) (sure (end-logical test left mark)) ⌝ }
 {
     let o = step.outcome;
     let Outcome::Accepted(_) = o else {
         return step;
     };
-    let code = step.code;
+    let pc = step.pc;
     store::write_cell(
         work,
         scope.nodes,
-        code,
+        pc,
         store::pack(MOVE, left, step.result, 0),
         mark,
     );
@@ -37,8 +37,8 @@ pub fn end_logical(
         work,
         scope.nodes,
         test + 1,
-        store::pack_wide(JMP, 0, code - test),
+        store::pack_wide(JMP, 0, pc - test),
         mark,
     );
-    store::advance(step, code + 1, left)
+    store::advance(step, pc + 1, left)
 }

@@ -59,15 +59,15 @@ pub fn end_loop(
     result: u32,
     mark: u32,
 ) -> Step
-    requires { ⌜ Fine (now work) scope step × Room (now work) scope step 0 2 0 × while-going (step .outcome) ((first ≤ step .code) × (condition ≤ step .code) × (test + 2 ≤ step .code) × (result < 256) × (first ≤ increment)) ⌝ }
+    requires { ⌜ Fine (now work) scope step × Room (now work) scope step 0 2 0 × while-going (step .outcome) ((first ≤ step .pc) × (condition ≤ step .pc) × (test + 2 ≤ step .pc) × (result < 256) × (first ≤ increment)) ⌝ }
     ensures { λ r. ⌜ Leaf (now (work .entry)) scope step (now (work .exit)) scope r (uses 2 0 0) (sure (end-loop (scope .mode) first increment condition test result mark)) ⌝ }
 {
     let o = step.outcome;
     let Outcome::Accepted(_) = o else {
         return step;
     };
-    let code = step.code;
+    let pc = step.pc;
     let goal = continue_goal(scope.mode, first, increment);
-    close_loop(work, scope.nodes, code, goal, first, condition, test, mark);
-    store::advance(step, code + 1, result)
+    close_loop(work, scope.nodes, pc, goal, first, condition, test, mark);
+    store::advance(step, pc + 1, result)
 }

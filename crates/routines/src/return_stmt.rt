@@ -32,7 +32,7 @@ pub fn end_return(work: &mut [u32], step: Step, scope: Scope, node: usize, mark:
     let Outcome::Accepted(_) = o else {
         return step;
     };
-    let code = step.code;
+    let pc = step.pc;
     let result = step.result;
     if result == 254 {
         return store::refuse(step, Cause::Returned, node);
@@ -40,9 +40,9 @@ pub fn end_return(work: &mut [u32], step: Step, scope: Scope, node: usize, mark:
     store::write_cell(
         work,
         scope.nodes,
-        code,
+        pc,
         store::pack(RETURN, result, result + 2, 0),
         mark,
     );
-    store::advance(step, code + 1, 0)
+    store::advance(step, pc + 1, 0)
 }

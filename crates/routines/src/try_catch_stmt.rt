@@ -34,10 +34,10 @@ pub fn end_try_body(work: &mut [u32], step: Step, scope: Scope) -> Step
     let Outcome::Accepted(_) = o else {
         return step;
     };
-    let code = step.code;
-    store::write_cell(work, scope.nodes, code, DEREGISTER_TRY_CATCH, NO_MARK);
-    store::write_cell(work, scope.nodes, code + 1, JMP, NO_MARK);
-    store::advance(step, code + 2, step.result)
+    let pc = step.pc;
+    store::write_cell(work, scope.nodes, pc, DEREGISTER_TRY_CATCH, NO_MARK);
+    store::write_cell(work, scope.nodes, pc + 1, JMP, NO_MARK);
+    store::advance(step, pc + 2, step.result)
 }
 
 // visit_try_catch_stmt before the catch part's body.
@@ -59,14 +59,14 @@ pub fn open_catch(
 
 // visit_try_catch_stmt: RegisterTryCatch at `first`, then the first jump that is not set; `body` is the length after the body.
 pub fn end_try(work: &mut [u32], step: Step, scope: Scope, first: usize, body: usize) -> Step
-    requires { ⌜ Fine (now work) scope step × while-going (step .outcome) ((first ≤ body) × (body < step .code)) ⌝ }
+    requires { ⌜ Fine (now work) scope step × while-going (step .outcome) ((first ≤ body) × (body < step .pc)) ⌝ }
     ensures { λ r. ⌜ Leaf (now (work .entry)) scope step (now (work .exit)) scope r (uses 0 0 0) (sure (end-try first body)) ⌝ }
 {
     let o = step.outcome;
     let Outcome::Accepted(_) = o else {
         return step;
     };
-    let code = step.code;
+    let pc = step.pc;
     store::write_cell(
         work,
         scope.nodes,
@@ -74,6 +74,6 @@ pub fn end_try(work: &mut [u32], step: Step, scope: Scope, first: usize, body: u
         store::pack_wide(REGISTER_TRY_CATCH, 0, body + 2 - first),
         NO_MARK,
     );
-    code::patch_first(work, scope.nodes, first, code, code - (body + 1));
+    code::patch_first(work, scope.nodes, first, pc, pc - (body + 1));
     store::settle(step, 0)
 }

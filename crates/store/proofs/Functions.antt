@@ -105,7 +105,7 @@ module _ (w w1 : List ℕ) (p : Scope) (s : Step) (name : ℕ) (fine : Fine w p 
       }
 
   -- the same step, or the refusal of a ninth
-  entered-moves : (r : Step) → while-going (r .outcome) (p .depth + 1 ≤ 7) → Fine w p r → r .code ≡ s .code → r .constants ≡ s .constants → r .globals ≡ s .globals → (goes-on (r .outcome) → goes-on (s .outcome)) → Moves w p s w' (inner p) r nothing
+  entered-moves : (r : Step) → while-going (r .outcome) (p .depth + 1 ≤ 7) → Fine w p r → r .pc ≡ s .pc → r .constants ≡ s .constants → r .globals ≡ s .globals → (goes-on (r .outcome) → goes-on (s .outcome)) → Moves w p s w' (inner p) r nothing
   entered-moves r nested h ec ek eg back =
       let e = opened-top (fine .sound) lim entered-opened in
       record {
@@ -172,7 +172,7 @@ module _ (w w1 : List ℕ) (p : Scope) (s : Step) (name : ℕ) (fine : Fine w p 
       runs (Refused k n) e ps = stays w w' p (inner p) s s (fwd-unit (enter-function node name)) k n e e ps
       runs (Accepted x) e ps =
           ran w w' p (inner p) s s (enter-function node name) ps tt (λ a c. c) x x e e
-          (code-same w w' (p .nodes) (s .code) (omega (arith, fine .room)) (record { same = λ i a b. entered-opened .other i (omega (arith, fine .room)) (omega (arith, fine .room)) })) refl (entered-state l node ps)
+          (code-same w w' (p .nodes) (s .pc) (omega (arith, fine .room)) (record { same = λ i a b. entered-opened .other i (omega (arith, fine .room)) (omega (arith, fine .room)) })) refl (entered-state l node ps)
 
   entered-out : p .depth ≡ 7 → (node : ℕ) → Leaf w p s w' (inner p) (refused-step s Nesting node) nothing (fwd-unit (enter-function node name))
   entered-out e node =
@@ -183,7 +183,7 @@ module _ (w w1 : List ℕ) (p : Scope) (s : Step) (name : ℕ) (fine : Fine w p 
       runs (Refused k n) on ps = stays w w' p (inner p) s (refused-step s Nesting node) (fwd-unit (enter-function node name)) k n on (rw on) ps
       runs (Accepted x) on ps = ran-out w w' p (inner p) s (refused-step s Nesting node) (enter-function node name) ps add-none x Nesting node on (refused-outcome s Nesting node on) (too-deep e node ps)
 
-  enters-by : (r : Step) (node : ℕ) → r .code ≡ s .code → Leaf w p s w' (inner p) r nothing (fwd-unit (enter-function node name)) → Enters w p s w' r node name
+  enters-by : (r : Step) (node : ℕ) → r .pc ≡ s .pc → Leaf w p s w' (inner p) r nothing (fwd-unit (enter-function node name)) → Enters w p s w' r node name
   enters-by r node e leaf =
       record { leaf = leaf; code = e; first-is = new-first; saved-is = new-saved; own = outer-registers (p .depth) (omega arith); start = opened-edge (fine .sound) lim entered-opened (p .block) (omega arith) }
 

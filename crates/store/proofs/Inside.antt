@@ -77,7 +77,7 @@ module _ {w w' : List ℕ} {p : Scope} {r : Step} (fine : Fine w (inner p) r) (h
   closed-by (Refused k n) e ps = stays w w' (inner p) p r r (fwd-unit close-function) k n e e ps
   closed-by (Accepted x) e ps =
       let d = due (r .outcome) (fine .nested) (goes e) in
-      ran w w' (inner p) p r r close-function ps tt (λ a c. c) x x e e (popped-code p sound g (r .code) (omega (arith, fine .room))) refl (closed-state (omega arith) ps)
+      ran w w' (inner p) p r r close-function ps tt (λ a c. c) x x e e (popped-code p sound g (r .pc) (omega (arith, fine .room))) refl (closed-state (omega arith) ps)
 
   pub closed-runs : (ps : List Proto) → run w' p r ps ≡ bind (run w (inner p) r ps) (fwd-unit close-function)
   closed-runs = closed-by (r .outcome) refl

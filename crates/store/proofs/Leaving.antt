@@ -146,7 +146,7 @@ module _ {w w' : List ℕ} {p : Scope} {r : Step} (fine : Fine w (deeper p) r) (
   left-by : (o : Outcome) → r .outcome ≡ o → (ps : List Proto) → run w' p r ps ≡ bind (run w (deeper p) r ps) (fwd-unit leave-block)
   left-by (Refused k n) e ps = stays w w' (deeper p) p r r (fwd-unit leave-block) k n e e ps
   left-by (Accepted x) e ps =
-      ran w w' (deeper p) p r r leave-block ps tt (λ a c. c) x x e e (popped-code p (fine .sound) g (r .code) (omega (arith, fine .room))) refl (left-state (due (r .outcome) (fine .nested) (goes e)) ps)
+      ran w w' (deeper p) p r r leave-block ps tt (λ a c. c) x x e e (popped-code p (fine .sound) g (r .pc) (omega (arith, fine .room))) refl (left-state (due (r .outcome) (fine .nested) (goes e)) ps)
 
   pub left-runs : (ps : List Proto) → run w' p r ps ≡ bind (run w (deeper p) r ps) (fwd-unit leave-block)
   left-runs = left-by (r .outcome) refl

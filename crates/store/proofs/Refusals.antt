@@ -13,8 +13,8 @@ use Rattle.meaning.specs.declared.Cause.{Cause}
 use Rattle.meaning.specs.declared.Outcome.{Outcome}
 use Rattle.meaning.specs.declared.Outcome.the-variants.{Accepted, Refused}
 
-abbrev stepped : Outcome → (code constants globals functions result : ℕ) → Step
-stepped o c k g f r = record { outcome = o; code = c; constants = k; globals = g; functions = f; result = r }
+abbrev stepped : Outcome → (pc constants globals functions result : ℕ) → Step
+stepped o c k g f r = record { outcome = o; pc = c; constants = k; globals = g; functions = f; result = r }
 
 again-by : (o : Outcome) (c k g f r : ℕ) (cause : Cause) (node : ℕ) {x : Cause} {y : ℕ} → o ≡ Refused x y → stepped o c k g f r ≡ refused-step (stepped o c k g f r) cause node
 again-by (Accepted z) c k g f r cause node {x} {y} e = absurd (apart e)
@@ -24,9 +24,9 @@ again-by (Accepted z) c k g f r cause node {x} {y} e = absurd (apart e)
 again-by (Refused a b) c k g f r cause node e = refl
 
 pub refused-again : (s : Step) (cause : Cause) (node : ℕ) {x : Cause} {y : ℕ} → s .outcome ≡ Refused x y → s ≡ refused-step s cause node
-refused-again s cause node e = again-by (s .outcome) (s .code) (s .constants) (s .globals) (s .functions) (s .result) cause node e
+refused-again s cause node e = again-by (s .outcome) (s .pc) (s .constants) (s .globals) (s .functions) (s .result) cause node e
 
-pub refused-now : (s : Step) (cause : Cause) (node : ℕ) {x : ℕ} → s .outcome ≡ Accepted x → stepped (Refused cause node) (s .code) (s .constants) (s .globals) (s .functions) 0 ≡ refused-step s cause node
+pub refused-now : (s : Step) (cause : Cause) (node : ℕ) {x : ℕ} → s .outcome ≡ Accepted x → stepped (Refused cause node) (s .pc) (s .constants) (s .globals) (s .functions) 0 ≡ refused-step s cause node
 refused-now s cause node e = rw e
 
 pub refused-outcome : (s : Step) (cause : Cause) (node : ℕ) {x : ℕ} → s .outcome ≡ Accepted x → refused-step s cause node .outcome ≡ Refused cause node

@@ -120,8 +120,8 @@ module _ (w w' : List ℕ) (p : Scope) (s : Step) (v : ℕ) (fine : Fine w p s) 
           let e = edge-kept in
           record { words = omega arith; locals = omega arith; names = omega arith; registers = omega arith; visits = same-count (only .other 3077 (λ e. omega arith)) }
 
-  registers-code : tab (inst-at w' (p .nodes)) (s .code) ≡ tab (inst-at w (p .nodes)) (s .code)
-  registers-code = code-same w w' (p .nodes) (s .code) (omega (arith, fine .room)) (above (top (p .nodes) - 2 * s .code) (top (p .nodes)) (omega (arith, fine .room)) only)
+  registers-code : tab (inst-at w' (p .nodes)) (s .pc) ≡ tab (inst-at w (p .nodes)) (s .pc)
+  registers-code = code-same w w' (p .nodes) (s .pc) (omega (arith, fine .room)) (above (top (p .nodes) - 2 * s .pc) (top (p .nodes)) (omega (arith, fine .room)) only)
 
   -- one register
   register-next : (node : ℕ) → v ≡ 1 → ¬ (registers w (p .depth) ≡ 255) → (ps : List Proto) → next-register node (state-of w p s ps) ≡ done (registers w (p .depth)) (state-of w' p (with-result s (registers w (p .depth))) ps)

@@ -33,7 +33,7 @@ sound-again {w} {w'} {p} h len fs es ln =
     }
 
 -- another step over the same words
-pub fine-step : {w : List ℕ} {p : Scope} {s : Step} (r : Step) → Fine w p s → while-going (r .outcome) (p .depth ≤ 7) → r .code ≤ s .code → r .constants ≤ 1024 → r .globals ≤ r .constants + 1 → r .functions ≡ s .functions → written-by (r .outcome) ≤ written-by (s .outcome) → r .result < result-limit (r .outcome) → Fine w p r
+pub fine-step : {w : List ℕ} {p : Scope} {s : Step} (r : Step) → Fine w p s → while-going (r .outcome) (p .depth ≤ 7) → r .pc ≤ s .pc → r .constants ≤ 1024 → r .globals ≤ r .constants + 1 → r .functions ≡ s .functions → written-by (r .outcome) ≤ written-by (s .outcome) → r .result < result-limit (r .outcome) → Fine w p r
 fine-step r h n c k g f wr v =
     record { sound = h .sound; nested = n; room = omega (arith, h .room, c); constants = k; globals = g; functions = omega (arith, h .functions, f); written = omega (arith, h .written, wr, f); result = v }
 

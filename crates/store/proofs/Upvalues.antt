@@ -83,7 +83,7 @@ module _ (w w' : List ℕ) (p : Scope) (s : Step) (fine : Fine w p s) (deep : p 
   unfolding config-of
   caught-config ps =
       rw
-      (caught-state ps, code-same w w' (p .nodes) (s .code) (omega (arith, fine .room)) (record { same = λ i a b. caught .high i (omega (arith, fine .room)) }))
+      (caught-state ps, code-same w w' (p .nodes) (s .pc) (omega (arith, fine .room)) (record { same = λ i a b. caught .high i (omega (arith, fine .room)) }))
 
   says : search-of w' (p .nodes) (p .depth) (p .block) (p .loops) f ≡ search-outward name (open-at w (p .nodes) (p .depth) (p .block) (p .loops)) (around w (p .nodes) (p .depth))
   says = sought .says (p .block) (p .loops)

@@ -80,7 +80,7 @@ module _ {w w' : List ℕ} {p : Scope} {s : Step} (fine : Fine w p s) (t : Ticke
   unfolding config-of state-of
   ticked-config deep ps =
       rw (
-        code-same w w' (p .nodes) (s .code) (omega (arith, fine .room)) (above (top (p .nodes) - 2 * s .code) (top (p .nodes)) (omega (arith, fine .room)) only),
+        code-same w w' (p .nodes) (s .pc) (omega (arith, fine .room)) (above (top (p .nodes) - 2 * s .pc) (top (p .nodes)) (omega (arith, fine .room)) only),
         constants-same w w' (s .constants) (below 0 (3 * s .constants) (omega (arith, fine .constants)) only),
         globals-same w w' (s .globals) (omega (arith, fine .globals, fine .constants)) (above 4168 4688 (omega arith) only),
         ticked-open deep,

@@ -42,7 +42,7 @@ pub record Begun (w : List ℕ) (n : ℕ) (w' : List ℕ) : Type 0 where
 -- a function inside p is entered: its scope is `inner p`; what p's scope needs when it is left again
 pub record Enters (w : List ℕ) (p : Scope) (s : Step) (w' : List ℕ) (r : Step) (node name : ℕ) : Type 0 where
   pub leaf : Leaf w p s w' (inner p) r nothing (fwd-unit (enter-function node name))
-  pub code : r .code ≡ s .code
+  pub code : r .pc ≡ s .pc
   pub first-is : first w' (suc (p .depth)) ≡ p .block
   pub saved-is : saved w' (suc (p .depth)) ≡ p .loops
   -- p's function takes no register

@@ -84,7 +84,7 @@ taken w (suc d) = registers w (suc d) + taken w d
 
 -- the words that pending code and locals take
 abbrev pub live : List ℕ → Scope → Step → ℕ
-live w p s = 2 * s .code + edge w (p .nodes) (p .block)
+live w p s = 2 * s .pc + edge w (p .nodes) (p .block)
 
 -- room for k nodes that are still to be lowered, and for a words and b locals beside
 pub record Roomy (w : List ℕ) (p : Scope) (s : Step) (k a b : ℕ) : Type 0 where
@@ -119,7 +119,7 @@ pub record Moves (w : List ℕ) (p : Scope) (s : Step) (w' : List ℕ) (q : Scop
   pub back : goes-on (r .outcome) → goes-on (s .outcome)
   pub used : while-going (r .outcome) (Used w p s w' q r u)
   -- pending code is not cut off
-  pub longer : s .code ≤ r .code
+  pub longer : s .pc ≤ r .pc
   -- a step that uses no local leaves their number
   pub still : u .locals ≡ 0 → edge w' (q .nodes) (q .block) ≡ edge w (p .nodes) (p .block)
 

@@ -49,7 +49,7 @@ outcome-of s = s .outcome
 
 -- how many instructions are pending
 abbrev pub pc-of : Step → ℕ
-pc-of s = s .code
+pc-of s = s .pc
 
 -- how many constants there are
 abbrev pub constants-of : Step → ℕ
@@ -98,7 +98,7 @@ state-of w p s ps =
 
 -- the pending code of all open functions, the result register and the State
 unfoldable pub config-of : List ℕ → Scope → Step → List Proto → Config
-config-of w p s ps = config (tab (inst-at w (p .nodes)) (s .code)) (s .result) (state-of w p s ps)
+config-of w p s ps = config (tab (inst-at w (p .nodes)) (s .pc)) (s .result) (state-of w p s ps)
 
 -- a refusal by its cause and node, else the configuration
 abbrev pub run-by : Outcome → Config → Run
@@ -147,27 +147,27 @@ global-scope p = main-alone (p .depth) (p .block)
 
 -- where the lowering starts: nothing is written, pending or stored
 abbrev pub first-step : Step
-first-step = record { outcome = Accepted 0; code = 0; constants = 0; globals = 0; functions = 0; result = 0 }
+first-step = record { outcome = Accepted 0; pc = 0; constants = 0; globals = 0; functions = 0; result = 0 }
 
 -- so many instructions, and this result
-abbrev pub advanced : Step → (code result : ℕ) → Step
-advanced s k r = record { outcome = s .outcome; code = k; constants = s .constants; globals = s .globals; functions = s .functions; result = r }
+abbrev pub advanced : Step → (pc result : ℕ) → Step
+advanced s k r = record { outcome = s .outcome; pc = k; constants = s .constants; globals = s .globals; functions = s .functions; result = r }
 
 -- as many instructions as before, and this result
 abbrev pub with-result : Step → ℕ → Step
-with-result s r = advanced s (s .code) r
+with-result s r = advanced s (s .pc) r
 
 -- one constant more, whose index is the result
 abbrev pub constant-more : Step → Step
-constant-more s = record { outcome = s .outcome; code = s .code; constants = s .constants + 1; globals = s .globals; functions = s .functions; result = s .constants }
+constant-more s = record { outcome = s .outcome; pc = s .pc; constants = s .constants + 1; globals = s .globals; functions = s .functions; result = s .constants }
 
 -- one global more
 abbrev pub global-more : Step → Step
-global-more s = record { outcome = s .outcome; code = s .code; constants = s .constants; globals = s .globals + 1; functions = s .functions; result = s .result }
+global-more s = record { outcome = s .outcome; pc = s .pc; constants = s .constants; globals = s .globals + 1; functions = s .functions; result = s .result }
 
 -- one prototype more, whose index is the result: the prototypes' bytes end at `end`, and its code, from `first` on, is cut off
 abbrev pub prototype-more : Step → (first end : ℕ) → Step
-prototype-more s first end = record { outcome = Accepted end; code = first; constants = s .constants; globals = s .globals; functions = s .functions + 1; result = s .functions }
+prototype-more s first end = record { outcome = Accepted end; pc = first; constants = s .constants; globals = s .globals; functions = s .functions + 1; result = s .functions }
 
 -- refused now, or before
 abbrev pub refused-by : Outcome → Cause → ℕ → Outcome
@@ -182,7 +182,7 @@ result-by (Refused cause node) r = r
 -- a step that is refused now: its counts stay; one that was refused before stays as it is
 abbrev pub refused-step : Step → Cause → ℕ → Step
 refused-step s k n =
-    record { outcome = refused-by (s .outcome) k n; code = s .code; constants = s .constants; globals = s .globals; functions = s .functions; result = result-by (s .outcome) (s .result) }
+    record { outcome = refused-by (s .outcome) k n; pc = s .pc; constants = s .constants; globals = s .globals; functions = s .functions; result = result-by (s .outcome) (s .result) }
 
 -- not refused so far
 abbrev pub goes-on : Outcome → Type 0
@@ -271,7 +271,7 @@ pub record Fine (w : List ℕ) (p : Scope) (s : Step) : Type 0 where
   -- eight functions are open at most, unless one was refused
   pub nested : while-going (s .outcome) (p .depth ≤ 7)
   -- locals, which go upward, and pending code, which goes downward, do not meet
-  pub room : first-local (p .nodes) + 2 * s .code + edge w (p .nodes) (p .block) ≤ top (p .nodes)
+  pub room : first-local (p .nodes) + 2 * s .pc + edge w (p .nodes) (p .block) ≤ top (p .nodes)
   pub constants : s .constants ≤ 1024
   -- a global's name is a constant, but for one that is still due
   pub globals : s .globals ≤ s .constants + 1

@@ -57,7 +57,7 @@ pub use steps::settle;
 // constants, globals and finished prototypes there are, and the register of the last result.
 pub struct Step {
     pub outcome: meaning::Outcome,
-    pub code: usize,
+    pub pc: usize,
     pub constants: usize,
     pub globals: usize,
     pub functions: usize,

@@ -11,7 +11,7 @@ pub(crate) fn first_step() -> Step
 {
     Step {
         outcome: Outcome::Accepted(0),
-        code: 0,
+        pc: 0,
         constants: 0,
         globals: 0,
         functions: 0,
@@ -29,7 +29,7 @@ pub fn refuse(step: Step, cause: meaning::Cause, node: usize) -> Step
     };
     Step {
         outcome: Outcome::Refused(cause, node),
-        code: step.code,
+        pc: step.pc,
         constants: step.constants,
         globals: step.globals,
         functions: step.functions,
@@ -48,13 +48,13 @@ fn again(o: Outcome) -> Outcome
 }
 
 // The step with so many instructions and this result.
-pub fn advance(step: Step, code: usize, result: u32) -> Step
-    ensures { λ r. ⌜ r ≡ advanced step code result ⌝ }
+pub fn advance(step: Step, pc: usize, result: u32) -> Step
+    ensures { λ r. ⌜ r ≡ advanced step pc result ⌝ }
 {
     let o = step.outcome;
     Step {
         outcome: again(o),
-        code: code,
+        pc: pc,
         constants: step.constants,
         globals: step.globals,
         functions: step.functions,
@@ -66,7 +66,7 @@ pub fn advance(step: Step, code: usize, result: u32) -> Step
 pub fn settle(step: Step, result: u32) -> Step
     ensures { λ r. ⌜ r ≡ with-result step result ⌝ }
 {
-    advance(step, step.code, result)
+    advance(step, step.pc, result)
 }
 
 // One constant more; its index is the result.
@@ -77,7 +77,7 @@ pub(crate) fn constant_more(step: Step) -> Step
     let o = step.outcome;
     Step {
         outcome: again(o),
-        code: step.code,
+        pc: step.pc,
         constants: step.constants + 1,
         globals: step.globals,
         functions: step.functions,
@@ -93,7 +93,7 @@ pub(crate) fn global_more(step: Step) -> Step
     let o = step.outcome;
     Step {
         outcome: again(o),
-        code: step.code,
+        pc: step.pc,
         constants: step.constants,
         globals: step.globals + 1,
         functions: step.functions,
@@ -108,7 +108,7 @@ pub fn prototype_more(step: Step, first: usize, end: usize) -> Step
 {
     Step {
         outcome: Outcome::Accepted(end),
-        code: first,
+        pc: first,
         constants: step.constants,
         globals: step.globals,
         functions: step.functions + 1,

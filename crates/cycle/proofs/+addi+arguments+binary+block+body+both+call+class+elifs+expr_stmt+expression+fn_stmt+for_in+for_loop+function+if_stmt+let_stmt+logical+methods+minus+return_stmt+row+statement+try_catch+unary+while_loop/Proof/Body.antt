@@ -42,12 +42,12 @@ module _ {t w : List ℕ} {p : Scope} {s : Step} {i f d : ℕ} (g : AskBody t w 
     stmts = give-row (from inner-ready) (g .0 .known) f (count-of (fields t) i) (g .0 .ends) (g .0 .each) (omega arith) (omega arith) (omega arith) (omega arith) (g .0 .behind)
 
     module _ {o w2 o2 : List ℕ} {s2 : Step} (d2 : LowersRow t i f (count-of (fields t) i) w1 o (deeper p) s w2 o2 s2) where
-      at-end : Fine w2 (deeper p) s2 × Room w2 (deeper p) s2 0 2 0 × while-going (s2 .outcome) (s .code ≤ s2 .code) × while-going (s2 .outcome) (s2 .result < 255)
+      at-end : Fine w2 (deeper p) s2 × Room w2 (deeper p) s2 0 2 0 × while-going (s2 .outcome) (s .pc ≤ s2 .pc) × while-going (s2 .outcome) (s2 .result < 255)
       at-end =
           let y = stand 0 2 0 (from inner-ready ▹ d2 .does .moves) (omega arith) (omega arith) (omega arith) (omega arith) in
-          (y .fine, y .room, meanwhile (s2 .outcome) (s .code ≤ s2 .code) (λ e. d2 .does .moves .longer), d2 .small (g .3))
+          (y .fine, y .room, meanwhile (s2 .outcome) (s .pc ≤ s2 .pc) (λ e. d2 .does .moves .longer), d2 .small (g .3))
 
-      module _ {w3 w4 : List ℕ} {s3 : Step} (d3 : Leaf w2 (deeper p) s2 w3 (deeper p) s3 (uses 2 0 0) (end-body (count-of (fields t) i - f) (s .code) i)) (d4 : Popped w3 p w4) where
+      module _ {w3 w4 : List ℕ} {s3 : Step} (d3 : Leaf w2 (deeper p) s2 w3 (deeper p) s3 (uses 2 0 0) (end-body (count-of (fields t) i - f) (s .pc) i)) (d4 : Popped w3 p w4) where
         lowers : LowersBody t i f w o p s w4 o2 s3
         lowers =
             let m = (from inner-ready ▹ d2 .does .moves ▹ d3 .moves) .moves in

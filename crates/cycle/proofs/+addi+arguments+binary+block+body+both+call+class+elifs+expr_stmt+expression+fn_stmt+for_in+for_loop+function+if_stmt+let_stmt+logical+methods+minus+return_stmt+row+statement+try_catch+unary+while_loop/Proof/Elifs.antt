@@ -91,19 +91,19 @@ module _ {t w0 : List ℕ} {p : Scope} {s0 : Step} {i f g d : ℕ} (r : AskElifs
           thens = let n = sizes in give-row (from here ▹ d1 .does .moves ▹ d2 .moves) known-elif 1 _ (omega arith) (elif .each) (omega arith) (omega arith) (omega arith) (omega arith) (behind-later 1 (omega arith) (stands .1))
 
           module _ {w3 o3 : List ℕ} {s3 : Step} (d3 : LowersRow t (word-of (fields t) i k) 1 (count-of (fields t) (word-of (fields t) i k)) w2 o1 p s2 w3 o3 s3) where
-            at-end : Fine w3 p s3 × Room w3 p s3 0 2 0 × while-going (s3 .outcome) (s1 .code + 2 ≤ s3 .code)
+            at-end : Fine w3 p s3 × Room w3 p s3 0 2 0 × while-going (s3 .outcome) (s1 .pc + 2 ≤ s3 .pc)
             unfolding test-and-jump
             at-end =
                 let n = sizes in
                 let y = stand 0 2 0 (from here ▹ d1 .does .moves ▹ d2 .moves ▹ d3 .does .moves) (omega arith) (omega arith) (omega arith) (omega arith) in (
                   y .fine,
                   y .room,
-                  meanwhile (s3 .outcome) (s1 .code + 2 ≤ s3 .code) λ e.
+                  meanwhile (s3 .outcome) (s1 .pc + 2 ≤ s3 .pc) λ e.
                       let l = adds d2 2 (λ c. twice (c .code) _ _) (d3 .does .moves .back e) in
                       omega (arith, d3 .does .moves .longer),
                 )
 
-            turn : {w4 w5 : List ℕ} {s4 : Step} → Leaf w3 p s3 w4 p s4 (uses 2 0 0) (sure (end-branch (s1 .code) no-mark)) → Ticked w4 w5 → Branching t w0 o0 p s0 i f g w5 o3 s4 (k + 1)
+            turn : {w4 w5 : List ℕ} {s4 : Step} → Leaf w3 p s3 w4 p s4 (uses 2 0 0) (sure (end-branch (s1 .pc) no-mark)) → Ticked w4 w5 → Branching t w0 o0 p s0 i f g w5 o3 s4 (k + 1)
             unfolding lower-expr
             turn d4 d5 =
                 let n = sizes in

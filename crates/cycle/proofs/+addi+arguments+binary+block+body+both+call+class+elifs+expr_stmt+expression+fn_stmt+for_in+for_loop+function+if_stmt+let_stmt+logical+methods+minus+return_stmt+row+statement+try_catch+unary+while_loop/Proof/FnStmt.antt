@@ -75,7 +75,7 @@ module _ {t w : List ℕ} {p : Scope} {s : Step} {i : ℕ} (g : AskFun t w p s i
             (record { ready = y; known = g .0 .known; ends = omega arith; each = x .body; behind = b }, omega (arith, g .0 .ready .blocks), x .size, d3 .1)
 
         module _ {o w4 o4 : List ℕ} {s4 : Step} (d4 : LowersBody t i (3 + 2 * word-of (fields t) i 2) w3 o (inner p) s3 w4 o4 s4) where
-          at-end : Fine w4 (inner p) s4 × Leavable w4 p × Owing w4 p (cut-step s4 (s1 .code)) 4 1 (2 - (p .depth + p .block)) × while-going (s4 .outcome) ((s1 .code ≤ s4 .code) × (s1 .result < 255))
+          at-end : Fine w4 (inner p) s4 × Leavable w4 p × Owing w4 p (cut-step s4 (s1 .pc)) 4 1 (2 - (p .depth + p .block)) × while-going (s4 .outcome) ((s1 .pc ≤ s4 .pc) × (s1 .result < 255))
           at-end =
               let n = fun-size x in
               let m1 = d1 .0 0 .moves in
@@ -83,10 +83,10 @@ module _ {t w : List ℕ} {p : Scope} {s : Step} {i : ℕ} (g : AskFun t w p s i
                 d4 .moves .fine,
                 leavable (m1 .fine) d2 m,
                 cut-owing m1 d2 m (omega arith) 4 1 (2 - (p .depth + p .block)) (g .0 .ready) (omega arith) (omega arith) (omega arith),
-                meanwhile (s4 .outcome) ((s1 .code ≤ s4 .code) × (s1 .result < 255)) λ e. (begun m1 d2 m (omega arith), due (s1 .outcome) (d1 .1) (d2 .leaf .moves .back (m .back e))),
+                meanwhile (s4 .outcome) ((s1 .pc ≤ s4 .pc) × (s1 .result < 255)) λ e. (begun m1 d2 m (omega arith), due (s1 .outcome) (d1 .1) (d2 .leaf .moves .back (m .back e))),
               )
 
-          module _ {w5 o5 : List ℕ} {s5 : Step} (d5 : Ends (s1 .code) w4 o4 p s4 w5 o5 s5 (both (uses 4 1 0) (a-name-back p)) (end-fun (s1 .code) i (token (word-of (fields t) i 0) (word-of (fields t) i 1)) (word-of (fields t) i 2) (s1 .result)) × Small s5) where
+          module _ {w5 o5 : List ℕ} {s5 : Step} (d5 : Ends (s1 .pc) w4 o4 p s4 w5 o5 s5 (both (uses 4 1 0) (a-name-back p)) (end-fun (s1 .pc) i (token (word-of (fields t) i 0) (word-of (fields t) i 1)) (word-of (fields t) i 2) (s1 .result)) × Small s5) where
             lowers : LowersFun t i w o p s w5 o5 s5
             unfolding lower-expr
             lowers =
@@ -98,7 +98,7 @@ module _ {t w : List ℕ} {p : Scope} {s : Step} {i : ℕ} (g : AskFun t w p s i
                 let a3 = next-leaf a2 (d3 .0) in
                 let a4 = next a3 d4 in
                 let a5 = d5 .0 .does (a4 .protos) (a4 .image) in
-                let e = ap (λ k. bind (run w4 (inner p) s4 (a4 .protos)) (end-fun (s1 .code) i (token (word-of (fields t) i 0) (word-of (fields t) i 1)) k (s1 .result))) (sym (parameters-at (fields t) i 3 (word-of (fields t) i 2) (x .size))) in
+                let e = ap (λ k. bind (run w4 (inner p) s4 (a4 .protos)) (end-fun (s1 .pc) i (token (word-of (fields t) i 0) (word-of (fields t) i 1)) k (s1 .result))) (sym (parameters-at (fields t) i 3 (word-of (fields t) i 2) (x .size))) in
                 ends a5 (rw (x .is-fun) (fun-chain _ _ _ _ _ _ (a1 .runs) _ (known _ _ _ (a1 .protos)) _ (a2 .runs) _ (a3 .runs) _ (a4 .runs) _ (a5 .runs ∙ e)))
 
 -- what each function that is called asks and promises; a member of the cycle at a smaller measure

@@ -117,14 +117,14 @@ module _ {t w : List ℕ} {p : Scope} {s : Step} {i : ℕ} (g : GivenStmt t w p 
         body = let n = for-in-size x in give-looped (from (g .ready) ▹ d1 .moves ▹ d2 .does .moves ▹ d3 .moves) (g .known) (x .body) (omega arith) (omega arith) (omega arith) (omega arith)
 
         module _ {w4 o4 : List ℕ} {s4 : Step} (d4 : LowersStmt t (word-of (fields t) i 2) w3 o2 (looped p) s3 w4 o4 s4) where
-          at-end : Fine w4 p s4 × Room w4 p s4 0 4 0 × while-going (s4 .outcome) ((s .code ≤ s4 .code) × (s2 .code + 4 ≤ s4 .code) × (s1 .result < 256))
+          at-end : Fine w4 p s4 × Room w4 p s4 0 4 0 × while-going (s4 .outcome) ((s .pc ≤ s4 .pc) × (s2 .pc + 4 ≤ s4 .pc) × (s1 .result < 256))
           at-end =
               let n = for-in-size x in
               let m4 = loop-around p (d3 .moves .fine) (d4 .does .moves) in
               let y = stand 0 4 0 (from (g .ready) ▹ d1 .moves ▹ d2 .does .moves ▹ d3 .moves ▹ m4) (omega arith) (omega arith) (omega arith) (omega arith) in (
                 y .fine,
                 y .room,
-                meanwhile (s4 .outcome) ((s .code ≤ s4 .code) × (s2 .code + 4 ≤ s4 .code) × (s1 .result < 256)) λ e.
+                meanwhile (s4 .outcome) ((s .pc ≤ s4 .pc) × (s2 .pc + 4 ≤ s4 .pc) × (s1 .result < 256)) λ e.
                     let e3 = m4 .back e in
                     let v1 = due (s1 .outcome) h1 (d2 .does .moves .back (d3 .moves .back e3)) in
                     let l = due (s3 .outcome) (leaf-known (λ n v n' v'. n + 4 ≤ n') d3 (head-longer _ _ _ _)) e3 in
@@ -134,7 +134,7 @@ module _ {t w : List ℕ} {p : Scope} {s : Step} {i : ℕ} (g : GivenStmt t w p 
                     (omega arith, omega arith, omega arith),
               )
 
-          module _ {w5 : List ℕ} {s5 : Step} (d5 : Leaf w4 p s4 w5 p s5 (uses 4 0 0) (sure (end-for-in (p .mode) (s .code) (s2 .code) (s1 .result) (word-of (fields t) i 0)))) where
+          module _ {w5 : List ℕ} {s5 : Step} (d5 : Leaf w4 p s4 w5 p s5 (uses 4 0 0) (sure (end-for-in (p .mode) (s .pc) (s2 .pc) (s1 .result) (word-of (fields t) i 0)))) where
             lowers : UnderStmt t i w o p s w5 o4 s5
             unfolding lower-expr end-for-in end-loop
             lowers =

@@ -94,7 +94,7 @@ module _ {t w : List ℕ} {p : Scope} {s : Step} {i : ℕ} (g : GivenStmt t w p 
               give-expr (from (g .ready) ▹ d1 .does .moves ▹ d2 .does .moves ▹ d3 .moves ▹ loop-around p (d3 .moves .fine) (d4 .does .moves)) (g .known) (x .increment) (omega arith) (omega arith) (omega arith) (omega arith)
 
           module _ {w5 o5 : List ℕ} {s5 : Step} (d5 : LowersExpr t (word-of (fields t) i 3) w4 o4 p s4 w5 o5 s5) where
-            at-end : Fine w5 p s5 × Room w5 p s5 0 2 0 × while-going (s5 .outcome) ((s .code ≤ s5 .code) × (s1 .code ≤ s5 .code) × (s2 .code + 2 ≤ s5 .code) × (0 < 256) × (s .code ≤ s4 .code))
+            at-end : Fine w5 p s5 × Room w5 p s5 0 2 0 × while-going (s5 .outcome) ((s .pc ≤ s5 .pc) × (s1 .pc ≤ s5 .pc) × (s2 .pc + 2 ≤ s5 .pc) × (0 < 256) × (s .pc ≤ s4 .pc))
             unfolding test-and-jump
             at-end =
                 let n = for-size-of x in
@@ -102,7 +102,7 @@ module _ {t w : List ℕ} {p : Scope} {s : Step} {i : ℕ} (g : GivenStmt t w p 
                 let y = stand 0 2 0 (from (g .ready) ▹ d1 .does .moves ▹ d2 .does .moves ▹ d3 .moves ▹ m4 ▹ d5 .does .moves) (omega arith) (omega arith) (omega arith) (omega arith) in (
                   y .fine,
                   y .room,
-                  meanwhile (s5 .outcome) ((s .code ≤ s5 .code) × (s1 .code ≤ s5 .code) × (s2 .code + 2 ≤ s5 .code) × (0 < 256) × (s .code ≤ s4 .code)) λ e.
+                  meanwhile (s5 .outcome) ((s .pc ≤ s5 .pc) × (s1 .pc ≤ s5 .pc) × (s2 .pc + 2 ≤ s5 .pc) × (0 < 256) × (s .pc ≤ s4 .pc)) λ e.
                       let l = adds d3 2 (λ c. twice (c .code) _ _) (m4 .back (d5 .does .moves .back e)) in
                       let l1 = d1 .does .moves .longer in
                       let l2 = d2 .does .moves .longer in
@@ -111,7 +111,7 @@ module _ {t w : List ℕ} {p : Scope} {s : Step} {i : ℕ} (g : GivenStmt t w p 
                       (omega arith, omega arith, omega arith, omega arith, omega arith),
                 )
 
-            module _ {w6 : List ℕ} {s6 : Step} (d6 : Leaf w5 p s5 w6 p s6 (uses 2 0 0) (sure (end-loop (p .mode) (s .code) (s4 .code) (s1 .code) (s2 .code) 0 (word-of (fields t) i 0)))) where
+            module _ {w6 : List ℕ} {s6 : Step} (d6 : Leaf w5 p s5 w6 p s6 (uses 2 0 0) (sure (end-loop (p .mode) (s .pc) (s4 .pc) (s1 .pc) (s2 .pc) 0 (word-of (fields t) i 0)))) where
               lowers : UnderStmt t i w o p s w6 o5 s6
               unfolding lower-expr end-loop
               lowers =

@@ -80,13 +80,13 @@ module _ {t w : List ℕ} {p : Scope} {s : Step} {i : ℕ} (g : GivenExpr t w p 
             (record { ready = y; known = g .known; ends = omega arith; each = x .body; behind = b }, omega (arith, g .ready .blocks), x .size, d3 .1)
 
         module _ {o w4 o4 : List ℕ} {s4 : Step} (d4 : LowersBody t i (1 + 2 * word-of (fields t) i 0) w3 o (inner p) s3 w4 o4 s4) where
-          at-end : Fine w4 (inner p) s4 × Leavable w4 p × Room w4 p (cut-step s4 (s1 .code)) 0 2 0 × while-going (s4 .outcome) ((s1 .code ≤ s4 .code) × (s1 .result < 255))
+          at-end : Fine w4 (inner p) s4 × Leavable w4 p × Room w4 p (cut-step s4 (s1 .pc)) 0 2 0 × while-going (s4 .outcome) ((s1 .pc ≤ s4 .pc) × (s1 .result < 255))
           at-end =
               let n = function-size x in
               let m = moves-then refl (omega arith) (omega arith) (d3 .0 .moves) (d4 .moves) in
-              (d4 .moves .fine, leavable (d1 .0 .moves .fine) d2 m, cut-room (d1 .0 .moves) d2 m (omega arith) 0 2 0 (g .ready) (omega arith) (omega arith) (omega arith), meanwhile (s4 .outcome) ((s1 .code ≤ s4 .code) × (s1 .result < 255)) λ e. (begun (d1 .0 .moves) d2 m (omega arith), d1 .1))
+              (d4 .moves .fine, leavable (d1 .0 .moves .fine) d2 m, cut-room (d1 .0 .moves) d2 m (omega arith) 0 2 0 (g .ready) (omega arith) (omega arith) (omega arith), meanwhile (s4 .outcome) ((s1 .pc ≤ s4 .pc) × (s1 .result < 255)) λ e. (begun (d1 .0 .moves) d2 m (omega arith), d1 .1))
 
-          module _ {w5 o5 : List ℕ} {s5 : Step} (d5 : Ends (s1 .code) w4 o4 p s4 w5 o5 s5 (uses 2 0 0) (end-function (s1 .code) i (word-of (fields t) i 0) (s1 .result) (first-mark (tokens-at (fields t) i 1 (1 + 2 * word-of (fields t) i 0)))) × Small s5) where
+          module _ {w5 o5 : List ℕ} {s5 : Step} (d5 : Ends (s1 .pc) w4 o4 p s4 w5 o5 s5 (uses 2 0 0) (end-function (s1 .pc) i (word-of (fields t) i 0) (s1 .result) (first-mark (tokens-at (fields t) i 1 (1 + 2 * word-of (fields t) i 0)))) × Small s5) where
             lowers : UnderExpr t i w o p s w5 o5 s5
             unfolding lower-expr
             lowers =
@@ -98,7 +98,7 @@ module _ {t w : List ℕ} {p : Scope} {s : Step} {i : ℕ} (g : GivenExpr t w p 
                 let a3 = next-leaf a2 (d3 .0) in
                 let a4 = next a3 d4 in
                 let a5 = d5 .0 .does (a4 .protos) (a4 .image) in
-                let e = ap (λ k. bind (run w4 (inner p) s4 (a4 .protos)) (end-function (s1 .code) i k (s1 .result) (first-mark (tokens-at (fields t) i 1 (1 + 2 * word-of (fields t) i 0))))) (sym (parameters-at (fields t) i 1 (word-of (fields t) i 0) (x .size))) in
+                let e = ap (λ k. bind (run w4 (inner p) s4 (a4 .protos)) (end-function (s1 .pc) i k (s1 .result) (first-mark (tokens-at (fields t) i 1 (1 + 2 * word-of (fields t) i 0))))) (sym (parameters-at (fields t) i 1 (word-of (fields t) i 0) (x .size))) in
                 ends a5 (rw (x .is) (function-chain _ _ _ _ _ (a1 .runs) _ (known _ _ _ (a1 .protos)) _ (a2 .runs) _ (a3 .runs) _ (a4 .runs) _ (a5 .runs ∙ e)))
 
 -- what each function that is called asks and promises; a member of the cycle at a smaller measure

@@ -50,19 +50,19 @@ module _ {t w : List ℕ} {p : Scope} {s : Step} {i n m : ℕ} (g : GivenStmt t 
       thens b = let z = if-size x in give-row (from (g .ready) ▹ d1 .does .moves ▹ d2 .moves) (g .known) 3 (3 + n) (omega (arith, x .size)) (x .then-each) (omega arith) (omega arith) (omega arith) (omega arith) (behind-later 3 (omega arith) b)
 
       module _ {w3 o3 : List ℕ} {s3 : Step} (d3 : LowersRow t i 3 (3 + n) w2 o1 p s2 w3 o3 s3) where
-        at-branch : Fine w3 p s3 × Room w3 p s3 0 2 0 × while-going (s3 .outcome) (s1 .code + 2 ≤ s3 .code)
+        at-branch : Fine w3 p s3 × Room w3 p s3 0 2 0 × while-going (s3 .outcome) (s1 .pc + 2 ≤ s3 .pc)
         unfolding test-and-jump
         at-branch =
             let z = if-size x in
             let y = stand 0 2 0 (from (g .ready) ▹ d1 .does .moves ▹ d2 .moves ▹ d3 .does .moves) (omega arith) (omega arith) (omega arith) (omega arith) in (
               y .fine,
               y .room,
-              meanwhile (s3 .outcome) (s1 .code + 2 ≤ s3 .code) λ e.
+              meanwhile (s3 .outcome) (s1 .pc + 2 ≤ s3 .pc) λ e.
                   let l = adds d2 2 (λ c. twice (c .code) _ _) (d3 .does .moves .back e) in
                   omega (arith, d3 .does .moves .longer),
             )
 
-        module _ {w4 : List ℕ} {s4 : Step} (d4 : Leaf w3 p s3 w4 p s4 (uses 2 0 0) (sure (end-branch (s1 .code) (word-of (fields t) i 0)))) where
+        module _ {w4 : List ℕ} {s4 : Step} (d4 : Leaf w3 p s3 w4 p s4 (uses 2 0 0) (sure (end-branch (s1 .pc) (word-of (fields t) i 0)))) where
           others : {d : ℕ} → Behind (fields t) i 1 d → AskElifs t w4 p s4 i (4 + n) (4 + n + m) d
           others b =
               let z = if-size x in
@@ -81,12 +81,12 @@ module _ {t w : List ℕ} {p : Scope} {s : Step} {i n m : ℕ} (g : GivenStmt t 
                 give-row (from (g .ready) ▹ d1 .does .moves ▹ d2 .moves ▹ d3 .does .moves ▹ d4 .moves ▹ d5 .does .moves) (g .known) (4 + n + m) _ (omega arith) (x .else-each) (omega arith) (omega arith) (omega arith) (omega arith) (behind-later (4 + n + m) (omega arith) b)
 
             module _ {w6 o6 : List ℕ} {s6 : Step} (d6 : LowersRow t i (4 + n + m) (count-of (fields t) i) w5 o5 p s5 w6 o6 s6) where
-              at-end : Fine w6 p s6 × while-going (s6 .outcome) (s .code ≤ s6 .code)
+              at-end : Fine w6 p s6 × while-going (s6 .outcome) (s .pc ≤ s6 .pc)
               at-end =
                   let y = (from (g .ready) ▹ d1 .does .moves ▹ d2 .moves ▹ d3 .does .moves ▹ d4 .moves ▹ d5 .does .moves ▹ d6 .does .moves) .moves in
-                  (y .fine, meanwhile (s6 .outcome) (s .code ≤ s6 .code) λ e. y .longer)
+                  (y .fine, meanwhile (s6 .outcome) (s .pc ≤ s6 .pc) λ e. y .longer)
 
-              module _ {w7 : List ℕ} {s7 : Step} (d7 : Leaf w6 p s6 w7 p s7 (uses 0 0 0) (sure (end-if (s .code)))) where
+              module _ {w7 : List ℕ} {s7 : Step} (d7 : Leaf w6 p s6 w7 p s7 (uses 0 0 0) (sure (end-if (s .pc)))) where
                 lowers : UnderStmt t i w o p s w7 o6 s7
                 unfolding lower-expr end-if
                 lowers =

@@ -50,14 +50,14 @@ module _ {t w : List ℕ} {p : Scope} {s : Step} {i : ℕ} (g : GivenExpr t w p 
           give-expr (from (g .ready) ▹ d1 .does .moves ▹ d2 .moves) (g .known) (x .right) (omega arith) (omega arith) (omega arith) (omega arith)
 
       module _ {w3 o3 : List ℕ} {s3 : Step} (d3 : LowersExpr t (word-of (fields t) i 3) w2 o1 p s2 w3 o3 s3) where
-        at-end : Fine w3 p s3 × Room w3 p s3 0 2 0 × while-going (s3 .outcome) ((s1 .code + 2 ≤ s3 .code) × (s1 .result < 256) × (s3 .result < 256))
+        at-end : Fine w3 p s3 × Room w3 p s3 0 2 0 × while-going (s3 .outcome) ((s1 .pc + 2 ≤ s3 .pc) × (s1 .result < 256) × (s3 .result < 256))
         unfolding test-and-jump
         at-end =
             let n = logical-size x in
             let y = stand 0 2 0 (from (g .ready) ▹ d1 .does .moves ▹ d2 .moves ▹ d3 .does .moves) (omega arith) (omega arith) (omega arith) (omega arith) in (
               y .fine,
               y .room,
-              meanwhile (s3 .outcome) ((s1 .code + 2 ≤ s3 .code) × (s1 .result < 256) × (s3 .result < 256)) λ e.
+              meanwhile (s3 .outcome) ((s1 .pc + 2 ≤ s3 .pc) × (s1 .result < 256) × (s3 .result < 256)) λ e.
                   let e2 = d3 .does .moves .back e in
                   let v1 = due (s1 .outcome) (d1 .small) (d2 .moves .back e2) in
                   let v3 = due (s3 .outcome) (d3 .small) e in
@@ -65,7 +65,7 @@ module _ {t w : List ℕ} {p : Scope} {s : Step} {i : ℕ} (g : GivenExpr t w p 
                   (omega (arith, d3 .does .moves .longer), omega arith, omega arith),
             )
 
-        module _ {w4 : List ℕ} {s4 : Step} (d4 : Leaf w3 p s3 w4 p s4 (uses 2 0 0) (sure (end-logical (s1 .code) (s1 .result) (word-of (fields t) i 1)))) where
+        module _ {w4 : List ℕ} {s4 : Step} (d4 : Leaf w3 p s3 w4 p s4 (uses 2 0 0) (sure (end-logical (s1 .pc) (s1 .result) (word-of (fields t) i 1)))) where
           lowers : UnderExpr t i w o p s w4 o3 s4
           unfolding lower-expr end-logical
           lowers =

@@ -68,17 +68,17 @@ module _ {t w : List ℕ} {p : Scope} {s : Step} {i : ℕ} (g : GivenStmt t w p 
 
             module _ {w6 o6 : List ℕ} {s6 : Step} (d6 : LowersStmt t (word-of (fields t) i 3) w5 o2 (deeper p) s5 w6 o6 s6) where
               module _ {w7 : List ℕ} (d7 : Popped w6 p w7) where
-                at-end : Fine w7 p s6 × while-going (s6 .outcome) ((s .code ≤ s2 .code) × (s2 .code < s6 .code))
+                at-end : Fine w7 p s6 × while-going (s6 .outcome) ((s .pc ≤ s2 .pc) × (s2 .pc < s6 .pc))
                 unfolding end-try-body
                 at-end =
                     let m7 = block-around (d3 .moves .fine) k4 (d4 .moves) ((from inner-ready ▹ d5 .moves ▹ d6 .does .moves) .moves) d7 in (
                       m7 .fine,
-                      meanwhile (s6 .outcome) ((s .code ≤ s2 .code) × (s2 .code < s6 .code)) λ e.
+                      meanwhile (s6 .outcome) ((s .pc ≤ s2 .pc) × (s2 .pc < s6 .pc)) λ e.
                           let l = adds d3 2 (λ c. twice (c .code) _ _) (m7 .back e) in
                           (omega (arith, d1 .moves .longer, d2 .does .moves .longer), omega (arith, m7 .longer)),
                     )
 
-                module _ {w8 : List ℕ} {s8 : Step} (d8 : Leaf w7 p s6 w8 p s8 (uses 0 0 0) (sure (end-try (s .code) (s2 .code)))) where
+                module _ {w8 : List ℕ} {s8 : Step} (d8 : Leaf w7 p s6 w8 p s8 (uses 0 0 0) (sure (end-try (s .pc) (s2 .pc)))) where
                   lowers : UnderStmt t i w o p s w8 o6 s8
                   unfolding lower-expr end-try
                   lowers =

@@ -50,7 +50,7 @@ module _ {t w : List ℕ} {p : Scope} {s : Step} {i : ℕ} (g : GivenStmt t w p 
       body = let n = while-size x in give-looped (from (g .ready) ▹ d1 .does .moves ▹ d2 .moves) (g .known) (x .body) (omega arith) (omega arith) (omega arith) (omega arith)
 
       module _ {w3 o3 : List ℕ} {s3 : Step} (d3 : LowersStmt t (word-of (fields t) i 2) w2 o1 (looped p) s2 w3 o3 s3) where
-        at-end : Fine w3 p s3 × Room w3 p s3 0 2 0 × while-going (s3 .outcome) ((s .code ≤ s3 .code) × (s .code ≤ s3 .code) × (s1 .code + 2 ≤ s3 .code) × (s1 .result < 256) × (s .code ≤ s .code))
+        at-end : Fine w3 p s3 × Room w3 p s3 0 2 0 × while-going (s3 .outcome) ((s .pc ≤ s3 .pc) × (s .pc ≤ s3 .pc) × (s1 .pc + 2 ≤ s3 .pc) × (s1 .result < 256) × (s .pc ≤ s .pc))
         unfolding test-and-jump
         at-end =
             let n = while-size x in
@@ -58,7 +58,7 @@ module _ {t w : List ℕ} {p : Scope} {s : Step} {i : ℕ} (g : GivenStmt t w p 
             let y = stand 0 2 0 (from (g .ready) ▹ d1 .does .moves ▹ d2 .moves ▹ m3) (omega arith) (omega arith) (omega arith) (omega arith) in (
               y .fine,
               y .room,
-              meanwhile (s3 .outcome) ((s .code ≤ s3 .code) × (s .code ≤ s3 .code) × (s1 .code + 2 ≤ s3 .code) × (s1 .result < 256) × (s .code ≤ s .code)) λ e.
+              meanwhile (s3 .outcome) ((s .pc ≤ s3 .pc) × (s .pc ≤ s3 .pc) × (s1 .pc + 2 ≤ s3 .pc) × (s1 .result < 256) × (s .pc ≤ s .pc)) λ e.
                   let e2 = m3 .back e in
                   let v1 = due (s1 .outcome) (d1 .small) (d2 .moves .back e2) in
                   let l = adds d2 2 (λ c. twice (c .code) _ _) e2 in
@@ -67,7 +67,7 @@ module _ {t w : List ℕ} {p : Scope} {s : Step} {i : ℕ} (g : GivenStmt t w p 
                   (omega arith, omega arith, omega arith, omega arith, omega arith),
             )
 
-        module _ {w4 : List ℕ} {s4 : Step} (d4 : Leaf w3 p s3 w4 p s4 (uses 2 0 0) (sure (end-loop (p .mode) (s .code) (s .code) (s .code) (s1 .code) (s1 .result) (word-of (fields t) i 0)))) where
+        module _ {w4 : List ℕ} {s4 : Step} (d4 : Leaf w3 p s3 w4 p s4 (uses 2 0 0) (sure (end-loop (p .mode) (s .pc) (s .pc) (s .pc) (s1 .pc) (s1 .result) (word-of (fields t) i 0)))) where
           lowers : UnderStmt t i w o p s w4 o3 s4
           unfolding lower-expr end-loop
           lowers =

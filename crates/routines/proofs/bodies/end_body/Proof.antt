@@ -42,9 +42,9 @@ returns-3 c =
     let start = c .before .before .before .before .before .before .before in
     let told = c .before .before .before .before .enum-told in
     let a = start .args in
-    let size = tab-length (inst-at (now (a .work)) (a .scope .nodes)) (a .step .code) in
+    let size = tab-length (inst-at (now (a .work)) (a .scope .nodes)) (a .step .pc) in
     rw ((c .refuse2) .ensures)
-    (refusing (uses 2 0 0) _ Empty (a .node) (start .pre .0) (told .given .1) (λ t. rw (eq-eqb (a .count) 1 ((c .before .before .before .if1) .taken), ne-eqb (a .step .result) 254 ((c .before .before .if2) .left), size, eq-eqb (a .step .code) (a .first) ((c .before .if3) .taken))))
+    (refusing (uses 2 0 0) _ Empty (a .node) (start .pre .0) (told .given .1) (λ t. rw (eq-eqb (a .count) 1 ((c .before .before .before .if1) .taken), ne-eqb (a .step .result) 254 ((c .before .before .if2) .left), size, eq-eqb (a .step .pc) (a .first) ((c .before .if3) .taken))))
 
 mark-at-requires : tie.Need-mark-at-requires
 mark-at-requires c κs =
@@ -82,12 +82,12 @@ returns-4 c =
     let on = told .given .1 in
     let h = met on (start .pre .2) in
     let room = room-for 2 fine on (start .pre .1) in
-    let some : 1 ≤ a .step .code = omega (arith, h, if3 .left) in
-    let size = tab-length (inst-at w (a .scope .nodes)) (a .step .code) in
+    let some : 1 ≤ a .step .pc = omega (arith, h, if3 .left) in
+    let size = tab-length (inst-at w (a .scope .nodes)) (a .step .pc) in
     let one = spell (starts fine) ((c .before .before .before .before .pack) .ensures) ((c .before .before .before .write-cell) .ensures) (omega (arith, room)) in
     rw (c .advance .ensures)
     (coded 0 2 _ fine on one (omega arith) (omega arith) (omega arith)
-    (λ t. rw (c .before .before .before .before .before .before .mark-at .ensures, eq-eqb (a .count) 1 (if1 .taken), ne-eqb (a .step .result) 254 (if2 .left), ← (last-mark w (a .scope .nodes) (a .step .code) some), size, ne-eqb (a .step .code) (a .first) (if3 .left))))
+    (λ t. rw (c .before .before .before .before .before .before .mark-at .ensures, eq-eqb (a .count) 1 (if1 .taken), ne-eqb (a .step .result) 254 (if2 .left), ← (last-mark w (a .scope .nodes) (a .step .pc) some), size, ne-eqb (a .step .pc) (a .first) (if3 .left))))
 
 returns-5 : tie.Need-returns-5
 unfolding end-body pick

@@ -53,7 +53,7 @@ returns-2 c =
     let room = room-for 2 fine on (start .pre .1) in
     let one = spell (starts fine) (pack .ensures) (write .ensures) (omega (arith, room)) in
     let two = spell-over one ((c .before .before .before .before .pack-wide) .ensures) ((c .before .before .before .write-cell2) .ensures) (omega (arith, h .0)) in
-    rw (c .advance .ensures) (coded (a .left) 2 _ fine on two (omega arith) (omega arith) (omega (arith, h .1)) (jumped _ (a .step .code) (a .test) (a .mark) (a .left) _ _))
+    rw (c .advance .ensures) (coded (a .left) 2 _ fine on two (omega arith) (omega arith) (omega (arith, h .1)) (jumped _ (a .step .pc) (a .test) (a .mark) (a .left) _ _))
 
 pub end-logical-spec : {M : Type 1} → statement M
 end-logical-spec =

@@ -55,7 +55,7 @@ returns-2 c =
     let h = met on (start .pre .1) in
     let one = spell-over (starts fine) (pack-wide .ensures) (write .ensures) (omega (arith, h .0, h .1)) in
     let two = spell-anew one ((c .before .before .before .patch-first) .ensures) (omega (arith, fine .room)) in
-    rw (c .settle .ensures) (coded 0 0 _ fine on two (omega arith) (omega arith) (omega arith) (λ t. rw (tab-length (inst-at (now (a .work)) (a .scope .nodes)) (a .step .code))))
+    rw (c .settle .ensures) (coded 0 0 _ fine on two (omega arith) (omega arith) (omega arith) (λ t. rw (tab-length (inst-at (now (a .work)) (a .scope .nodes)) (a .step .pc))))
 
 pub end-try-spec : {M : Type 1} → statement M
 end-try-spec =
