@@ -6,7 +6,7 @@ use lib.ListN.{length, drop}
 use Rattle.store.specs.declared.Step.{Step}
 use Rattle.store.specs.declared.Scope.{Scope}
 use Rattle.store.specs.Layout.{edge}
-use Rattle.store.specs.Store.{run, advanced, goes-on, while-going, inner, Image, Fine, Kept}
+use Rattle.store.specs.Store.{nodes-of, block-of, outcome-of, pc-of, constants-of, globals-of, result-of, run, advanced, goes-on, while-going, inner, Image, Fine, Kept}
 use Rattle.store.specs.Promise.{Cost, Used, After}
 use Rattle.meaning.specs.State.{Proto, add-prototype}
 use Rattle.meaning.specs.declared.Outcome.{Outcome}
@@ -15,7 +15,7 @@ use Rattle.forward.specs.Forward.{Config, Run, bind, fwd-number, cut, end-progr
 
 -- the code back to a length
 abbrev pub cut-step : Step → ℕ → Step
-cut-step s first = advanced s first (s .result)
+cut-step s first = advanced s first (result-of s)
 
 -- binary_literal at Minus, the dropped pass: a refused step stays
 abbrev pub rolled-by : Outcome → Step → ℕ → Step
@@ -24,7 +24,7 @@ rolled-by (Refused cause node) s first = s
 
 -- the same by the step's own outcome
 abbrev pub rolled-step : Step → ℕ → Step
-rolled-step s first = rolled-by (s .outcome) s first
+rolled-step s first = rolled-by (outcome-of s) s first
 
 -- leave_function up to the pop of the context: the code from `first` on becomes a prototype, whose index is the result
 abbrev pub adding : (first node params : ℕ) → Config → Run
@@ -34,12 +34,12 @@ adding first node params c = fwd-number (add-prototype node params (drop first (
 pub record Adds (first : ℕ) (w o : List ℕ) (p : Scope) (s : Step) (o' : List ℕ) (r : Step) (node params : ℕ) : Type 0 where
   pub fine : Fine w p r
   pub same : length o' ≡ length o
-  pub back : goes-on (r .outcome) → goes-on (s .outcome)
-  pub code : while-going (r .outcome) (r .pc ≡ first)
-  pub longer : first ≤ s .pc → first ≤ r .pc
-  pub constants : r .constants ≡ s .constants
-  pub globals : r .globals ≡ s .globals
-  pub index : r .result < 256
+  pub back : goes-on (outcome-of r) → goes-on (outcome-of s)
+  pub code : while-going (outcome-of r) (pc-of r ≡ first)
+  pub longer : first ≤ pc-of s → first ≤ pc-of r
+  pub constants : constants-of r ≡ constants-of s
+  pub globals : globals-of r ≡ globals-of s
+  pub index : result-of r < 256
   pub does : (ps : List Proto) → Image p o s ps → After w o' p r (bind (run w p s ps) (adding first node params))
 
 -- ---- the end of a function: the step before is in the function inside p, the step after in p, and the function's words are given back
@@ -48,10 +48,10 @@ pub record Adds (first : ℕ) (w o : List ℕ) (p : Scope) (s : Step) (o' : List
 pub record Leaves (first : ℕ) (w : List ℕ) (p : Scope) (s : Step) (w' : List ℕ) (r : Step) (u : Cost) : Type 0 where
   pub fine : Fine w' p r
   pub kept : Kept w p w'
-  pub back : goes-on (r .outcome) → goes-on (s .outcome)
-  pub used : while-going (r .outcome) (Used w p (cut-step s first) w' p r u)
-  pub longer : first ≤ s .pc → first ≤ r .pc
-  pub still : u .locals ≡ 0 → edge w' (p .nodes) (p .block) ≡ edge w (p .nodes) (p .block)
+  pub back : goes-on (outcome-of r) → goes-on (outcome-of s)
+  pub used : while-going (outcome-of r) (Used w p (cut-step s first) w' p r u)
+  pub longer : first ≤ pc-of s → first ≤ pc-of r
+  pub still : u .locals ≡ 0 → edge w' (nodes-of p) (block-of p) ≡ edge w (nodes-of p) (block-of p)
 
 -- the same, and what was done: `op`, from the run inside the function
 pub record Ends (first : ℕ) (w o : List ℕ) (p : Scope) (s : Step) (w' o' : List ℕ) (r : Step) (u : Cost) (op : Config → Run) : Type 0 where

@@ -3,7 +3,7 @@ ghost use mathlib.Core.Path.{_≡_};
 ghost use Prim.Native.Nat.{_<_};
 ghost use Rattle.meaning.specs.Opcode.{inst, wide};
 ghost use Rattle.forward.specs.Forward.{sure, emit, put};
-ghost use Rattle.store.specs.Store.{Fine, while-going};
+ghost use Rattle.store.specs.Store.{outcome-of, Fine, while-going};
 ghost use Rattle.store.specs.Promise.{uses, Room, Leaf};
 ghost use Rattle.store.specs.Cell.{Bytes};
 ghost use Rattle.code.specs.Cuts.{rolled-step};
@@ -26,7 +26,7 @@ pub fn put(
     mark: u32,
     result: u32,
 ) -> Step
-    requires { ⌜ Fine (now work) scope step × Room (now work) scope step 0 2 0 × while-going (step .outcome) (Bytes op a b c) × while-going (step .outcome) (result < 1024) ⌝ }
+    requires { ⌜ Fine (now work) scope step × Room (now work) scope step 0 2 0 × while-going (outcome-of step) (Bytes op a b c) × while-going (outcome-of step) (result < 1024) ⌝ }
     ensures { λ r. ⌜ Leaf (now (work .entry)) scope step (now (work .exit)) scope r (uses 2 0 0) (sure (put result (inst op a b c mark))) ⌝ }
 {
     let o = step.outcome;
@@ -49,7 +49,7 @@ pub fn put_wide(
     mark: u32,
     result: u32,
 ) -> Step
-    requires { ⌜ Fine (now work) scope step × Room (now work) scope step 0 2 0 × while-going (step .outcome) ((op < 256) × (a < 256)) × while-going (step .outcome) (result < 1024) ⌝ }
+    requires { ⌜ Fine (now work) scope step × Room (now work) scope step 0 2 0 × while-going (outcome-of step) ((op < 256) × (a < 256)) × while-going (outcome-of step) (result < 1024) ⌝ }
     ensures { λ r. ⌜ Leaf (now (work .entry)) scope step (now (work .exit)) scope r (uses 2 0 0) (sure (put result (wide op a n mark))) ⌝ }
 {
     let o = step.outcome;
@@ -72,7 +72,7 @@ pub fn emit(
     c: u32,
     mark: u32,
 ) -> Step
-    requires { ⌜ Fine (now work) scope step × Room (now work) scope step 0 2 0 × while-going (step .outcome) (Bytes op a b c) ⌝ }
+    requires { ⌜ Fine (now work) scope step × Room (now work) scope step 0 2 0 × while-going (outcome-of step) (Bytes op a b c) ⌝ }
     ensures { λ r. ⌜ Leaf (now (work .entry)) scope step (now (work .exit)) scope r (uses 2 0 0) (sure (emit (inst op a b c mark))) ⌝ }
 {
     put(work, step, scope, op, a, b, c, mark, step.result)
@@ -88,7 +88,7 @@ pub fn emit_wide(
     n: u32,
     mark: u32,
 ) -> Step
-    requires { ⌜ Fine (now work) scope step × Room (now work) scope step 0 2 0 × while-going (step .outcome) ((op < 256) × (a < 256)) ⌝ }
+    requires { ⌜ Fine (now work) scope step × Room (now work) scope step 0 2 0 × while-going (outcome-of step) ((op < 256) × (a < 256)) ⌝ }
     ensures { λ r. ⌜ Leaf (now (work .entry)) scope step (now (work .exit)) scope r (uses 2 0 0) (sure (emit (wide op a n mark))) ⌝ }
 {
     put_wide(work, step, scope, op, a, n, mark, step.result)

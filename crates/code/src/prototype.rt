@@ -2,7 +2,7 @@
 ghost use Prim.Native.Nat.{_<_, _≤_};
 ghost use mathlib.Core.Path.{_≡_};
 ghost use Rattle.forward.specs.Forward.{leave-function};
-ghost use Rattle.store.specs.Store.{inner, code-tag, Fine, while-going};
+ghost use Rattle.store.specs.Store.{outcome-of, pc-of, result-of, inner, code-tag, Fine, while-going};
 ghost use Rattle.store.specs.Promise.{nothing};
 ghost use Rattle.store.specs.Opening.{Leavable};
 ghost use Rattle.code.specs.Cuts.{Adds, Ends, EndsProgram};
@@ -28,7 +28,7 @@ fn add_prototype(
     node: usize,
     params: usize,
 ) -> Step
-    requires { ⌜ Fine (now work) scope step × while-going (step .outcome) (first ≤ step .pc) × (params < 65536) ⌝ }
+    requires { ⌜ Fine (now work) scope step × while-going (outcome-of step) (first ≤ pc-of step) × (params < 65536) ⌝ }
     ensures { λ r. ⌜ Adds first (now (work .entry)) (now (out .entry)) scope step (now (out .exit)) r node params ⌝ }
 {
     let o = step.outcome;
@@ -66,8 +66,8 @@ pub fn leave_function(
     node: usize,
     params: usize,
 ) -> Step
-    requires { ⌜ Fine (now work) (inner scope) step × Leavable (now work) scope × while-going (step .outcome) (first ≤ step .pc) × (params < 65536) ⌝ }
-    ensures { λ r. ⌜ Ends first (now (work .entry)) (now (out .entry)) scope step (now (work .exit)) (now (out .exit)) r nothing (leave-function first node params) × (r .result < 256) ⌝ }
+    requires { ⌜ Fine (now work) (inner scope) step × Leavable (now work) scope × while-going (outcome-of step) (first ≤ pc-of step) × (params < 65536) ⌝ }
+    ensures { λ r. ⌜ Ends first (now (work .entry)) (now (out .entry)) scope step (now (work .exit)) (now (out .exit)) r nothing (leave-function first node params) × (result-of r < 256) ⌝ }
 {
     let inside = store::inner(scope);
     let next = add_prototype(work, out, step, inside, first, node, params);

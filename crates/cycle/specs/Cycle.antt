@@ -19,7 +19,7 @@ use Rattle.meaning.specs.Lower.{lower-expr, lower-arguments, lower-stmt, lower-
 use Rattle.forward.specs.Forward.{Config, Run, fwd, fwd-code, fwd-row}
 use Rattle.store.specs.declared.Step.{Step}
 use Rattle.store.specs.declared.Scope.{Scope}
-use Rattle.store.specs.Store.{is-wide, while-going, Fine}
+use Rattle.store.specs.Store.{nodes-of, depth-of, block-of, loops-of, mode-of, wide-of, outcome-of, is-wide, while-going, Fine}
 use Rattle.store.specs.Promise.{Cost, takes, Room, Does}
 use Rattle.routines.specs.Pieces.{Small}
 use Rattle.routines.specs.Node.{Lawful}
@@ -31,21 +31,21 @@ use Rattle.cycle.specs.declared.Branches.{Branches}
 
 -- the scope has the width of the tree's marks, as the places that one takes more than two bytes do
 abbrev pub Width : (t : List ℕ) → Scope → Type 0
-Width t p = p .wide ≡ extra (wide-marks (fields t))
+Width t p = wide-of p ≡ extra (wide-marks (fields t))
 
 -- a lawful tree, and room for k nodes that are still to be lowered, and for a words and b locals beside; a node opens a block and a loop at most
 pub record Ready (t w : List ℕ) (p : Scope) (s : Step) (k a b : ℕ) : Type 0 where
-  pub lawful : Lawful t w (p .nodes)
+  pub lawful : Lawful t w (nodes-of p)
   pub width : Width t p
   pub fine : Fine w p s
   pub room : Room w p s k a b
-  pub blocks : p .block + k ≤ p .nodes + 1 + p .depth
-  pub loops : p .loops + k ≤ p .nodes + 1
+  pub blocks : block-of p + k ≤ nodes-of p + 1 + depth-of p
+  pub loops : loops-of p + k ≤ nodes-of p + 1
 
 -- node i of the tree, under which k nodes stand
 pub record Given (t w : List ℕ) (p : Scope) (s : Step) (i k : ℕ) : Type 0 where
   pub ready : Ready t w p s k 0 0
-  pub known : i < p .nodes
+  pub known : i < nodes-of p
 
 -- the same, where node i is an expression: k is the number of its nodes
 abbrev pub GivenExpr : (t w : List ℕ) → Scope → Step → (i : ℕ) → Type 0
@@ -65,12 +65,12 @@ AskStmt t w p s i = GivenStmt t w p s i × (0x10 ≤ tag-of (fields t) i) × (ta
 
 -- a function statement, as a statement or a method; eight functions are open at most
 abbrev pub AskFun : (t w : List ℕ) → Scope → Step → (i : ℕ) → Type 0
-AskFun t w p s i = Given t w p s i (size-fun (fun-at (fields t) i)) × (tag-of (fields t) i ≡ 0x1C) × (p .depth ≤ 7)
+AskFun t w p s i = Given t w p s i (size-fun (fun-at (fields t) i)) × (tag-of (fields t) i ≡ 0x1C) × (depth-of p ≤ 7)
 
 -- the children in the words `from` up to `to` of node i, which stand `skew` places further in the file, and under which k nodes stand
 pub record Children (t w : List ℕ) (p : Scope) (s : Step) (i from to skew k a : ℕ) (Below : ℕ → Type 0) : Type 0 where
   pub ready : Ready t w p s k a 0
-  pub known : i < p .nodes
+  pub known : i < nodes-of p
   pub ends : to ≤ count-of (fields t) i
   pub each : (j : ℕ) → from ≤ j → j < to → Below (word-of (fields t) i j)
   pub behind : Behind (fields t) i from skew
@@ -86,19 +86,19 @@ AskElifs t w p s i from to skew = Children t w p s i from to skew (size-elifs (e
 -- the methods of a class in register `class`
 abbrev pub AskMethods : (t w : List ℕ) → Scope → Step → (i from to skew op class : ℕ) → Type 0
 AskMethods t w p s i from to skew op class =
-    Children t w p s i from to skew (size-funs (funs-at (fields t) i from to)) 0 (TagBelow (fields t) 0x1C i) × (p .depth ≤ 7) × (op < 256) × (class < 1024) × while-going (s .outcome) (class + 1 < 255)
+    Children t w p s i from to skew (size-funs (funs-at (fields t) i from to)) 0 (TagBelow (fields t) 0x1C i) × (depth-of p ≤ 7) × (op < 256) × (class < 1024) × while-going (outcome-of s) (class + 1 < 255)
 
 -- the arguments of a call, for which registers from `register` on are taken: each is moved to its own, which takes two words
 abbrev pub AskArguments : (t w : List ℕ) → Scope → Step → (i register : ℕ) → Type 0
 AskArguments t w p s i register =
-    Children t w p s i 2 (count-of (fields t) i) (p .wide) (size-exprs (exprs-at (fields t) i 2 (count-of (fields t) i))) (2 * (count-of (fields t) i - 2)) (ExprBelow (fields t) i)
-    × (register ≤ 1024) × while-going (s .outcome) (register + (count-of (fields t) i - 2) ≤ 255)
+    Children t w p s i 2 (count-of (fields t) i) (wide-of p) (size-exprs (exprs-at (fields t) i 2 (count-of (fields t) i))) (2 * (count-of (fields t) i - 2)) (ExprBelow (fields t) i)
+    × (register ≤ 1024) × while-going (outcome-of s) (register + (count-of (fields t) i - 2) ≤ 255)
 
 -- the body of a function, from word `from` on; it opens a block, and its Return takes two words
 abbrev pub AskBody : (t w : List ℕ) → Scope → Step → (i from skew : ℕ) → Type 0
 AskBody t w p s i from skew =
     Children t w p s i from (count-of (fields t) i) skew (size-stmts (stmts-at (fields t) i from (count-of (fields t) i))) 2 (StmtBelow (fields t) i)
-    × (p .block + 1 + size-stmts (stmts-at (fields t) i from (count-of (fields t) i)) ≤ p .nodes + 1 + p .depth) × (from ≤ count-of (fields t) i) × Small s
+    × (block-of p + 1 + size-stmts (stmts-at (fields t) i from (count-of (fields t) i)) ≤ nodes-of p + 1 + depth-of p) × (from ≤ count-of (fields t) i) × Small s
 
 -- ---- what is promised
 
@@ -109,50 +109,50 @@ pub record Lowers (w o : List ℕ) (p : Scope) (s : Step) (w' o' : List ℕ) (r 
 
 -- an expression leaves no local behind; the dispatcher counts its visit, so each `visit_` routine promises the same with what is visited under it
 abbrev pub UnderExpr : (t : List ℕ) (i : ℕ) (w o : List ℕ) → Scope → Step → (w' o' : List ℕ) → Step → Type 0
-UnderExpr t i w o p s w' o' r = Lowers w o p s w' o' r (takes (8 * size-expr (expr-at (fields t) i)) 0 (under-expr (expr-at (fields t) i))) (fwd (lower-expr (p .mode) (expr-at (fields t) i)))
+UnderExpr t i w o p s w' o' r = Lowers w o p s w' o' r (takes (8 * size-expr (expr-at (fields t) i)) 0 (under-expr (expr-at (fields t) i))) (fwd (lower-expr (mode-of p) (expr-at (fields t) i)))
 
 -- with its own visit
 abbrev pub LowersExpr : (t : List ℕ) (i : ℕ) (w o : List ℕ) → Scope → Step → (w' o' : List ℕ) → Step → Type 0
-LowersExpr t i w o p s w' o' r = Lowers w o p s w' o' r (takes (8 * size-expr (expr-at (fields t) i)) 0 (visits-expr (expr-at (fields t) i))) (fwd (lower-expr (p .mode) (expr-at (fields t) i)))
+LowersExpr t i w o p s w' o' r = Lowers w o p s w' o' r (takes (8 * size-expr (expr-at (fields t) i)) 0 (visits-expr (expr-at (fields t) i))) (fwd (lower-expr (mode-of p) (expr-at (fields t) i)))
 
 -- a statement, whose locals stay to the end of its block, in the same way
 abbrev pub UnderStmt : (t : List ℕ) (i : ℕ) (w o : List ℕ) → Scope → Step → (w' o' : List ℕ) → Step → Type 0
 UnderStmt t i w o p s w' o' r =
-    Lowers w o p s w' o' r (takes (8 * size-stmt (stmt-at (fields t) i)) (size-stmt (stmt-at (fields t) i)) (under-stmt (stmt-at (fields t) i))) (fwd (lower-stmt (p .mode) (stmt-at (fields t) i)))
+    Lowers w o p s w' o' r (takes (8 * size-stmt (stmt-at (fields t) i)) (size-stmt (stmt-at (fields t) i)) (under-stmt (stmt-at (fields t) i))) (fwd (lower-stmt (mode-of p) (stmt-at (fields t) i)))
 
 -- with its own visit
 abbrev pub LowersStmt : (t : List ℕ) (i : ℕ) (w o : List ℕ) → Scope → Step → (w' o' : List ℕ) → Step → Type 0
 LowersStmt t i w o p s w' o' r =
-    Lowers w o p s w' o' r (takes (8 * size-stmt (stmt-at (fields t) i)) (size-stmt (stmt-at (fields t) i)) (visits-stmt (stmt-at (fields t) i))) (fwd (lower-stmt (p .mode) (stmt-at (fields t) i)))
+    Lowers w o p s w' o' r (takes (8 * size-stmt (stmt-at (fields t) i)) (size-stmt (stmt-at (fields t) i)) (visits-stmt (stmt-at (fields t) i))) (fwd (lower-stmt (mode-of p) (stmt-at (fields t) i)))
 
 -- a function statement leaves a Closure and its name, whatever its body is; its own visit is counted where it is called
 abbrev pub LowersFun : (t : List ℕ) (i : ℕ) (w o : List ℕ) → Scope → Step → (w' o' : List ℕ) → Step → Type 0
-LowersFun t i w o p s w' o' r = Lowers w o p s w' o' r (takes 4 1 (under-fun (fun-at (fields t) i))) (fwd (lower-fun (p .mode) (fun-at (fields t) i)))
+LowersFun t i w o p s w' o' r = Lowers w o p s w' o' r (takes 4 1 (under-fun (fun-at (fields t) i))) (fwd (lower-fun (mode-of p) (fun-at (fields t) i)))
 
 -- statements one after the other: the result is the last one's
 pub record LowersRow (t : List ℕ) (i from to : ℕ) (w o : List ℕ) (p : Scope) (s : Step) (w' o' : List ℕ) (r : Step) : Type 0 where
-  pub does : Does w o p s w' o' p r (takes (8 * size-stmts (stmts-at (fields t) i from to)) (size-stmts (stmts-at (fields t) i from to)) (visits-stmts (stmts-at (fields t) i from to))) (fwd-row (lower-stmts (p .mode) (stmts-at (fields t) i from to)))
+  pub does : Does w o p s w' o' p r (takes (8 * size-stmts (stmts-at (fields t) i from to)) (size-stmts (stmts-at (fields t) i from to)) (visits-stmts (stmts-at (fields t) i from to))) (fwd-row (lower-stmts (mode-of p) (stmts-at (fields t) i from to)))
   pub small : Small s → Small r
 
 -- the elifs of an if, which give code alone
 abbrev pub LowersElifs : (t : List ℕ) (i from to : ℕ) (w o : List ℕ) → Scope → Step → (w' o' : List ℕ) → Step → Type 0
 LowersElifs t i from to w o p s w' o' r =
-    Lowers w o p s w' o' r (takes (8 * size-elifs (elifs-at (fields t) i from to)) (size-elifs (elifs-at (fields t) i from to)) (visits-elifs (elifs-at (fields t) i from to))) (fwd-code (lower-elifs (p .mode) (elifs-at (fields t) i from to)))
+    Lowers w o p s w' o' r (takes (8 * size-elifs (elifs-at (fields t) i from to)) (size-elifs (elifs-at (fields t) i from to)) (visits-elifs (elifs-at (fields t) i from to))) (fwd-code (lower-elifs (mode-of p) (elifs-at (fields t) i from to)))
 
 -- the methods of a class, whose names pass through the register after `class`
 abbrev pub LowersMethods : (t : List ℕ) (i from to mark op class : ℕ) (w o : List ℕ) → Scope → Step → (w' o' : List ℕ) → Step → Type 0
 LowersMethods t i from to mark op class w o p s w' o' r =
-    Lowers w o p s w' o' r (takes (8 * size-funs (funs-at (fields t) i from to)) (size-funs (funs-at (fields t) i from to)) (visits-funs (funs-at (fields t) i from to))) (fwd-code (lower-methods (p .mode) (funs-at (fields t) i from to) i mark op class (class + 1)))
+    Lowers w o p s w' o' r (takes (8 * size-funs (funs-at (fields t) i from to)) (size-funs (funs-at (fields t) i from to)) (visits-funs (funs-at (fields t) i from to))) (fwd-code (lower-methods (mode-of p) (funs-at (fields t) i from to) i mark op class (class + 1)))
 
 -- the arguments of a call, with two words more for each one's Move
 abbrev pub LowersArguments : (t : List ℕ) (i register : ℕ) (w o : List ℕ) → Scope → Step → (w' o' : List ℕ) → Step → Type 0
 LowersArguments t i register w o p s w' o' r =
-    Lowers w o p s w' o' r (takes (8 * size-exprs (exprs-at (fields t) i 2 (count-of (fields t) i)) + 2 * (count-of (fields t) i - 2)) 0 (visits-exprs (exprs-at (fields t) i 2 (count-of (fields t) i)))) (fwd-code (lower-arguments (p .mode) (exprs-at (fields t) i 2 (count-of (fields t) i)) register))
+    Lowers w o p s w' o' r (takes (8 * size-exprs (exprs-at (fields t) i 2 (count-of (fields t) i)) + 2 * (count-of (fields t) i - 2)) 0 (visits-exprs (exprs-at (fields t) i 2 (count-of (fields t) i)))) (fwd-code (lower-arguments (mode-of p) (exprs-at (fields t) i 2 (count-of (fields t) i)) register))
 
 -- a function's body, with two words more for its Return; its block gives the locals back
 abbrev pub LowersBody : (t : List ℕ) (i from : ℕ) (w o : List ℕ) → Scope → Step → (w' o' : List ℕ) → Step → Type 0
 LowersBody t i from w o p s w' o' r =
-    Does w o p s w' o' p r (takes (8 * size-stmts (stmts-at (fields t) i from (count-of (fields t) i)) + 2) 0 (visits-stmts (stmts-at (fields t) i from (count-of (fields t) i)))) (fwd-code (visit-body i (lower-stmts (p .mode) (stmts-at (fields t) i from (count-of (fields t) i)))))
+    Does w o p s w' o' p r (takes (8 * size-stmts (stmts-at (fields t) i from (count-of (fields t) i)) + 2) 0 (visits-stmts (stmts-at (fields t) i from (count-of (fields t) i)))) (fwd-code (visit-body i (lower-stmts (mode-of p) (stmts-at (fields t) i from (count-of (fields t) i)))))
 
 -- the binary at node i, lowered by m with v visits under it: one of the three forms below
 abbrev pub LowersBinary : (t : List ℕ) (i v : ℕ) (w o : List ℕ) → Scope → Step → (w' o' : List ℕ) → Step → M Chunk → Type 0
@@ -164,7 +164,7 @@ seen t i k = visits-expr (expr-at (fields t) (word-of (fields t) i k))
 
 -- the lowering of the operand that word k of node i names
 abbrev pub operand : Scope → (t : List ℕ) (i k : ℕ) → M Chunk
-operand p t i k = lower-expr (p .mode) (expr-at (fields t) (word-of (fields t) i k))
+operand p t i k = lower-expr (mode-of p) (expr-at (fields t) (word-of (fields t) i k))
 
 -- a small number k on the right of Plus, which is not visited
 abbrev pub LowersAddi : (t : List ℕ) (i k : ℕ) (w o : List ℕ) → Scope → Step → (w' o' : List ℕ) → Step → Type 0
@@ -183,7 +183,7 @@ LowersBoth t i w o p s w' o' r = LowersBinary t i (seen t i 2 + seen t i 3) w o 
 
 -- word k of the file's words vs, where word m is the mark
 abbrev pub head-word : Scope → (vs : List ℕ) (m k : ℕ) → ℕ
-head-word p vs m k = cond (ltb k m) (at vs k) (cond (eqb k m) (mark-at (is-wide p) vs k) (at vs (k + p .wide)))
+head-word p vs m k = cond (ltb k m) (at vs k) (cond (eqb k m) (mark-at (is-wide p) vs k) (at vs (k + wide-of p)))
 
 -- node i of a tree, whose word m is its mark, and the scope
 abbrev pub Headed : (t : List ℕ) → Scope → (i m : ℕ) → Type 0
@@ -204,7 +204,7 @@ first-words p fs i =
       child1 = word-of fs i 1;
       child2 = word-of fs i 2;
       child3 = word-of fs i 3;
-      child4 = at (file-words fs i) (4 + p .wide);
+      child4 = at (file-words fs i) (4 + wide-of p);
     }
 
 -- the first three of them

@@ -10,6 +10,7 @@ ghost use Prim.Native.Nat.{_<_, _≤_};
 ghost use Rattle.meaning.specs.Fields.{fields};
 ghost use Rattle.meaning.specs.At.{tag-of};
 ghost use Rattle.cycle.specs.Cycle.{GivenExpr, GivenStmt, AskExpr, AskStmt, AskFun, AskRow, AskElifs, AskMethods, AskArguments, AskBody, UnderExpr, UnderStmt, LowersExpr, LowersStmt, LowersFun, LowersRow, LowersElifs, LowersMethods, LowersArguments, LowersBody, LowersAddi, LowersMinus, LowersBoth};
+ghost use Rattle.store.specs.Store.{depth-of};
 use crate::operators::binary_opcode;
 use crate::operators::immediate;
 use crate::operators::or_flag;
@@ -472,7 +473,7 @@ fn class(
     scope: Scope,
     node: usize,
 ) -> Step
-    requires { ⌜ GivenStmt (now tree) (now work) scope step node × (tag-of (fields (now tree)) node ≡ 29) × (scope .depth ≤ 7) ⌝ }
+    requires { ⌜ GivenStmt (now tree) (now work) scope step node × (tag-of (fields (now tree)) node ≡ 29) × (depth-of scope ≤ 7) ⌝ }
     ensures { λ r. ⌜ UnderStmt (now (tree .entry)) node (now (work .entry)) (now (out .entry)) scope step (now (work .exit)) (now (out .exit)) r ⌝ }
 {
     let wide = scope.wide;
@@ -568,7 +569,7 @@ fn function(
     scope: Scope,
     node: usize,
 ) -> Step
-    requires { ⌜ GivenExpr (now tree) (now work) scope step node × (tag-of (fields (now tree)) node ≡ 9) × (scope .depth ≤ 7) ⌝ }
+    requires { ⌜ GivenExpr (now tree) (now work) scope step node × (tag-of (fields (now tree)) node ≡ 9) × (depth-of scope ≤ 7) ⌝ }
     ensures { λ r. ⌜ UnderExpr (now (tree .entry)) node (now (work .entry)) (now (out .entry)) scope step (now (work .exit)) (now (out .exit)) r ⌝ }
 {
     let wide = scope.wide;

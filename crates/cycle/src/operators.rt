@@ -8,6 +8,7 @@ ghost use Rattle.meaning.specs.Syntax.{small-if};
 ghost use Rattle.meaning.specs.Opcode.{unary-opcode, binary-opcode, or};
 ghost use Rattle.meaning.specs.Expressions.{or-flag};
 ghost use Rattle.routines.specs.Node.{Lawful, small-of};
+ghost use Rattle.store.specs.Store.{nodes-of};
 use instruction::OpCode;
 use store::Scope;
 
@@ -87,7 +88,7 @@ pub(crate) fn immediate(
     asked: u32,
     child: usize,
 ) -> u32
-    requires { ⌜ Lawful (now tree) (now work) (scope .nodes) × (child < scope .nodes) × (scope .nodes ≤ 32768) ⌝ }
+    requires { ⌜ Lawful (now tree) (now work) (nodes-of scope) × (child < nodes-of scope) × (nodes-of scope ≤ 32768) ⌝ }
     ensures { λ r. ⌜ small-if (eqb op asked) (expr-at (fields (now (tree .entry))) child) ≡ small-of r ⌝ }
 {
     if op == asked {

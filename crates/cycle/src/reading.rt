@@ -10,7 +10,7 @@ ghost use Rattle.meaning.specs.At.{tag-of, word-of, count-of, file-words, Behin
 ghost use Rattle.meaning.specs.Functions.{first-mark};
 ghost use Rattle.nodes.specs.Offsets.{Readable};
 ghost use Rattle.routines.specs.Pieces.{tokens-from};
-ghost use Rattle.store.specs.Store.{is-wide};
+ghost use Rattle.store.specs.Store.{nodes-of, wide-of, is-wide};
 ghost use Rattle.cycle.specs.Cycle.{head-word, Headed, Below, BelowThree, first-three, first-words, branches-of};
 use crate::Branches;
 use crate::Three;
@@ -20,7 +20,7 @@ use store::OFFSETS;
 use store::Scope;
 
 pub(crate) fn payload_of<'a>(tree: &'a [u8], work: &[u32], scope: Scope, node: usize) -> &'a [u8]
-    requires { ⌜ Readable (now tree) (now work) (12288 + 15 * scope .nodes) node × (scope .nodes ≤ 32768) ⌝ }
+    requires { ⌜ Readable (now tree) (now work) (12288 + 15 * nodes-of scope) node × (nodes-of scope ≤ 32768) ⌝ }
     ensures { λ r. ⌜ now r ≡ field-at (fields (now (tree .entry))) node .payload ⌝ }
 {
     nodes::payload_of(tree, work, OFFSETS + 15 * scope.nodes, node)
@@ -28,7 +28,7 @@ pub(crate) fn payload_of<'a>(tree: &'a [u8], work: &[u32], scope: Scope, node: u
 
 // Word k of a node whose word m is its mark.
 fn word_of(payload: &[u8], scope: Scope, m: usize, k: usize) -> usize
-    requires { ⌜ (k ≤ 3) × (scope .wide ≤ 1) ⌝ }
+    requires { ⌜ (k ≤ 3) × (wide-of scope ≤ 1) ⌝ }
     ensures { λ r. ⌜ (r ≡ head-word scope (words (now (payload .entry))) m k) × (r < 4294967296) × ((m ≡ k → ⊥) → r < 65536) ⌝ }
 {
     if k < m {
@@ -42,7 +42,7 @@ fn word_of(payload: &[u8], scope: Scope, m: usize, k: usize) -> usize
 
 // The first words of a node whose word m is its mark; 4 where none of them is. The fifth is a for's, behind its mark.
 pub(crate) fn words_of(tree: &[u8], work: &[u32], scope: Scope, node: usize, m: usize) -> Words
-    requires { ⌜ Readable (now tree) (now work) (12288 + 15 * scope .nodes) node × (scope .nodes ≤ 32768) × Headed (now tree) scope node m ⌝ }
+    requires { ⌜ Readable (now tree) (now work) (12288 + 15 * nodes-of scope) node × (nodes-of scope ≤ 32768) × Headed (now tree) scope node m ⌝ }
     ensures { λ r. ⌜ (r ≡ first-words scope (fields (now (tree .entry))) node) × Below m r ⌝ }
 {
     let payload = payload_of(tree, work, scope, node);
@@ -64,7 +64,7 @@ pub(crate) fn words_of(tree: &[u8], work: &[u32], scope: Scope, node: usize, m: 
 
 // The first three alone: a narrow node's cost no more than before marks could be wide.
 pub(crate) fn three_of(tree: &[u8], work: &[u32], scope: Scope, node: usize, m: usize) -> Three
-    requires { ⌜ Readable (now tree) (now work) (12288 + 15 * scope .nodes) node × (scope .nodes ≤ 32768) × Headed (now tree) scope node m ⌝ }
+    requires { ⌜ Readable (now tree) (now work) (12288 + 15 * nodes-of scope) node × (nodes-of scope ≤ 32768) × Headed (now tree) scope node m ⌝ }
     ensures { λ r. ⌜ (r ≡ first-three (fields (now (tree .entry))) node) × BelowThree m r ⌝ }
 {
     let payload = payload_of(tree, work, scope, node);
@@ -82,14 +82,14 @@ pub(crate) fn three_of(tree: &[u8], work: &[u32], scope: Scope, node: usize, m: 
 
 // How many parameters a function expression has, its first word.
 pub(crate) fn params_of(tree: &[u8], work: &[u32], scope: Scope, node: usize) -> usize
-    requires { ⌜ Readable (now tree) (now work) (12288 + 15 * scope .nodes) node × (scope .nodes ≤ 32768) × (word-of (fields (now tree)) node 0 ≡ at (file-words (fields (now tree)) node) 0) ⌝ }
+    requires { ⌜ Readable (now tree) (now work) (12288 + 15 * nodes-of scope) node × (nodes-of scope ≤ 32768) × (word-of (fields (now tree)) node 0 ≡ at (file-words (fields (now tree)) node) 0) ⌝ }
     ensures { λ r. ⌜ (r ≡ word-of (fields (now (tree .entry))) node 0) × (r < 65536) ⌝ }
 {
     nodes::word(payload_of(tree, work, scope, node), 0)
 }
 
 pub(crate) fn tag_of(tree: &[u8], work: &[u32], scope: Scope, node: usize) -> u8
-    requires { ⌜ Readable (now tree) (now work) (12288 + 15 * scope .nodes) node × (scope .nodes ≤ 32768) ⌝ }
+    requires { ⌜ Readable (now tree) (now work) (12288 + 15 * nodes-of scope) node × (nodes-of scope ≤ 32768) ⌝ }
     ensures { λ r. ⌜ r ≡ tag-of (fields (now (tree .entry))) node ⌝ }
 {
     nodes::tag_of(tree, work, OFFSETS + 15 * scope.nodes, node)
@@ -97,7 +97,7 @@ pub(crate) fn tag_of(tree: &[u8], work: &[u32], scope: Scope, node: usize) -> u8
 
 // How many words a node has, where the file has `skew` more.
 pub(crate) fn count_of(tree: &[u8], work: &[u32], scope: Scope, node: usize, skew: usize) -> usize
-    requires { ⌜ Readable (now tree) (now work) (12288 + 15 * scope .nodes) node × (scope .nodes ≤ 32768) × (length (file-words (fields (now tree)) node) ≡ count-of (fields (now tree)) node + skew) ⌝ }
+    requires { ⌜ Readable (now tree) (now work) (12288 + 15 * nodes-of scope) node × (nodes-of scope ≤ 32768) × (length (file-words (fields (now tree)) node) ≡ count-of (fields (now tree)) node + skew) ⌝ }
     ensures { λ r. ⌜ (r ≡ count-of (fields (now (tree .entry))) node) × (r < 65536) ⌝ }
 {
     nodes::count_of(tree, work, OFFSETS + 15 * scope.nodes, node) - skew
@@ -111,7 +111,7 @@ pub(crate) fn branches_of(
     node: usize,
     skew: usize,
 ) -> Branches
-    requires { ⌜ Readable (now tree) (now work) (12288 + 15 * scope .nodes) node × (scope .nodes ≤ 32768) × Behind (fields (now tree)) node 1 skew × (skew ≤ 1) ⌝ }
+    requires { ⌜ Readable (now tree) (now work) (12288 + 15 * nodes-of scope) node × (nodes-of scope ≤ 32768) × Behind (fields (now tree)) node 1 skew × (skew ≤ 1) ⌝ }
     ensures { λ r. ⌜ (r ≡ branches-of (fields (now (tree .entry))) node) × (r .thens < 65539) ⌝ }
 {
     let payload = payload_of(tree, work, scope, node);
@@ -137,7 +137,7 @@ pub(crate) fn names_in(payload: &[u8], scope: Scope) -> usize
 
 // How many arguments follow the first two words of a call.
 pub(crate) fn arguments_in(tree: &[u8], work: &[u32], scope: Scope, node: usize) -> usize
-    requires { ⌜ Readable (now tree) (now work) (12288 + 15 * scope .nodes) node × (scope .nodes ≤ 32768) × (length (file-words (fields (now tree)) node) ≡ count-of (fields (now tree)) node + scope .wide) ⌝ }
+    requires { ⌜ Readable (now tree) (now work) (12288 + 15 * nodes-of scope) node × (nodes-of scope ≤ 32768) × (length (file-words (fields (now tree)) node) ≡ count-of (fields (now tree)) node + wide-of scope) ⌝ }
     ensures { λ r. ⌜ (r ≡ count-of (fields (now (tree .entry))) node - 2) × (r < 65536) ⌝ }
 {
     let n = count_of(tree, work, scope, node, scope.wide);

@@ -11,7 +11,7 @@ use Rattle.meaning.specs.declared.Outcome.{Outcome}
 use Rattle.meaning.specs.declared.Outcome.the-variants.{Accepted, Refused}
 use Rattle.store.specs.declared.Step.{Step}
 use Rattle.store.specs.declared.Scope.{Scope}
-use Rattle.store.specs.Store.{run, is-wide, written-by, Image}
+use Rattle.store.specs.Store.{outcome-of, constants-of, run, is-wide, written-by, Image}
 use Rattle.forward.specs.Forward as forward
 
 -- what a run ends with, by the width of the marks
@@ -38,8 +38,8 @@ pub record Ending (x : Finished) (o : List ℕ) (r : Outcome) : Type 0 where
 -- what `finish` goes by: the constants are there, and no sum is too large; every fine step has it
 pub record Finishable (w : List ℕ) (s : Step) : Type 0 where
   pub long : 3072 ≤ length w
-  pub constants : s .constants ≤ 1024
-  pub written : written-by (s .outcome) < 4294967296
+  pub constants : constants-of s ≤ 1024
+  pub written : written-by (outcome-of s) < 4294967296
 
 -- whatever prototypes the output holds, and in every scope
 pub record Finishes (w o : List ℕ) (s : Step) (last : ℕ) (o' : List ℕ) (r : Outcome) : Type 0 where

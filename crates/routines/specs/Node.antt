@@ -19,7 +19,7 @@ use Rattle.nodes.specs.Offsets.{Offsets}
 use Rattle.forward.specs.Forward.{Config, Run, fwd}
 use Rattle.store.specs.declared.Step.{Step}
 use Rattle.store.specs.declared.Scope.{Scope}
-use Rattle.store.specs.Store.{is-wide, Fine}
+use Rattle.store.specs.Store.{nodes-of, mode-of, is-wide, Fine}
 use Rattle.store.specs.Promise.{Cost, uses, takes, Room, Leaf}
 use Rattle.routines.specs.Pieces.{Small}
 
@@ -33,10 +33,10 @@ pub record Lawful (t w : List ℕ) (n : ℕ) : Type 0 where
 
 -- a node of it, room for k nodes, and the width of its marks in the scope
 pub record OnNode (t w : List ℕ) (p : Scope) (s : Step) (k node : ℕ) : Type 0 where
-  pub lawful : Lawful t w (p .nodes)
+  pub lawful : Lawful t w (nodes-of p)
   pub fine : Fine w p s
   pub room : Room w p s k 0 0
-  pub known : node < p .nodes
+  pub known : node < nodes-of p
   pub width : is-wide p ≡ wide-marks (fields t)
 
 -- ---- what is promised
@@ -48,11 +48,11 @@ pub record Gives (w : List ℕ) (p : Scope) (s : Step) (w' : List ℕ) (r : Step
 
 -- an expression: eight words pay for it; its visit is counted by whoever calls it
 abbrev pub GivesExpr : (t w : List ℕ) → Scope → Step → (w' : List ℕ) → Step → (node : ℕ) → Type 0
-GivesExpr t w p s w' r node = Gives w p s w' r (uses 8 0 0) (fwd (lower-expr (p .mode) (expr-at (fields t) node)))
+GivesExpr t w p s w' r node = Gives w p s w' r (uses 8 0 0) (fwd (lower-expr (mode-of p) (expr-at (fields t) node)))
 
 -- a statement: eight words and a local pay for it
 abbrev pub GivesStmt : (t w : List ℕ) → Scope → Step → (w' : List ℕ) → Step → (node : ℕ) → Type 0
-GivesStmt t w p s w' r node = Gives w p s w' r (uses 8 1 0) (fwd (lower-stmt (p .mode) (stmt-at (fields t) node)))
+GivesStmt t w p s w' r node = Gives w p s w' r (uses 8 1 0) (fwd (lower-stmt (mode-of p) (stmt-at (fields t) node)))
 
 -- the superclass of the class at a node
 abbrev pub super-of : (t : List ℕ) → (node : ℕ) → Super

@@ -11,13 +11,13 @@ use Rattle.meaning.specs.declared.Instruction.{Instruction}
 use Rattle.store.specs.declared.Step.{Step}
 use Rattle.store.specs.declared.Scope.{Scope}
 use Rattle.store.specs.Layout.{first-local, edge, top}
-use Rattle.store.specs.Store.{is-wide, while-going}
+use Rattle.store.specs.Store.{nodes-of, depth-of, block-of, outcome-of, constants-of, globals-of, result-of, is-wide, while-going}
 use Rattle.store.specs.Promise.{Cost, uses, gives, live, taken}
 use Rattle.code.specs.Words.{mended}
 
 -- a result that is a register
 abbrev pub Small : Step → Type 0
-Small s = while-going (s .outcome) (s .result < 255)
+Small s = while-going (outcome-of s) (result-of s < 255)
 
 -- the n pairs from word `from` of a payload on, with marks of the scope's width
 unfoldable pub tokens-from : Scope → (payload : List ℕ) (from n : ℕ) → List Token
@@ -33,18 +33,18 @@ closed-loop goal first condition test mark l =
 
 -- 1 where the context is global: one open function with one open block
 abbrev pub a-name : Scope → Cost
-a-name p = uses 0 0 (2 - (p .depth + p .block))
+a-name p = uses 0 0 (2 - (depth-of p + block-of p))
 
 -- the same given back, once the constant is stored
 abbrev pub a-name-back : Scope → Cost
-a-name-back p = gives 0 0 (2 - (p .depth + p .block))
+a-name-back p = gives 0 0 (2 - (depth-of p + block-of p))
 
 -- room for a words and b locals, where e names of globals wait for their constants
 pub record Spare (w : List ℕ) (p : Scope) (s : Step) (a b e : ℕ) : Type 0 where
-  pub words : first-local (p .nodes) + 6120 + live w p s + a ≤ top (p .nodes) + 3 * taken w (p .depth)
-  pub locals : edge w (p .nodes) (p .block) + b ≤ p .nodes + taken w (p .depth)
-  pub globals : s .globals + 1 ≤ s .constants + min 2 (p .block) + e
+  pub words : first-local (nodes-of p) + 6120 + live w p s + a ≤ top (nodes-of p) + 3 * taken w (depth-of p)
+  pub locals : edge w (nodes-of p) (block-of p) + b ≤ nodes-of p + taken w (depth-of p)
+  pub globals : globals-of s + 1 ≤ constants-of s + min 2 (block-of p) + e
 
 -- due while nothing is refused
 pub record Owing (w : List ℕ) (p : Scope) (s : Step) (a b e : ℕ) : Type 0 where
-  pub spare : while-going (s .outcome) (Spare w p s a b e)
+  pub spare : while-going (outcome-of s) (Spare w p s a b e)

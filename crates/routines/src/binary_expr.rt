@@ -5,13 +5,14 @@ ghost use Rattle.meaning.specs.Fields.{fields};
 ghost use Rattle.meaning.specs.At.{expr-at};
 ghost use Rattle.meaning.specs.Syntax.{small-operand};
 ghost use Rattle.routines.specs.Node.{Lawful, small-of};
+ghost use Rattle.store.specs.Store.{nodes-of};
 use store::OFFSETS;
 use store::Scope;
 use values::Immediate;
 
 // The number from 0 to 255 that an operand is, or 256.
 pub fn small_operand(tree: &[u8], work: &[u32], scope: Scope, node: usize) -> u32
-    requires { ⌜ Lawful (now tree) (now work) (scope .nodes) × (node < scope .nodes) × (scope .nodes ≤ 32768) ⌝ }
+    requires { ⌜ Lawful (now tree) (now work) (nodes-of scope) × (node < nodes-of scope) × (nodes-of scope ≤ 32768) ⌝ }
     ensures { λ r. ⌜ small-operand (expr-at (fields (now (tree .entry))) node) ≡ small-of r ⌝ }
 {
     let base = OFFSETS + 15 * scope.nodes;

@@ -3,7 +3,7 @@ ghost use Prim.Native.Nat.{_+_, _<_, _≤_};
 ghost use Rattle.meaning.specs.Functions.{parameters};
 ghost use Rattle.forward.specs.Forward.{fwd-zero, sure, closure, end-body};
 ghost use Rattle.store.specs.Layout.{first-local, top};
-ghost use Rattle.store.specs.Store.{while-going, Fine};
+ghost use Rattle.store.specs.Store.{nodes-of, outcome-of, pc-of, result-of, while-going, Fine};
 ghost use Rattle.store.specs.Promise.{uses, some-registers, both, Room, Leaf, live};
 ghost use Rattle.routines.specs.Pieces.{tokens-from};
 use crate::RETURN;
@@ -26,7 +26,7 @@ pub(crate) fn parameters(
     n: usize,
 ) -> Step
     requires { ⌜ Fine (now work) scope step × Room (now work) scope step 0 0 0 × ((from < 65536) × (n < 65536)) ⌝ }
-    ensures { λ r. ⌜ Leaf (now (work .entry)) scope step (now (work .exit)) scope r (both (some-registers n) (uses n n 0)) (fwd-zero (parameters node (tokens-from scope (now (payload .entry)) from n))) × (r .result < 255) ⌝ }
+    ensures { λ r. ⌜ Leaf (now (work .entry)) scope step (now (work .exit)) scope r (both (some-registers n) (uses n n 0)) (fwd-zero (parameters node (tokens-from scope (now (payload .entry)) from n))) × (result-of r < 255) ⌝ }
 {
     let mut last = step;
     let mut k: usize = 0;
@@ -47,7 +47,7 @@ pub fn end_body(
     first: usize,
     node: usize,
 ) -> Step
-    requires { ⌜ Fine (now work) scope step × Room (now work) scope step 0 2 0 × while-going (step .outcome) (first ≤ step .pc) × while-going (step .outcome) (step .result < 255) ⌝ }
+    requires { ⌜ Fine (now work) scope step × Room (now work) scope step 0 2 0 × while-going (outcome-of step) (first ≤ pc-of step) × while-going (outcome-of step) (result-of step < 255) ⌝ }
     ensures { λ r. ⌜ Leaf (now (work .entry)) scope step (now (work .exit)) scope r (uses 2 0 0) (end-body count first node) ⌝ }
 {
     let o = step.outcome;
@@ -78,7 +78,7 @@ pub fn end_body(
 
 // Closure of the prototype that is the result.
 pub(crate) fn closure(work: &mut [u32], step: Step, scope: Scope, register: u32, mark: u32) -> Step
-    requires { ⌜ Fine (now work) scope step × while-going (step .outcome) ((first-local (scope .nodes) + live (now work) scope step + 2 ≤ top (scope .nodes)) × (register < 256)) ⌝ }
+    requires { ⌜ Fine (now work) scope step × while-going (outcome-of step) ((first-local (nodes-of scope) + live (now work) scope step + 2 ≤ top (nodes-of scope)) × (register < 256)) ⌝ }
     ensures { λ r. ⌜ Leaf (now (work .entry)) scope step (now (work .exit)) scope r (uses 2 0 0) (sure (closure register mark)) ⌝ }
 {
     let o = step.outcome;

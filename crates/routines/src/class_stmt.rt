@@ -6,7 +6,7 @@ ghost use Rattle.meaning.specs.Fields.{fields};
 ghost use Rattle.meaning.specs.At.{tag-of, extra};
 ghost use Rattle.meaning.specs.Weight.{size-super};
 ghost use Rattle.forward.specs.Forward.{open-class, add-method, end-class, sure, make-class};
-ghost use Rattle.store.specs.Store.{while-going, Fine, is-wide};
+ghost use Rattle.store.specs.Store.{outcome-of, result-of, while-going, Fine, is-wide};
 ghost use Rattle.store.specs.Promise.{uses, some-registers, both, Room, Leaf};
 ghost use Rattle.routines.specs.Pieces.{Small};
 ghost use Rattle.routines.specs.Node.{OnNode, super-of, GivesSuper};
@@ -33,7 +33,7 @@ pub fn open_class(
     mark: u32,
 ) -> Step
     requires { ⌜ Fine (now work) scope step × Room (now work) scope step 0 0 0 × (name < 65536) ⌝ }
-    ensures { λ r. ⌜ Leaf (now (work .entry)) scope step (now (work .exit)) scope r (both (some-registers 2) (uses 2 0 0)) (open-class node (token name mark)) × while-going (r .outcome) (r .result + 1 < 255) ⌝ }
+    ensures { λ r. ⌜ Leaf (now (work .entry)) scope step (now (work .exit)) scope r (both (some-registers 2) (uses 2 0 0)) (open-class node (token name mark)) × while-going (outcome-of r) (result-of r + 1 < 255) ⌝ }
 {
     let class = declare(work, step, scope, node, name);
     let tmp = store::next_register(work, class, scope, node);
@@ -75,7 +75,7 @@ pub fn superclass(tree: &[u8], work: &mut [u32], step: Step, scope: Scope, node:
 
 // Class, of the superclass that is the result.
 pub fn make_class(work: &mut [u32], step: Step, scope: Scope, class: u32, mark: u32) -> Step
-    requires { ⌜ Fine (now work) scope step × Room (now work) scope step 0 2 0 × while-going (step .outcome) ((class < 255) × (step .result < 256)) ⌝ }
+    requires { ⌜ Fine (now work) scope step × Room (now work) scope step 0 2 0 × while-going (outcome-of step) ((class < 255) × (result-of step < 256)) ⌝ }
     ensures { λ r. ⌜ Leaf (now (work .entry)) scope step (now (work .exit)) scope r (uses 2 0 0) (sure (make-class class mark)) ⌝ }
 {
     let o = step.outcome;
@@ -105,7 +105,7 @@ pub fn add_method(
     tmp: u32,
     name: usize,
 ) -> Step
-    requires { ⌜ Fine (now work) scope step × Room (now work) scope step 0 4 0 × (name < 65536) × while-going (step .outcome) ((op < 256) × (class < 256) × (tmp < 256) × (step .result < 256)) ⌝ }
+    requires { ⌜ Fine (now work) scope step × Room (now work) scope step 0 4 0 × (name < 65536) × while-going (outcome-of step) ((op < 256) × (class < 256) × (tmp < 256) × (result-of step < 256)) ⌝ }
     ensures { λ r. ⌜ Leaf (now (work .entry)) scope step (now (work .exit)) scope r (uses 4 0 0) (add-method node mark op class tmp name) ⌝ }
 {
     let k = store::add_name(work, step, scope, name, node);
@@ -123,7 +123,7 @@ pub fn end_class(
     mark: u32,
     class: u32,
 ) -> Step
-    requires { ⌜ Fine (now work) scope step × Room (now work) scope step 0 2 1 × (name < 65536) × while-going (step .outcome) (class < 255) ⌝ }
+    requires { ⌜ Fine (now work) scope step × Room (now work) scope step 0 2 1 × (name < 65536) × while-going (outcome-of step) (class < 255) ⌝ }
     ensures { λ r. ⌜ Leaf (now (work .entry)) scope step (now (work .exit)) scope r (uses 2 1 0) (end-class node (token name mark) class) × Small r ⌝ }
 {
     let o = step.outcome;

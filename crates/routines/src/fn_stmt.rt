@@ -2,7 +2,7 @@
 ghost use Prim.Native.Nat.{_+_, _<_, _≤_, _-_};
 ghost use Rattle.meaning.specs.Read.{token};
 ghost use Rattle.forward.specs.Forward.{open-fun, end-fun};
-ghost use Rattle.store.specs.Store.{while-going, Fine, inner};
+ghost use Rattle.store.specs.Store.{depth-of, block-of, outcome-of, pc-of, while-going, Fine, inner};
 ghost use Rattle.store.specs.Promise.{uses, some-registers, both, Room, Leaf};
 ghost use Rattle.store.specs.Opening.{Leavable};
 ghost use Rattle.code.specs.Cuts.{cut-step, Ends};
@@ -49,7 +49,7 @@ pub fn end_fun(
     params: usize,
     register: u32,
 ) -> Step
-    requires { ⌜ Fine (now work) (inner scope) step × Leavable (now work) scope × Owing (now work) scope (cut-step step first) 4 1 (2 - (scope .depth + scope .block)) × while-going (step .outcome) ((first ≤ step .pc) × (register < 255)) × (params < 65536) × (name < 65536) ⌝ }
+    requires { ⌜ Fine (now work) (inner scope) step × Leavable (now work) scope × Owing (now work) scope (cut-step step first) 4 1 (2 - (depth-of scope + block-of scope)) × while-going (outcome-of step) ((first ≤ pc-of step) × (register < 255)) × (params < 65536) × (name < 65536) ⌝ }
     ensures { λ r. ⌜ Ends first (now (work .entry)) (now (out .entry)) scope step (now (work .exit)) (now (out .exit)) r (both (uses 4 1 0) (a-name-back scope)) (end-fun first node (token name mark) params register) × Small r ⌝ }
 {
     let left = code::leave_function(work, out, step, scope, first, node, params);

@@ -6,7 +6,7 @@ ghost use Rattle.meaning.specs.Statements.{new-global};
 ghost use Rattle.meaning.specs.Fields.{fields};
 ghost use Rattle.meaning.specs.At.{tag-of, count-of};
 ghost use Rattle.forward.specs.Forward.{fwd-number};
-ghost use Rattle.store.specs.Store.{Fine};
+ghost use Rattle.store.specs.Store.{block-of, Fine};
 ghost use Rattle.store.specs.Promise.{nothing, Room, Leaf};
 ghost use Rattle.routines.specs.Node.{OnNode, GivesStmt};
 use crate::LOAD_NIL;
@@ -18,7 +18,7 @@ use store::Step;
 
 // visit_let_stmt, the name of a global: 10 Redefined.
 pub fn new_global(work: &mut [u32], step: Step, scope: Scope, node: usize, name: usize) -> Step
-    requires { ⌜ Fine (now work) scope step × Room (now work) scope step 0 0 0 × (scope .block ≡ 1) × (name < 65536) ⌝ }
+    requires { ⌜ Fine (now work) scope step × Room (now work) scope step 0 0 0 × (block-of scope ≡ 1) × (name < 65536) ⌝ }
     ensures { λ r. ⌜ ((mark : ℕ) → Leaf (now (work .entry)) scope step (now (work .exit)) scope r nothing (fwd-number (new-global node (token name mark)))) ⌝ }
 {
     if store::is_global_var(work, step, scope, name) {

@@ -1,7 +1,7 @@
 // visit_logical_expr; `logical` of `cycle` lowers its sides.
 ghost use Prim.Native.Nat.{_+_, _<_, _≤_};
 ghost use Rattle.forward.specs.Forward.{sure, end-logical};
-ghost use Rattle.store.specs.Store.{Fine, while-going};
+ghost use Rattle.store.specs.Store.{outcome-of, pc-of, result-of, Fine, while-going};
 ghost use Rattle.store.specs.Promise.{uses, Room, Leaf};
 use crate::JMP;
 use crate::MOVE;
@@ -18,7 +18,7 @@ pub fn end_logical(
     left: u32,
     mark: u32,
 ) -> Step
-    requires { ⌜ Fine (now work) scope step × Room (now work) scope step 0 2 0 × while-going (step .outcome) ((test + 2 ≤ step .pc) × (left < 256) × (step .result < 256)) ⌝ }
+    requires { ⌜ Fine (now work) scope step × Room (now work) scope step 0 2 0 × while-going (outcome-of step) ((test + 2 ≤ pc-of step) × (left < 256) × (result-of step < 256)) ⌝ }
     ensures { λ r. ⌜ Leaf (now (work .entry)) scope step (now (work .exit)) scope r (uses 2 0 0) (sure (end-logical test left mark)) ⌝ }
 {
     let o = step.outcome;

@@ -5,7 +5,7 @@ ghost use lib.ListN.{length};
 ghost use Rattle.meaning.specs.Chunk.{continue-goal};
 ghost use Rattle.forward.specs.Forward.{sure, end-loop};
 ghost use Rattle.store.specs.Layout.{top};
-ghost use Rattle.store.specs.Store.{Fine, while-going};
+ghost use Rattle.store.specs.Store.{mode-of, outcome-of, pc-of, Fine, while-going};
 ghost use Rattle.store.specs.Promise.{uses, Room, Leaf};
 ghost use Rattle.code.specs.Words.{Recoded};
 ghost use Rattle.routines.specs.Pieces.{closed-loop};
@@ -59,8 +59,8 @@ pub fn end_loop(
     result: u32,
     mark: u32,
 ) -> Step
-    requires { ⌜ Fine (now work) scope step × Room (now work) scope step 0 2 0 × while-going (step .outcome) ((first ≤ step .pc) × (condition ≤ step .pc) × (test + 2 ≤ step .pc) × (result < 256) × (first ≤ increment)) ⌝ }
-    ensures { λ r. ⌜ Leaf (now (work .entry)) scope step (now (work .exit)) scope r (uses 2 0 0) (sure (end-loop (scope .mode) first increment condition test result mark)) ⌝ }
+    requires { ⌜ Fine (now work) scope step × Room (now work) scope step 0 2 0 × while-going (outcome-of step) ((first ≤ pc-of step) × (condition ≤ pc-of step) × (test + 2 ≤ pc-of step) × (result < 256) × (first ≤ increment)) ⌝ }
+    ensures { λ r. ⌜ Leaf (now (work .entry)) scope step (now (work .exit)) scope r (uses 2 0 0) (sure (end-loop (mode-of scope) first increment condition test result mark)) ⌝ }
 {
     let o = step.outcome;
     let Outcome::Accepted(_) = o else {

@@ -2,7 +2,7 @@
 ghost use Prim.Native.Nat.{ℕ, _+_, _-_, _<_};
 ghost use Rattle.meaning.specs.Read.{token};
 ghost use Rattle.forward.specs.Forward.{declare, name-result};
-ghost use Rattle.store.specs.Store.{Fine};
+ghost use Rattle.store.specs.Store.{depth-of, block-of, Fine};
 ghost use Rattle.store.specs.Promise.{uses, a-register, both, Room, Leaf};
 ghost use Rattle.routines.specs.Pieces.{Small, a-name, a-name-back, Owing};
 use crate::SET_GLOBAL;
@@ -31,7 +31,7 @@ pub(crate) fn name_result(
     name: usize,
     mark: u32,
 ) -> Step
-    requires { ⌜ Fine (now work) scope step × Owing (now work) scope step 2 1 (2 - (scope .depth + scope .block)) × Small step × (name < 65536) ⌝ }
+    requires { ⌜ Fine (now work) scope step × Owing (now work) scope step 2 1 (2 - (depth-of scope + block-of scope)) × Small step × (name < 65536) ⌝ }
     ensures { λ r. ⌜ Leaf (now (work .entry)) scope step (now (work .exit)) scope r (both (uses 2 1 0) (a-name-back scope)) (name-result node (token name mark)) × Small r ⌝ }
 {
     if store::is_global_context(scope) {

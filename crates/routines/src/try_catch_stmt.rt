@@ -2,7 +2,7 @@
 ghost use Prim.Native.Nat.{_<_, _≤_};
 ghost use Rattle.meaning.specs.Read.{token};
 ghost use Rattle.forward.specs.Forward.{sure, open-try-body, end-try-body, end-try, open-catch};
-ghost use Rattle.store.specs.Store.{Fine, while-going};
+ghost use Rattle.store.specs.Store.{outcome-of, pc-of, Fine, while-going};
 ghost use Rattle.store.specs.Promise.{uses, Room, Leaf, a-register, both};
 use crate::JMP;
 use instruction::OpCode;
@@ -59,7 +59,7 @@ pub fn open_catch(
 
 // visit_try_catch_stmt: RegisterTryCatch at `first`, then the first jump that is not set; `body` is the length after the body.
 pub fn end_try(work: &mut [u32], step: Step, scope: Scope, first: usize, body: usize) -> Step
-    requires { ⌜ Fine (now work) scope step × while-going (step .outcome) ((first ≤ body) × (body < step .pc)) ⌝ }
+    requires { ⌜ Fine (now work) scope step × while-going (outcome-of step) ((first ≤ body) × (body < pc-of step)) ⌝ }
     ensures { λ r. ⌜ Leaf (now (work .entry)) scope step (now (work .exit)) scope r (uses 0 0 0) (sure (end-try first body)) ⌝ }
 {
     let o = step.outcome;
