@@ -4,12 +4,12 @@ ghost use Rattle.forward.specs.Forward.{sure, test-and-jump};
 ghost use Rattle.store.specs.Store.{outcome-of, result-of, Fine, while-going};
 ghost use Rattle.store.specs.Promise.{uses, Room, Leaf};
 use crate::JMP;
-use store::pack;
-use store::write_cell;
 use instruction::OpCode;
 use meaning::Outcome;
 use store::Scope;
 use store::Step;
+use store::pack;
+use store::write_cell;
 
 const TEST: u32 = OpCode::Test as u32;
 

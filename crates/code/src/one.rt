@@ -7,12 +7,12 @@ ghost use Rattle.store.specs.Store.{outcome-of, Fine, while-going};
 ghost use Rattle.store.specs.Promise.{uses, Room, Leaf};
 ghost use Rattle.store.specs.Cell.{Bytes};
 ghost use Rattle.code.specs.Cuts.{rolled-step};
-use store::pack;
-use store::pack_wide;
-use store::write_cell;
 use meaning::Outcome;
 use store::Scope;
 use store::Step;
+use store::pack;
+use store::pack_wide;
+use store::write_cell;
 
 // One instruction more, and the result.
 pub fn put(

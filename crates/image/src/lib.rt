@@ -18,6 +18,7 @@ use meaning::NO_MARK;
 use store::HELD;
 use store::NAMES;
 use store::REGISTERS;
+use store::unpacked;
 use writers::Capture;
 use writers::Header;
 
@@ -109,7 +110,7 @@ fn put_prototype(
     let code = at + 13 + 5 * captures;
     put_code(work, out, code, tag, nodes, first, count);
     let size = span(tag);
-    writers::put_inst(out, code + count * size, tag, store::unpacked(RETURN, NO_MARK));
+    writers::put_inst(out, code + count * size, tag, unpacked(RETURN, NO_MARK));
 }
 
 // The same where it fits; in any case where it ends.
