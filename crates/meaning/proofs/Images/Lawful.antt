@@ -8,14 +8,14 @@ use native.Mathlib.Omega.{arith}
 use lib.ListN.{length}
 use lib.Dec.{eqb, ltb}
 use borrow.Author.Tests.{eqb-true, eqb-false, eq-eqb, ne-eqb, ltb-true, lt-ltb}
-use Rattle.meaning.specs.Opcode.{bx, Jmp, Test, Return, Call, LoadK, GetUpval, Closure, RegisterTryCatch}
+use Rattle.meaning.specs.Opcode.{opcodes-written, bx, Jmp, Test, Return, Call, LoadK, GetUpval, Closure, RegisterTryCatch}
 use Rattle.meaning.specs.Constant.{Constant, number, text, other}
 use Rattle.meaning.specs.State.{Proto, among}
 use Rattle.meaning.specs.Steps.{target, inst-at, Step, next, jump, skip, handler}
 use Rattle.meaning.specs.Safety.{met, name-due, IsText, All, Holds, Fits, Inside, Facts}
 use Rattle.meaning.specs.declared.Instruction.{Instruction}
 use Rattle.meaning.proofs.Lists.{and-left, and-right, false-true}
-use Rattle.meaning.specs.Rules.{opcodes-written, all, passes-at, inside, leads, let-pass, if-opcode, capture-fits, is-text, lawful}
+use Rattle.meaning.specs.Rules.{all, passes-at, inside, leads, let-pass, if-opcode, capture-fits, is-text, lawful}
 
 -- ---- lists
 
