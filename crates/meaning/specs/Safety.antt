@@ -15,7 +15,7 @@ use Rattle.meaning.specs.Read.{read-program}
 use Rattle.meaning.specs.State.{Capture, Proto, State, done, among}
 use Rattle.meaning.specs.Lower.{lower-program}
 use Rattle.meaning.specs.Image.{image}
-use Rattle.meaning.specs.Steps.{inst-at, opcode-at, Step, Amended, Walk}
+use Rattle.meaning.specs.Steps.{inst-at, opcode-at, Step-01, Amended, Walk}
 use Rattle.meaning.specs.declared.Instruction.{Instruction}
 use Rattle.meaning.specs.declared.Outcome.the-variants.{Accepted}
 
@@ -72,7 +72,7 @@ Inside n (some i) = i < n
 -- of instruction x, at index i of the prototype p, which stands behind the prototypes `earlier`
 pub record Facts (constants : List Constant) (earlier : List Proto) (p : Proto) (i : ℕ) (x : Instruction) : Type 0 where
   -- "Allowed steps": none of 01's leads out of the prototype
-  pub steps : (o : Option ℕ) → Step (p .code) i o → Inside (length (p .code)) o
+  pub steps : (o : Option ℕ) → Step-01 (p .code) i o → Inside (length (p .code)) o
   -- a is 1 or 2 in a continue or break that was not patched: none is left
   pub jump : x .opcode ≡ Jmp → x .a ≡ 0
   -- "A prototype has the registers and captures below its counts"
@@ -125,4 +125,4 @@ Demand3 s = Demand3-over Amended s
 
 -- the older one, over the steps of 01 alone
 abbrev pub Demand3-01 : State → Type 0
-Demand3-01 s = Demand3-over Step s
+Demand3-01 s = Demand3-over Step-01 s
