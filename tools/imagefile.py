@@ -4,16 +4,15 @@ bin/listing, bin/walk and bin/reached read images by this.
 """
 import math
 import os
-import re
 import struct
 
 import marks
+import opcodes
 from streams import ROOT, Failure, child
 
 NONE = 65535
 NARROW, WIDE = 0x43, 0x47  # the tags of instructions
 BUILTINS = ["io", "strings", "type", "env", "import", "net", "re", "process", "lists"]
-OPCODES = os.path.join(ROOT, "crates", "meaning", "specs", "Opcode.antt")
 CAUSES = {19: ("Image frame", "a header or a payload runs past the end, or there is no field at all"),
           20: ("Image rule", "a field that cannot follow, or an instruction whose fact fails")}
 LONGEST_REPEAT = 16
@@ -25,12 +24,6 @@ class Wrong(Exception):
 
 
 # ---- what an image holds
-
-
-def opcode_names():
-    """The names as the definition numbers them."""
-    with open(OPCODES, encoding="utf-8") as text:
-        return {int(n): name for name, n in re.findall(r"^([A-Z][A-Za-z]*) = (\d+)$", text.read(), re.M)}
 
 
 def fields(data):
@@ -75,7 +68,7 @@ class Reader:
 
 def records(data):
     """What the image holds, in its order: a record for each prototype, capture, instruction and constant."""
-    names, reader, index = opcode_names(), Reader(data), 0
+    names, reader, index = opcodes.written(), Reader(data), 0
     while reader.tag() == 0x41:
         yield from prototype(reader, names, index)
         index += 1

@@ -1,4 +1,3 @@
--- The opcodes' numbers; the law of the offset, and what the proofs of the functions cite.
-pub mod Table
+-- The law of the offset, and what the proofs of the functions cite.
 pub mod Offsets
 pub mod Determined

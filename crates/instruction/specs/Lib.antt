@@ -1,3 +1,2 @@
 -- What the crate's promises speak of, beside the definition's own opcodes and instructions.
-pub mod OpCodes
 pub mod Offset

@@ -11,7 +11,7 @@ use lib.ListN.{length}
 use Rattle.meaning.specs.State.{Proto}
 use Rattle.meaning.specs.Images.{Image}
 use Rattle.meaning.specs.Image.{written}
-use Rattle.meaning.specs.Steps.{inst-at, Step, Amended, Walk}
+use Rattle.meaning.specs.Steps.{inst-at, Step-01, Amended, Walk}
 use Rattle.meaning.specs.Safety.{All, Facts, Stands}
 use Rattle.meaning.specs.Rules.{let-pass}
 use Rattle.meaning.specs.Reader.{read-as, taken}
@@ -48,5 +48,5 @@ module _ (tag : ℕ) (ok : Tagged tag) (bytes : List ℕ) (are : Bytes bytes) (i
         stands im (taken-is tag bytes im e .facts) before p after at (h .some)
 
     -- and so does every walk of the steps of 01 alone
-    pub taken-stands-01 : (o : Option ℕ) → Walk (Step (p .code)) 0 o → Stands (im .constants) before p (Step (p .code)) o
+    pub taken-stands-01 : (o : Option ℕ) → Walk (Step-01 (p .code)) 0 o → Stands (im .constants) before p (Step-01 (p .code)) o
     taken-stands-01 = stands-01 (im .constants) before p taken-stands

@@ -7,6 +7,7 @@ pub mod VisitRows
 pub mod ImageRows
 pub mod WalkRows
 pub mod ImageMends
+pub mod Table
 pub mod Lists
 pub mod FieldLaws
 pub mod Kids

@@ -1,12 +1,13 @@
 -- src/instruction.rs: opcodes, instructions with their marks, the 16-bit offset. An opcode is its number, from 0 (Move) to 50 (GetExcept), in the order of `OpCode`.
 use Prim.Native.Nat.{ℕ, _+_, _-_, _*_, _/_, _%_}
-use mathlib.Core.Bool.{Bool, _&&_}
-use mathlib.Core.List.{List, [], _∷_}
+use mathlib.Core.Bool.{Bool, _&&_, cond}
+use mathlib.Core.List as Core
+use mathlib.Core.List.{[], _∷_}
 use lib.ListN.{getD}
 use lib.Dec.{eqb}
 use Rattle.meaning.specs.declared.Instruction.{Instruction}
 
--- ---- enum OpCode: the opcodes that this lowering writes
+-- ---- enum OpCode: a number by its name
 
 abbrev pub Move : ℕ
 Move = 0
@@ -71,11 +72,35 @@ Call = 19
 abbrev pub Return : ℕ
 Return = 20
 
+abbrev pub SetUpval : ℕ
+SetUpval = 21
+
 abbrev pub GetUpval : ℕ
 GetUpval = 22
 
 abbrev pub Closure : ℕ
 Closure = 23
+
+abbrev pub List : ℕ
+List = 24
+
+abbrev pub PushList : ℕ
+PushList = 25
+
+abbrev pub Dict : ℕ
+Dict = 26
+
+abbrev pub PushDict : ℕ
+PushDict = 27
+
+abbrev pub Slice : ℕ
+Slice = 28
+
+abbrev pub Access : ℕ
+Access = 29
+
+abbrev pub Set : ℕ
+Set = 30
 
 abbrev pub Class : ℕ
 Class = 31
@@ -86,8 +111,17 @@ ClassMeth = 32
 abbrev pub ClassStMeth : ℕ
 ClassStMeth = 33
 
+abbrev pub GetObj : ℕ
+GetObj = 34
+
+abbrev pub SetObj : ℕ
+SetObj = 35
+
 abbrev pub Addi : ℕ
 Addi = 36
+
+abbrev pub Subi : ℕ
+Subi = 37
 
 abbrev pub GetIter : ℕ
 GetIter = 38
@@ -100,6 +134,12 @@ GetIteri = 40
 
 abbrev pub Length : ℕ
 Length = 41
+
+abbrev pub Super : ℕ
+Super = 42
+
+abbrev pub This : ℕ
+This = 43
 
 abbrev pub GetGlobal : ℕ
 GetGlobal = 44
@@ -121,6 +161,98 @@ DeregisterTryCatch = 49
 
 abbrev pub GetExcept : ℕ
 GetExcept = 50
+
+-- ---- the table of opcodes
+
+-- 01, "Registers met": which of an instruction's operands are registers; Return and Call have a rule of their own
+pub data Meets : Type 0 where
+  of-none of-a of-ab of-abc of-return of-call : Meets
+
+-- a row: an opcode that this lowering writes, and what it meets; or one that it does not write
+pub data Row : Type 0 where
+  written : (opcode : ℕ) → Meets → Row
+  unwritten : (opcode : ℕ) → Row
+
+-- the one table, in the order of `OpCode`; proofs/Table proves that its rows are numbered from 0 to 50
+abbrev pub table : Core.List Row
+table =
+    written Move of-ab ∷
+    written LoadK of-a ∷
+    written LoadNil of-a ∷
+    written Jmp of-none ∷
+    written Test of-ab ∷
+    written Add of-abc ∷
+    written Sub of-abc ∷
+    written Div of-abc ∷
+    written Mod of-abc ∷
+    written Mul of-abc ∷
+    written Pow of-abc ∷
+    written Lt of-abc ∷
+    written Gt of-abc ∷
+    written Lte of-abc ∷
+    written Gte of-abc ∷
+    written Eq of-abc ∷
+    written Neq of-abc ∷
+    written Not of-ab ∷
+    written Neg of-ab ∷
+    written Call of-call ∷
+    written Return of-return ∷
+    unwritten SetUpval ∷
+    written GetUpval of-a ∷
+    written Closure of-a ∷
+    unwritten List ∷
+    unwritten PushList ∷
+    unwritten Dict ∷
+    unwritten PushDict ∷
+    unwritten Slice ∷
+    unwritten Access ∷
+    unwritten Set ∷
+    written Class of-abc ∷
+    written ClassMeth of-abc ∷
+    written ClassStMeth of-abc ∷
+    unwritten GetObj ∷
+    unwritten SetObj ∷
+    written Addi of-ab ∷
+    unwritten Subi ∷
+    written GetIter of-abc ∷
+    written GetIterk of-abc ∷
+    written GetIteri of-ab ∷
+    written Length of-ab ∷
+    unwritten Super ∷
+    unwritten This ∷
+    written GetGlobal of-a ∷
+    written SetGlobal of-a ∷
+    written GetCurrentFunc of-a ∷
+    written GetBuiltin of-a ∷
+    written RegisterTryCatch of-none ∷
+    written DeregisterTryCatch of-none ∷
+    written GetExcept of-a ∷
+    []
+
+-- the opcode of a row
+abbrev pub opcode-of : Row → ℕ
+opcode-of (written o m) = o
+opcode-of (unwritten o) = o
+
+-- the opcodes that rows say are written
+abbrev pub written-in : Core.List Row → Core.List ℕ
+written-in [] = []
+written-in (written o m ∷ rows) = o ∷ written-in rows
+written-in (unwritten o ∷ rows) = written-in rows
+
+-- "opcodes that this lowering writes" (E1)
+abbrev pub opcodes-written : Core.List ℕ
+opcodes-written = written-in table
+
+-- what rows say that an opcode meets; "of the rest a"
+abbrev pub meets-in : Core.List Row → (opcode : ℕ) → Meets
+meets-in [] n = of-a
+meets-in (written o m ∷ rows) n = cond (eqb n o) m (meets-in rows n)
+meets-in (unwritten o ∷ rows) n = meets-in rows n
+
+-- what an opcode meets
+abbrev pub meets : (opcode : ℕ) → Meets
+meets n = meets-in table n
 
 -- ---- struct Instruction, with its mark (struct InstSrc)
 

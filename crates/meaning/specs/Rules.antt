@@ -5,18 +5,13 @@ use mathlib.Core.List.{List, [], _∷_, _++_}
 use mathlib.Core.Option.{Option, none, some}
 use lib.ListN.{length, replicate}
 use lib.Dec.{eqb, ltb}
-use Rattle.meaning.specs.Opcode.{bx, Move, LoadK, LoadNil, Jmp, Test, Add, Sub, Div, Mod, Mul, Pow, Lt, Gt, Lte, Gte, Eq, Neq, Not, Neg, Call, Return, GetUpval, Closure, Class, ClassMeth, ClassStMeth, Addi, GetIter, GetIterk, GetIteri, Length, GetGlobal, SetGlobal, GetCurrentFunc, GetBuiltin, RegisterTryCatch, DeregisterTryCatch, GetExcept}
+use Rattle.meaning.specs.Opcode.{bx, opcodes-written, LoadK, Jmp, Test, Call, Return, GetUpval, Closure, RegisterTryCatch}
 use Rattle.meaning.specs.Constant.{Constant, number, text, other}
 use Rattle.meaning.specs.State.{Capture, Proto, among}
 use Rattle.meaning.specs.Steps.{target}
 use Rattle.meaning.specs.Safety.{met, name-due}
 use Rattle.meaning.specs.declared.Instruction.{Instruction}
 use Rattle.meaning.specs.Follow.{further}
-
--- "opcodes that this lowering writes"
-abbrev pub opcodes-written : List ℕ
-opcodes-written = Move ∷ LoadK ∷ LoadNil ∷ Jmp ∷ Test ∷ Add ∷ Sub ∷ Div ∷ Mod ∷ Mul ∷ Pow ∷ Lt ∷ Gt ∷ Lte ∷ Gte ∷ Eq ∷ Neq ∷ Not ∷ Neg ∷ Call ∷ Return ∷ GetUpval ∷ Closure
-    ∷ Class ∷ ClassMeth ∷ ClassStMeth ∷ Addi ∷ GetIter ∷ GetIterk ∷ GetIteri ∷ Length ∷ GetGlobal ∷ SetGlobal ∷ GetCurrentFunc ∷ GetBuiltin ∷ RegisterTryCatch ∷ DeregisterTryCatch ∷ GetExcept ∷ []
 
 -- a test of every element
 unfoldable pub all : {A : Type 0} → (A → Bool) → List A → Bool

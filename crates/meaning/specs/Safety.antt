@@ -9,13 +9,13 @@ use lib.Dec.{eqb}
 use Rattle.meaning.specs.Fields.{fields}
 use Rattle.meaning.specs.Grammar.{wide-marks}
 use Rattle.meaning.specs.Check.{checked}
-use Rattle.meaning.specs.Opcode.{inst, bx, no-mark, Move, LoadK, Jmp, Test, Add, Sub, Div, Mod, Mul, Pow, Lt, Gt, Lte, Gte, Eq, Neq, Not, Neg, Call, Return, GetUpval, Closure, Class, ClassMeth, ClassStMeth, Addi, GetIter, GetIterk, GetIteri, Length, GetGlobal, SetGlobal, GetBuiltin, RegisterTryCatch, DeregisterTryCatch}
+use Rattle.meaning.specs.Opcode.{inst, bx, no-mark, Meets, of-none, of-a, of-ab, of-abc, of-return, of-call, meets, LoadK, Jmp, Call, Return, GetUpval, Closure, GetGlobal, SetGlobal, GetBuiltin}
 use Rattle.meaning.specs.Constant.{Constant, number, text, other}
 use Rattle.meaning.specs.Read.{read-program}
 use Rattle.meaning.specs.State.{Capture, Proto, State, done, among}
 use Rattle.meaning.specs.Lower.{lower-program}
 use Rattle.meaning.specs.Image.{image}
-use Rattle.meaning.specs.Steps.{inst-at, opcode-at, Step, Amended, Walk}
+use Rattle.meaning.specs.Steps.{inst-at, opcode-at, Step-01, Amended, Walk}
 use Rattle.meaning.specs.declared.Instruction.{Instruction}
 use Rattle.meaning.specs.declared.Outcome.the-variants.{Accepted}
 
@@ -24,29 +24,20 @@ abbrev pub from : (r n : ℕ) → List ℕ
 from r zero = []
 from r (suc n) = r ∷ from (suc r) n
 
--- "Registers met": opcodes, and what an instruction of them meets
-abbrev pub rows : List (List ℕ × (Instruction → List ℕ))
-rows =
-    -- "a, b, c of Add to Neq, Class to ClassStMeth, GetIter and GetIterk"
-    (Add ∷ Sub ∷ Div ∷ Mod ∷ Mul ∷ Pow ∷ Lt ∷ Gt ∷ Lte ∷ Gte ∷ Eq ∷ Neq ∷ Class ∷ ClassMeth ∷ ClassStMeth ∷ GetIter ∷ GetIterk ∷ [], λ x. x .a ∷ x .b ∷ x .c ∷ [])
-    -- "a, b of Move, Test, Not, Neg, Addi, GetIteri and Length"
-    ∷ (Move ∷ Test ∷ Not ∷ Neg ∷ Addi ∷ GetIteri ∷ Length ∷ [], λ x. x .a ∷ x .b ∷ [])
-    -- "none of Jmp and both TryCatch opcodes"
-    ∷ (Jmp ∷ RegisterTryCatch ∷ DeregisterTryCatch ∷ [], λ x. [])
-    -- "of Return a, only when b is not 0"
-    ∷ (Return ∷ [], λ x. cond (eqb (x .b) 0) [] (x .a ∷ []))
-    -- "of Call .. a, as many after it as arguments (one less than b), and the one before c"
-    ∷ (Call ∷ [], λ x. x .a ∷ (from (x .a + 1) (x .b - 1) ++ (x .c - 1) ∷ []))
-    ∷ []
-
--- the row of an instruction; "of the rest a"
-abbrev pub met-by : List (List ℕ × (Instruction → List ℕ)) → Instruction → List ℕ
-met-by [] x = x .a ∷ []
-met-by (row ∷ others) x = cond (among (x .opcode) (row .0)) (row .1 x) (met-by others x)
+-- "Registers met", by what an opcode's row says of it
+abbrev pub met-by : Meets → Instruction → List ℕ
+met-by of-none x = []
+met-by of-a x = x .a ∷ []
+met-by of-ab x = x .a ∷ x .b ∷ []
+met-by of-abc x = x .a ∷ x .b ∷ x .c ∷ []
+-- "of Return a, only when b is not 0"
+met-by of-return x = cond (eqb (x .b) 0) [] (x .a ∷ [])
+-- "of Call .. a, as many after it as arguments (one less than b), and the one before c"
+met-by of-call x = x .a ∷ (from (x .a + 1) (x .b - 1) ++ (x .c - 1) ∷ [])
 
 -- the registers that an instruction meets
 abbrev pub met : Instruction → List ℕ
-met x = met-by rows x
+met x = met-by (meets (x .opcode)) x
 
 -- "A name is due in GetGlobal, SetGlobal and GetBuiltin"
 abbrev pub name-due : List ℕ
@@ -81,7 +72,7 @@ Inside n (some i) = i < n
 -- of instruction x, at index i of the prototype p, which stands behind the prototypes `earlier`
 pub record Facts (constants : List Constant) (earlier : List Proto) (p : Proto) (i : ℕ) (x : Instruction) : Type 0 where
   -- "Allowed steps": none of 01's leads out of the prototype
-  pub steps : (o : Option ℕ) → Step (p .code) i o → Inside (length (p .code)) o
+  pub steps : (o : Option ℕ) → Step-01 (p .code) i o → Inside (length (p .code)) o
   -- a is 1 or 2 in a continue or break that was not patched: none is left
   pub jump : x .opcode ≡ Jmp → x .a ≡ 0
   -- "A prototype has the registers and captures below its counts"
@@ -134,4 +125,4 @@ Demand3 s = Demand3-over Amended s
 
 -- the older one, over the steps of 01 alone
 abbrev pub Demand3-01 : State → Type 0
-Demand3-01 s = Demand3-over Step s
+Demand3-01 s = Demand3-over Step-01 s

@@ -22,20 +22,20 @@ abbrev pub target : (i offset : ℕ) → Option ℕ
 target i w = cond (ltb w 32768) (some (i + w)) (cond (leb 65536 (i + w)) (some (i + w - 65536)) none)
 
 -- a step of 01 from instruction i, and where it leads
-pub data Step (code : List Instruction) (i : ℕ) : Option ℕ → Type 0 where
+pub data Step-01 (code : List Instruction) (i : ℕ) : Option ℕ → Type 0 where
   -- "to the next instruction", but from Jmp, and "none after Return"
-  next : i < length code → (opcode-at code i ≡ Jmp → ⊥) → (opcode-at code i ≡ Return → ⊥) → Step code i (some (i + 1))
+  next : i < length code → (opcode-at code i ≡ Jmp → ⊥) → (opcode-at code i ≡ Return → ⊥) → Step-01 code i (some (i + 1))
   -- "Jmp to its index plus offset only"
-  jump : i < length code → opcode-at code i ≡ Jmp → Step code i (target i (bx (inst-at code i)))
+  jump : i < length code → opcode-at code i ≡ Jmp → Step-01 code i (target i (bx (inst-at code i)))
   -- "Test to the next or the one after"
-  skip : i < length code → opcode-at code i ≡ Test → Step code i (some (i + 2))
+  skip : i < length code → opcode-at code i ≡ Test → Step-01 code i (some (i + 2))
   -- "RegisterTryCatch to the next or to its index plus bx"
-  handler : i < length code → opcode-at code i ≡ RegisterTryCatch → Step code i (some (i + bx (inst-at code i)))
+  handler : i < length code → opcode-at code i ≡ RegisterTryCatch → Step-01 code i (some (i + bx (inst-at code i)))
 
 -- the steps as E8 amends them
 pub data Amended (code : List Instruction) (i : ℕ) : Option ℕ → Type 0 where
   -- those of 01
-  ordinary : {o : Option ℕ} → Step code i o → Amended code i o
+  ordinary : {o : Option ℕ} → Step-01 code i o → Amended code i o
   -- "from any instruction other than Return, control may also go to the handler of any RegisterTryCatch in the same prototype"
   struck : (k : ℕ) → i < length code → (opcode-at code i ≡ Return → ⊥) → k < length code → opcode-at code k ≡ RegisterTryCatch → Amended code i (some (k + bx (inst-at code k)))
 

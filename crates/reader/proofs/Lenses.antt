@@ -29,7 +29,7 @@ use Rattle.meaning.proofs.Mend.Laws.{not-replaced, is-replaced, mended-length, 
 use Rattle.reader.specs.declared.facts.Around.{Around}
 use Rattle.reader.specs.Laid.{code-in}
 use Rattle.reader.specs.Marks.{seen-opcode, first-lead, second-lead}
-use Rattle.reader.specs.Tests.{closure-seen, text-seen, lawful-seen, replaced-seen, seen-test}
+use Rattle.reader.specs.Tests.{closure-seen, text-seen, lawful-seen, replaced-seen, kind-seen, seen-test}
 use Rattle.reader.specs.Lens.{lens, lens-code, lens-proto, lens-image, ordered-by, read-by}
 use Rattle.reader.proofs.Scanned.{byte-at, code-at, seen-is}
 use Rattle.reader.proofs.Tested.{replaced-is}
@@ -63,7 +63,7 @@ or-true false = refl
 module _ (v : Around) (locals outers texts marks : List ℕ) (n i : ℕ) where
   -- Return 0 0 0 passes
   return-passes : (mark : ℕ) → seen-test v locals outers texts marks n i (inst Return 0 0 0 mark) ≡ true
-  unfolding seen-test
+  unfolding seen-test kind-seen
   return-passes mark = refl
 
   passed : (m : Bool) (x : Instruction) → (seen-test v locals outers texts marks n i x || (m && replaced n i x)) ≡ seen-test v locals outers texts marks n i (lens m n i x)

@@ -27,7 +27,7 @@ use Rattle.reader.specs.declared.facts.Around.{Around}
 use Rattle.meaning.specs.Rules.{all, passes-at, entered, let-pass, capture-fits, is-text, lawful}
 use Rattle.reader.specs.Marks.{Entered}
 use Rattle.reader.specs.Right.{Table, Right}
-use Rattle.reader.specs.Tests.{closure-seen, text-seen, seen-test, written-seen, steps-seen, registers-seen, operands-seen, local-need, outer-need}
+use Rattle.reader.specs.Tests.{closure-seen, text-seen, seen-test, kind-seen, steps-seen, registers-seen, operands-seen, local-need, outer-need}
 use Rattle.reader.proofs.Tested.{needs-are, lawful-is}
 
 module _ {A : Type 0} (f : A → Bool) where
@@ -110,8 +110,8 @@ module _ (ks : List Constant) (ps : List Proto) (locals outers texts : List ℕ)
     seen-lawful =
         let made : closure-seen v locals outers (bx x) ≡ passes-at (λ q. all (capture-fits (p .registers) (length (p .captures))) (q .captures)) ps (bx x) =
         closure-is (bx x) ∙ ap₂ (λ (r k : ℕ). passes-at (λ q. all (capture-fits r k) (q .captures)) ps (bx x)) er ec in
-        ap₂ (λ (y z : Bool). written-seen (x .opcode) && (steps-seen (x .opcode) (bx x) i (length (p .code)) && (y && z)))
-        (ap₂ (λ (y z : Bool). y || z) (ap (λ (n : ℕ). registers-seen (x .opcode) (x .a) (x .b) (x .c) n) er) pass-is)
+        ap₂ (λ (y z : Bool). ltb (kind-seen (x .opcode)) 4 && (steps-seen (x .opcode) (bx x) i (length (p .code)) && (y && z)))
+        (ap₂ (λ (y z : Bool). y || z) (ap (λ (n : ℕ). registers-seen (kind-seen (x .opcode)) (x .opcode) (x .a) (x .b) (x .c) n) er) pass-is)
         (ap₂ (λ (n k : ℕ). operands-seen (x .opcode) (x .a) (x .b) (x .c) (bx x) n (closure-seen v locals outers (bx x)) (text-seen v texts (bx x)) k) ec ek
         ∙ ap₂ (λ (y z : Bool). operands-seen (x .opcode) (x .a) (x .b) (x .c) (bx x) (length (p .captures)) y z (length ks)) made (text-is (bx x)))
         ∙ sym (lawful-is ks ps p i x small)

@@ -1,4 +1,4 @@
--- The tests of numbers say what Rules says.
+-- The tests of numbers say what Rules says. The idea: what an opcode's row says is told by its kind and its number, by one computed test of every byte.
 use mathlib.Core.Path.{_≡_, refl, sym, ap, ap₂, _∙_}
 use mathlib.Core.Bool.{Bool, true, false, not, _&&_, _||_, cond}
 use mathlib.Core.Option.{some}
@@ -9,16 +9,16 @@ use native.Mathlib.Omega.{arith}
 use lib.ListN.{length}
 use lib.Dec.{eqb, leb, ltb}
 use borrow.Author.Tests.{eqb-true, ltb-true, leb-true, lt-ltb, le-ltb, le-leb, lt-leb}
-use Rattle.meaning.specs.Opcode.{bx, Move, LoadK, GetUpval, Closure, Jmp, Test, Add, Sub, Div, Mod, Mul, Pow, Lt, Gt, Lte, Gte, Eq, Neq, Not, Neg, Call, Return, Class, ClassMeth, ClassStMeth, Addi, GetIter, GetIterk, GetIteri, Length, RegisterTryCatch, DeregisterTryCatch}
+use Rattle.meaning.specs.Opcode.{Meets, of-none, of-a, of-ab, of-abc, of-return, of-call, meets, opcodes-written, bx, LoadK, GetUpval, Closure, Jmp, Test, Call, Return, RegisterTryCatch}
 use Rattle.meaning.specs.State.{Capture, Proto, among}
 use Rattle.meaning.specs.Steps.{target}
-use Rattle.meaning.specs.Safety.{from, met, name-due}
+use Rattle.meaning.specs.Safety.{from, met-by, met, name-due}
 use Rattle.meaning.specs.declared.Instruction.{Instruction}
-use Rattle.meaning.proofs.Lists.{false-true, lt-or-le, same, same-is, all-to, all-below}
+use Rattle.meaning.proofs.Lists.{and-left, and-right, lt-or-le, same, same-is, all-to, all-below}
 use Rattle.meaning.specs.Constant.{Constant}
 use Rattle.meaning.specs.Mend.{replaced}
-use Rattle.meaning.specs.Rules.{opcodes-written, all, passes-at, inside, leads, let-pass, if-opcode, capture-fits, is-text, lawful}
-use Rattle.reader.specs.Tests.{written-seen, steps-seen, replaced-seen, three-seen, two-seen, none-seen, registers-seen, operands-seen, local-need, outer-need}
+use Rattle.meaning.specs.Rules.{all, passes-at, inside, leads, let-pass, if-opcode, capture-fits, is-text, lawful}
+use Rattle.reader.specs.Tests.{kind-seen, steps-seen, replaced-seen, none-seen, registers-seen, operands-seen, local-need, outer-need}
 
 -- ---- booleans
 
@@ -38,9 +38,33 @@ both false false f g = refl
 
 -- ---- the opcode
 
-pub written-is : (o : ℕ) → o < 256 → among o opcodes-written ≡ written-seen o
-unfolding same all-to
-written-is o h = same-is _ _ (all-below (λ (o : ℕ). same (among o opcodes-written) (written-seen o)) 256 o refl h)
+-- a number for what a row says of registers
+abbrev form : Meets → ℕ
+form of-none = 0
+form of-a = 1
+form of-ab = 2
+form of-abc = 3
+form of-return = 4
+form of-call = 5
+
+-- what kind and number tell of an opcode is what its row says
+abbrev agrees : ℕ → Bool
+agrees o =
+    same (among o opcodes-written) (ltb (kind-seen o) 4)
+    && (same (eqb (form (meets o)) 0) (none-seen o)
+    && (same (eqb (form (meets o)) 2) (eqb (kind-seen o) 1)
+    && (same (eqb (form (meets o)) 3) (eqb (kind-seen o) 2)
+    && (same (eqb (form (meets o)) 4) (eqb o 20)
+    && same (eqb (form (meets o)) 5) (eqb o 19)))))
+
+-- one computed test, of every byte
+agreed : (o : ℕ) → o < 256 → agrees o ≡ true
+unfolding same all-to kind-seen
+agreed o h = all-below agrees 256 o refl h
+
+-- its first clause, and the rest
+split : (a b rest : Bool) → (same a b && rest) ≡ true → (a ≡ b) × (rest ≡ true)
+split a b rest e = (same-is a b (and-left (same a b) rest e), and-right (same a b) rest e)
 
 -- ---- steps
 
@@ -88,37 +112,6 @@ module _ (i n : ℕ) (x : Instruction) where
 
 -- ---- registers
 
--- no opcode is in two rows
-apart : (o : ℕ) → o < 256 → (not (three-seen o) || not (two-seen o || (none-seen o || (eqb o 20 || eqb o 19)))) ≡ true
-unfolding all-to
-apart o h = all-below (λ (o : ℕ). not (three-seen o) || not (two-seen o || (none-seen o || (eqb o 20 || eqb o 19)))) 256 o refl h
-
-apart-two : (o : ℕ) → o < 256 → (not (two-seen o) || not (none-seen o || (eqb o 20 || eqb o 19))) ≡ true
-unfolding all-to
-apart-two o h = all-below (λ (o : ℕ). not (two-seen o) || not (none-seen o || (eqb o 20 || eqb o 19))) 256 o refl h
-
--- the rows, by the tests
-abbrev threes : List ℕ
-threes = Add ∷ Sub ∷ Div ∷ Mod ∷ Mul ∷ Pow ∷ Lt ∷ Gt ∷ Lte ∷ Gte ∷ Eq ∷ Neq ∷ Class ∷ ClassMeth ∷ ClassStMeth ∷ GetIter ∷ GetIterk ∷ []
-
-abbrev twos : List ℕ
-twos = Move ∷ Test ∷ Not ∷ Neg ∷ Addi ∷ GetIteri ∷ Length ∷ []
-
-abbrev nones : List ℕ
-nones = Jmp ∷ RegisterTryCatch ∷ DeregisterTryCatch ∷ []
-
-three-is : (o : ℕ) → o < 256 → among o threes ≡ three-seen o
-unfolding same all-to
-three-is o h = same-is _ _ (all-below (λ (o : ℕ). same (among o threes) (three-seen o)) 256 o refl h)
-
-two-is : (o : ℕ) → o < 256 → among o twos ≡ two-seen o
-unfolding same all-to
-two-is o h = same-is _ _ (all-below (λ (o : ℕ). same (among o twos) (two-seen o)) 256 o refl h)
-
-none-is : (o : ℕ) → o < 256 → among o nones ≡ none-seen o
-unfolding same all-to
-none-is o h = same-is _ _ (all-below (λ (o : ℕ). same (among o nones) (none-seen o)) 256 o refl h)
-
 all-from : (n r k : ℕ) → r ≤ n → all (λ (m : ℕ). ltb m n) (from r k) ≡ leb (r + k) n
 unfolding all
 all-from n r zero h = sym (le-leb (r + 0) n (omega arith))
@@ -146,53 +139,39 @@ call-is a b c n h = all-append (λ (m : ℕ). ltb m n) (from (a + 1) (b - 1)) ((
     (all-from n (a + 1) (b - 1) (omega arith) ∙ both (leb (a + 1 + (b - 1)) n) (leb (a + b) n) (λ e. le-leb (a + b) n (omega (arith, leb-true (a + 1 + (b - 1)) n e))) (λ e. le-leb (a + 1 + (b - 1)) n (omega (arith, leb-true (a + b) n e))))
     (and-true _ ∙ both (ltb (c - 1) n) (leb c n) (λ e. le-leb c n (omega (arith, ltb-true (c - 1) n e))) (λ e. lt-ltb (c - 1) n (omega (arith, leb-true c n e))))
 
-module _ (x : Instruction) (n : ℕ) (small : x .opcode < 256) where
+module _ (x : Instruction) (n : ℕ) where
   abbrev below : List ℕ → Bool
   below l = all (λ (m : ℕ). ltb m n) l
 
-  abbrev rest-met : Bool → Bool → List ℕ
-  rest-met r k = cond (r || false) (cond (eqb (x .b) 0) [] (x .a ∷ [])) (cond (k || false) (x .a ∷ (from (x .a + 1) (x .b - 1) ++ (x .c - 1) ∷ [])) (x .a ∷ []))
+  -- registers met, by the tests of a row's form
+  abbrev by-form : (none two three return call : Bool) → Bool
+  by-form none two three return call =
+      none || ((return && eqb (x .b) 0)
+      || (ltb (x .a) n && ((not (two || three) || ltb (x .b) n) && ((not three || ltb (x .c) n) && (not call || (leb (x .a + x .b) n && leb (x .c) n))))))
 
-  rest-is : (r k : Bool) → (r && k) ≡ false → below (rest-met r k) ≡ ((r && eqb (x .b) 0) || (ltb (x .a) n && (not k || (leb (x .a + x .b) n && leb (x .c) n))))
+  form-is : (m : Meets) → below (met-by m x) ≡ by-form (eqb (form m) 0) (eqb (form m) 2) (eqb (form m) 3) (eqb (form m) 4) (eqb (form m) 5)
   unfolding all
-  rest-is true true e = absurd (false-true (sym e))
-  rest-is true false e = zero-b (eqb (x .b) 0)
+  form-is of-none = refl
+  form-is of-a = refl
+  form-is of-ab = refl
+  form-is of-abc = refl
+  form-is of-return = go (eqb (x .b) 0)
     where
-      zero-b : (b : Bool) → below (cond b [] (x .a ∷ [])) ≡ (b || (ltb (x .a) n && true))
-      zero-b true = refl
-      zero-b false = refl
-  rest-is false true e = ⊎-elim
+      go : (b : Bool) → below (cond b [] (x .a ∷ [])) ≡ (b || (ltb (x .a) n && true))
+      go true = refl
+      go false = refl
+  form-is of-call = ⊎-elim
       (λ (h : x .a < n). rw (lt-ltb (x .a) n h) (call-is (x .a) (x .b) (x .c) n h))
       (λ (h : n ≤ x .a). rw (le-ltb (x .a) n h) refl)
       (lt-or-le (x .a) n)
-  rest-is false false e = refl
 
-  pub registers-is : below (met x) ≡ registers-seen (x .opcode) (x .a) (x .b) (x .c) n
-  unfolding all
-  registers-is =
-      rw (three-is (x .opcode) small, two-is (x .opcode) small, none-is (x .opcode) small)
-      (go (three-seen (x .opcode)) (two-seen (x .opcode)) (none-seen (x .opcode)) (eqb (x .opcode) 20) refl (eqb (x .opcode) 19) refl (apart (x .opcode) small) (apart-two (x .opcode) small))
-    where
-      go : (t w z r : Bool) → eqb (x .opcode) 20 ≡ r → (k : Bool) → eqb (x .opcode) 19 ≡ k
-          → (not t || not (w || (z || (r || k)))) ≡ true → (not w || not (z || (r || k))) ≡ true
-          → below (cond t (x .a ∷ x .b ∷ x .c ∷ []) (cond w (x .a ∷ x .b ∷ []) (cond z [] (rest-met r k))))
-          ≡ (z || ((r && eqb (x .b) 0) || (ltb (x .a) n && ((not (t || w) || ltb (x .b) n) && ((not t || ltb (x .c) n) && (not k || (leb (x .a + x .b) n && leb (x .c) n)))))))
-      go true false false false p false q e f = refl
-      go true true z r p k q e f = absurd (false-true e)
-      go true false true r p k q e f = absurd (false-true e)
-      go true false false true p k q e f = absurd (false-true e)
-      go true false false false p true q e f = absurd (false-true e)
-      go false true false false p false q e f = refl
-      go false true true r p k q e f = absurd (false-true f)
-      go false true false true p k q e f = absurd (false-true f)
-      go false true false false p true q e f = absurd (false-true f)
-      go false false true r p k q e f = refl
-      go false false false r p k q e f = rest-is r k (excl r p k q)
-        where
-          excl : (r : Bool) → eqb (x .opcode) 20 ≡ r → (k : Bool) → eqb (x .opcode) 19 ≡ k → (r && k) ≡ false
-          excl true p true q = absurd (let e = eqb-true (x .opcode) 20 p in let f = eqb-true (x .opcode) 19 q in omega arith)
-          excl true p false q = refl
-          excl false p k q = refl
+  pub registers-is : x .opcode < 256 → below (met x) ≡ registers-seen (kind-seen (x .opcode)) (x .opcode) (x .a) (x .b) (x .c) n
+  registers-is small =
+      let none = split _ _ _ (split _ _ _ (agreed (x .opcode) small) .1) in
+      let two = split _ _ _ (none .1) in
+      let three = split _ _ _ (two .1) in
+      let last = split _ _ _ (three .1) in
+      form-is (meets (x .opcode)) ∙ rw (none .0, two .0, three .0, last .0, same-is _ _ (last .1)) refl
 
 -- ---- captures
 
@@ -247,14 +226,14 @@ module _ (ks : List Constant) (earlier : List Proto) (p : Proto) (i : ℕ) (x : 
       go false false false = refl
 
   pub lawful-is : lawful ks earlier p i x
-      ≡ (written-seen (x .opcode)
+      ≡ (ltb (kind-seen (x .opcode)) 4
       && (steps-seen (x .opcode) (bx x) i (length (p .code))
-      && ((registers-seen (x .opcode) (x .a) (x .b) (x .c) (p .registers) || let-pass p i x)
+      && ((registers-seen (kind-seen (x .opcode)) (x .opcode) (x .a) (x .b) (x .c) (p .registers) || let-pass p i x)
       && operands-seen (x .opcode) (x .a) (x .b) (x .c) (bx x) (length (p .captures)) made named (length ks))))
   unfolding lawful
   lawful-is =
-      simp (written-is (x .opcode) small, steps-is i (length (p .code)) x, registers-is x (p .registers) small, if-is Jmp (eqb (x .a) 0), if-is Call (ltb 0 (x .b) && ltb 0 (x .c)), if-is GetUpval (ltb (x .b) (length (p .captures))), if-is Closure made, if-is LoadK (ltb (bx x) (length ks)), name-is)
-      (ap (λ (b : Bool). written-seen (x .opcode) && (steps-seen (x .opcode) (bx x) i (length (p .code)) && b)) (swap (not (eqb (x .opcode) Jmp) || eqb (x .a) 0) (registers-seen (x .opcode) (x .a) (x .b) (x .c) (p .registers) || let-pass p i x) _))
+      simp (split _ _ _ (agreed (x .opcode) small) .0, steps-is i (length (p .code)) x, registers-is x (p .registers) small, if-is Jmp (eqb (x .a) 0), if-is Call (ltb 0 (x .b) && ltb 0 (x .c)), if-is GetUpval (ltb (x .b) (length (p .captures))), if-is Closure made, if-is LoadK (ltb (bx x) (length ks)), name-is)
+      (ap (λ (b : Bool). ltb (kind-seen (x .opcode)) 4 && (steps-seen (x .opcode) (bx x) i (length (p .code)) && b)) (swap (not (eqb (x .opcode) Jmp) || eqb (x .a) 0) (registers-seen (kind-seen (x .opcode)) (x .opcode) (x .a) (x .b) (x .c) (p .registers) || let-pass p i x) _))
     where
       swap : (x y z : Bool) → x && (y && z) ≡ y && (x && z)
       swap true y z = refl

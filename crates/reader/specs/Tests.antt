@@ -5,14 +5,36 @@ use mathlib.Core.Bool.{Bool, not, _&&_, _||_, cond}
 use lib.Dec.{eqb, leb, ltb}
 use lib.ListN.{getD}
 use mathlib.Core.List.{List, [], _∷_}
-use Rattle.meaning.specs.State.{Capture}
+use Rattle.meaning.specs.State.{Capture, among}
 use Rattle.reader.specs.declared.facts.Around.{Around}
-use Rattle.meaning.specs.Opcode.{bx}
+use Rattle.meaning.specs.Opcode.{Meets, of-none, of-a, of-ab, of-abc, of-return, of-call, meets, opcodes-written, bx, Jmp, LoadK, Call, GetUpval, Closure, RegisterTryCatch}
+use Rattle.meaning.specs.Safety.{name-due}
 use Rattle.meaning.specs.declared.Instruction.{Instruction}
 
--- the opcode is one that this lowering writes
-abbrev pub written-seen : ℕ → Bool
-written-seen o = leb o 20 || (eqb o 22 || (eqb o 23 || ((leb 31 o && leb o 33) || (eqb o 36 || ((leb 38 o && leb o 41) || (leb 44 o && leb o 50))))))
+-- ---- the kind of an opcode, by its row in the table of meaning/specs/Opcode
+
+-- the opcodes whose facts ask more than registers and the next two instructions
+abbrev pub asking : List ℕ
+asking = Jmp ∷ LoadK ∷ Call ∷ GetUpval ∷ Closure ∷ RegisterTryCatch ∷ name-due
+
+-- of the others, which registers are enough: a (0), a and b (1), a, b and c (2)
+abbrev pub enough : Meets → ℕ
+enough of-none = 0
+enough of-a = 0
+enough of-ab = 1
+enough of-abc = 2
+enough of-return = 0
+enough of-call = 0
+
+-- that, or 3 where more is asked, or 4 where the opcode is not written
+unfoldable pub kind-seen : ℕ → ℕ
+kind-seen o = cond (among o opcodes-written) (cond (among o asking) 3 (enough (meets o))) 4
+
+-- a table of the kinds
+pub record Kinds (m : List ℕ) : Type 0 where
+  pub each : (o : ℕ) → o < 51 → getD m o 0 ≡ kind-seen o
+
+-- ---- the facts, by the kind
 
 -- no step of an instruction at index i, with w in b and c, leads out of n instructions
 abbrev pub steps-seen : (o w i n : ℕ) → Bool
@@ -24,21 +46,15 @@ steps-seen o w i n =
 abbrev pub replaced-seen : (o a w i n : ℕ) → Bool
 replaced-seen o a w i n = eqb o 3 && ((eqb a 1 || eqb a 2) || not (steps-seen o w i n))
 
--- the rows of "Registers met": a, b and c; a and b; none
-abbrev pub three-seen : ℕ → Bool
-three-seen o = (leb 5 o && leb o 16) || ((leb 31 o && leb o 33) || (eqb o 38 || eqb o 39))
-
-abbrev pub two-seen : ℕ → Bool
-two-seen o = eqb o 0 || (eqb o 4 || (eqb o 17 || (eqb o 18 || (eqb o 36 || (eqb o 40 || eqb o 41)))))
-
+-- "none of Jmp and both TryCatch opcodes"
 abbrev pub none-seen : ℕ → Bool
 none-seen o = eqb o 3 || (eqb o 48 || eqb o 49)
 
 -- every register met is below n; of a Call the last argument's is a + b - 1
-abbrev pub registers-seen : (o a b c n : ℕ) → Bool
-registers-seen o a b c n =
+abbrev pub registers-seen : (kind o a b c n : ℕ) → Bool
+registers-seen k o a b c n =
     none-seen o || ((eqb o 20 && eqb b 0)
-    || (ltb a n && ((not (three-seen o || two-seen o) || ltb b n) && ((not (three-seen o) || ltb c n) && (not (eqb o 19) || (leb (a + b) n && leb c n))))))
+    || (ltb a n && ((not (eqb k 1 || eqb k 2) || ltb b n) && ((not (eqb k 2) || ltb c n) && (not (eqb o 19) || (leb (a + b) n && leb c n))))))
 
 -- what an opcode asks of its operands: a of Jmp; b and c of Call; of GetUpval b among the captures; of Closure the prototype and what its captures need; of LoadK and of a name a constant
 abbrev pub operands-seen : (o a b c w captures : ℕ) → (closure text : Bool) → (constants : ℕ) → Bool
@@ -60,13 +76,16 @@ closure-seen v locals outers w = ltb w (v .prototypes) && (leb (getD locals w 0)
 abbrev pub text-seen : (around : Around) → (texts : List ℕ) → (w : ℕ) → Bool
 text-seen v texts w = ltb w (v .constants) && eqb (getD texts w 0) 1
 
--- of an instruction at index i of n; `entered` says whether a step enters it
-abbrev pub lawful-seen : (around : Around) → (i n o a b c w : ℕ) → (closure text entered : Bool) → Bool
-lawful-seen v i n o a b c w closure text entered =
-    written-seen o
+-- of an instruction at index i of n, whose opcode is of this kind; `entered` says whether a step enters it
+abbrev pub lawful-by : (kind : ℕ) → (around : Around) → (i n o a b c w : ℕ) → (closure text entered : Bool) → Bool
+lawful-by k v i n o a b c w closure text entered =
+    ltb k 4
     && (steps-seen o w i n
-    && ((registers-seen o a b c (v .registers) || ((eqb o 20 && eqb a 0) && (eqb (v .registers) 0 && (ltb 0 i && not entered))))
+    && ((registers-seen k o a b c (v .registers) || ((eqb o 20 && eqb a 0) && (eqb (v .registers) 0 && (ltb 0 i && not entered))))
     && operands-seen o a b c w (v .captures) closure text (v .constants)))
+
+abbrev pub lawful-seen : (around : Around) → (i n o a b c w : ℕ) → (closure text entered : Bool) → Bool
+lawful-seen v i n o a b c w closure text entered = lawful-by (kind-seen o) v i n o a b c w closure text entered
 
 -- the same of an instruction, by the tables
 unfoldable pub seen-test : (around : Around) → (locals outers texts marks : List ℕ) → (n i : ℕ) → Instruction → Bool
@@ -75,17 +94,9 @@ seen-test v locals outers texts marks n i x =
 
 -- ---- at once
 
--- what is enough for an opcode's facts, with two more instructions behind it: that a is a register (0), a and b (1), a, b and c (2); 3 where it is not
-abbrev pub kind-seen : ℕ → ℕ
-kind-seen o = cond (three-seen o) 2 (cond (two-seen o) 1 (cond (eqb o 2 || (eqb o 20 || (eqb o 46 || (eqb o 49 || eqb o 50)))) 0 3))
-
--- it is so
+-- what is enough, with two more instructions behind it
 abbrev pub plain-seen : (kind i n a b c registers : ℕ) → Bool
 plain-seen k i n a b c r = ltb (i + 2) n && (ltb a r && ((eqb k 0 || ltb b r) && (leb k 1 || ltb c r)))
-
--- a table of the kinds
-pub record Kinds (m : List ℕ) : Type 0 where
-  pub each : (o : ℕ) → o < 51 → getD m o 0 ≡ kind-seen o
 
 -- ---- what captures need
 

@@ -1,6 +1,5 @@
 // The facts of an instruction (specs/Rules), as tests of numbers (specs/Tests).
 use fields::wide;
-use meaning::Instruction;
 ghost use mathlib.Core.Path.{_≡_};
 ghost use mathlib.Core.Bool.{Bool, true, _&&_, _||_};
 ghost use Prim.Native.Nat.{ℕ, max, _+_, _*_, _<_, _≤_};
@@ -8,28 +7,9 @@ ghost use lib.ListN.{length, getD};
 ghost use lib.Dec.{eqb};
 ghost use Rattle.meaning.specs.Base.{lowest};
 ghost use Rattle.meaning.specs.Steps.{inst-at};
-ghost use Rattle.meaning.specs.Opcode.{bx};
 ghost use Rattle.reader.specs.Laid.{code-in, captures-in};
 ghost use Rattle.reader.specs.Lens.{lens-code};
-ghost use Rattle.reader.specs.Tests.{written-seen, steps-seen, replaced-seen, registers-seen, operands-seen, closure-seen, text-seen, lawful-seen, seen-test, kind-seen, plain-seen, Kinds, local-need, outer-need};
-
-// The number that b and c hold.
-fn bx(x: Instruction) -> usize
-    ensures { λ r. ⌜ (r ≡ bx x) × (r < 65536) ⌝ }
-{
-    wide(x.b) * 256 + wide(x.c)
-}
-
-// The opcode is one that this lowering writes.
-fn is_written(o: u8) -> bool
-    ensures { λ r. ⌜ r ≡ written-seen o ⌝ }
-{
-    (o <= 20)
-        | ((o == 22)
-            | ((o == 23)
-                | (((31 <= o) & (o <= 33))
-                    | ((o == 36) | (((38 <= o) & (o <= 41)) | ((44 <= o) & (o <= 50)))))))
-}
+ghost use Rattle.reader.specs.Tests.{steps-seen, replaced-seen, registers-seen, operands-seen, closure-seen, text-seen, lawful-by, lawful-seen, seen-test, kind-seen, plain-seen, Kinds, local-need, outer-need};
 
 // No step of an instruction at index i, with w in b and c, leads out of n instructions.
 fn stays(o: u8, w: usize, i: usize, n: usize) -> bool
@@ -51,20 +31,17 @@ pub fn is_replaced(o: u8, a: usize, w: usize, i: usize, n: usize) -> bool
     (o == 3) & (((a == 1) | (a == 2)) | !stays(o, w, i, n))
 }
 
-// Every register met is below n.
-fn meets(o: u8, a: usize, b: usize, c: usize, n: usize) -> bool
+// Every register met is below n; of an opcode whose kind is 1 these are a and b, of one whose kind is 2 a, b and c.
+fn meets(kind: u8, o: u8, a: usize, b: usize, c: usize, n: usize) -> bool
     requires { ⌜ (a < 256) × (b < 256) ⌝ }
-    ensures { λ r. ⌜ r ≡ registers-seen o a b c n ⌝ }
+    ensures { λ r. ⌜ r ≡ registers-seen kind o a b c n ⌝ }
 {
-    let three = ((5 <= o) & (o <= 16)) | (((31 <= o) & (o <= 33)) | ((o == 38) | (o == 39)));
-    let two = (o == 0)
-        | ((o == 4) | ((o == 17) | ((o == 18) | ((o == 36) | ((o == 40) | (o == 41))))));
     let none = (o == 3) | ((o == 48) | (o == 49));
     none
         | (((o == 20) & (b == 0))
             | ((a < n)
-                & ((!(three | two) | (b < n))
-                    & ((!three | (c < n)) & (!(o == 19) | ((a + b <= n) & (c <= n)))))))
+                & ((!((kind == 1) | (kind == 2)) | (b < n))
+                    & ((!(kind == 2) | (c < n)) & (!(o == 19) | ((a + b <= n) & (c <= n)))))))
 }
 
 // What the opcode asks of its operands.
@@ -126,11 +103,12 @@ fn names(v: Around, texts: &[u8; 1024], w: usize) -> bool
     false
 }
 
-// The facts of an instruction at index i of n.
+// The facts of an instruction at index i of n, by the kind of its opcode.
 fn is_lawful(
     v: Around,
     i: usize,
     n: usize,
+    kind: u8,
     o: u8,
     a: usize,
     b: usize,
@@ -141,12 +119,12 @@ fn is_lawful(
     entered: bool,
 ) -> bool
     requires { ⌜ (w < 65536) × (i < 65536) × (n < 65536) × (a < 256) × (b < 256) ⌝ }
-    ensures { λ r. ⌜ r ≡ lawful-seen v i n o a b c w closure text entered ⌝ }
+    ensures { λ r. ⌜ r ≡ lawful-by kind v i n o a b c w closure text entered ⌝ }
 {
     let pass = ((o == 20) & (a == 0)) & ((v.registers == 0) & ((0 < i) & !entered));
-    is_written(o)
+    (kind < 4)
         & (stays(o, w, i, n)
-            & ((meets(o, a, b, c, v.registers) | pass)
+            & ((meets(kind, o, a, b, c, v.registers) | pass)
                 & operates(o, a, b, c, w, v.captures, closure, text, v.constants)))
 }
 
@@ -155,6 +133,7 @@ fn passes(
     v: Around,
     i: usize,
     n: usize,
+    kind: u8,
     o: u8,
     a: usize,
     b: usize,
@@ -166,16 +145,16 @@ fn passes(
     mend: bool,
 ) -> bool
     requires { ⌜ (w < 65536) × (i < 65536) × (n < 65536) × (a < 256) × (b < 256) ⌝ }
-    ensures { λ r. ⌜ r ≡ (lawful-seen v i n o a b c w closure text entered || (mend && replaced-seen o a w i n)) ⌝ }
+    ensures { λ r. ⌜ r ≡ (lawful-by kind v i n o a b c w closure text entered || (mend && replaced-seen o a w i n)) ⌝ }
 {
-    if is_lawful(v, i, n, o, a, b, c, w, closure, text, entered) {
+    if is_lawful(v, i, n, kind, o, a, b, c, w, closure, text, entered) {
         return true;
     }
     mend & is_replaced(o, a, w, i, n)
 }
 
-// What is enough for an opcode's facts, with two more instructions behind it: that a is a register (0), a and b (1), a, b and c (2);
-// 3 where something else is asked, or where the opcode is not written.
+// The table of meaning/specs/Opcode as the facts ask it, one kind for each opcode. With two more instructions behind it, it is enough that
+// a is a register (0), a and b (1), a, b and c (2); 3 where something else is asked; 4 where the opcode is not written.
 pub(crate) const KINDS: [u8; 51] = [
     // 0: Move
     1,
@@ -208,29 +187,29 @@ pub(crate) const KINDS: [u8; 51] = [
     // 20: Return
     0,
     // 21: not written
-    3,
+    4,
     // 22: GetUpval, Closure
     3,
     3,
     // 24: not written
-    3,
-    3,
-    3,
-    3,
-    3,
-    3,
-    3,
+    4,
+    4,
+    4,
+    4,
+    4,
+    4,
+    4,
     // 31: Class, ClassMeth, ClassStMeth
     2,
     2,
     2,
     // 34: not written
-    3,
-    3,
+    4,
+    4,
     // 36: Addi
     1,
     // 37: not written
-    3,
+    4,
     // 38: GetIter, GetIterk
     2,
     2,
@@ -238,8 +217,8 @@ pub(crate) const KINDS: [u8; 51] = [
     1,
     1,
     // 42: not written
-    3,
-    3,
+    4,
+    4,
     // 44: GetGlobal, SetGlobal
     3,
     3,
@@ -263,7 +242,7 @@ fn kind_of(kinds: &[u8; 51], o: u8) -> u8
     if o < 51 {
         return kinds[wide(o)];
     }
-    3
+    4
 }
 
 // What is enough for the facts of an opcode of a kind below 3.
@@ -292,21 +271,21 @@ fn is_quick(
     ensures { λ r. ⌜ (r ≡ true → (closure entered : Bool) → lawful-seen v i n o a b c w closure (text-seen v (now (texts .entry)) w) entered ≡ true) ⌝ }
 {
     if o == 3 {
-        return is_lawful(v, i, n, 3, a, b, c, w, false, false, false);
+        return is_lawful(v, i, n, 3, 3, a, b, c, w, false, false, false);
     }
     let kind = kind_of(kinds, o);
     if kind < 3 {
         return is_plain(kind, i, n, a, b, c, v.registers);
     }
     if o == 19 {
-        return is_lawful(v, i, n, 19, a, b, c, w, false, false, false);
+        return is_lawful(v, i, n, 3, 19, a, b, c, w, false, false, false);
     }
     if o == 1 {
-        return is_lawful(v, i, n, 1, a, b, c, w, false, false, false);
+        return is_lawful(v, i, n, 3, 1, a, b, c, w, false, false, false);
     }
     if (o == 44) | ((o == 45) | (o == 47)) {
         let text = names(v, texts, w);
-        return is_lawful(v, i, n, 44, a, b, c, w, false, text, false);
+        return is_lawful(v, i, n, 3, 44, a, b, c, w, false, text, false);
     }
     false
 }
@@ -337,7 +316,22 @@ fn has_facts(
     }
     let closure = makes(v, locals, outers, w);
     let text = names(v, texts, w);
-    passes(v, i, n, o, a, b, c, w, closure, text, marks[i] == 1, mend)
+    let kind = kind_of(kinds, o);
+    passes(
+        v,
+        i,
+        n,
+        kind,
+        o,
+        a,
+        b,
+        c,
+        w,
+        closure,
+        text,
+        marks[i] == 1,
+        mend,
+    )
 }
 
 // The lowest of n instructions whose facts fail as they are seen, or n. They lie from `at` on, each in `span` bytes.

@@ -2,7 +2,7 @@
 use differential::mends::Mend;
 use differential::run::{run, Plan, Report};
 use files::image::{Image, Instruction};
-use files::listing::opcode;
+use files::opcodes::opcode;
 use oracle::mending::{mend, Mended};
 use oracle::reading::numbers;
 use standin::yengrazul_mend;

@@ -2,10 +2,10 @@
 use differential::calls::{Lower, Read};
 use differential::run::{run, Plan, Report};
 use files::image::{Image, Instruction, Prototype};
-use files::listing::opcode;
+use files::opcodes::{is_written, opcode};
 use files::tree::{fields, Field};
 use oracle::images::build::{bare, end, ins, texts};
-use oracle::reading::{is_written, numbers};
+use oracle::reading::numbers;
 use standin::{yengrazul_lower, yengrazul_read};
 use std::slice::{from_raw_parts, from_raw_parts_mut};
 

@@ -1,7 +1,7 @@
 //! Strikes: a walker of a few lines, which the runner finds nothing wrong with, and which is found with each of these twists.
 use differential::run::{run, Plan, Report};
 use differential::walks::Walk;
-use files::listing::opcode;
+use files::opcodes::opcode;
 use oracle::reading::read;
 use oracle::walking::{Run, Walked};
 use std::slice::{from_raw_parts, from_raw_parts_mut};

@@ -2,7 +2,7 @@
 use differential::run::{run, Plan, Report};
 use differential::walks::Walk;
 use files::image::Image;
-use files::listing::opcode;
+use files::opcodes::opcode;
 use oracle::images::build::wide;
 use oracle::reading::read;
 use oracle::walking::{walk, Run, Walked};

@@ -1,71 +1,11 @@
 //! An image for people: one line for each prototype, capture, instruction and constant.
 use crate::image::{Constant, Image, Instruction};
+use crate::opcodes::name;
 use crate::NONE;
-
-/// The opcodes in the order of `OpCode`.
-pub const OPCODES: [&str; 51] = [
-    "Move",
-    "LoadK",
-    "LoadNil",
-    "Jmp",
-    "Test",
-    "Add",
-    "Sub",
-    "Div",
-    "Mod",
-    "Mul",
-    "Pow",
-    "Lt",
-    "Gt",
-    "Lte",
-    "Gte",
-    "Eq",
-    "Neq",
-    "Not",
-    "Neg",
-    "Call",
-    "Return",
-    "SetUpval",
-    "GetUpval",
-    "Closure",
-    "List",
-    "PushList",
-    "Dict",
-    "PushDict",
-    "Slice",
-    "Access",
-    "Set",
-    "Class",
-    "ClassMeth",
-    "ClassStMeth",
-    "GetObj",
-    "SetObj",
-    "Addi",
-    "Subi",
-    "GetIter",
-    "GetIterk",
-    "GetIteri",
-    "Length",
-    "Super",
-    "This",
-    "GetGlobal",
-    "SetGlobal",
-    "GetCurrentFunc",
-    "GetBuiltin",
-    "RegisterTryCatch",
-    "DeregisterTryCatch",
-    "GetExcept",
-];
-
-/// The number of an opcode by its name.
-pub fn opcode(name: &str) -> u8 {
-    OPCODES.iter().position(|o| *o == name).expect("an opcode") as u8
-}
 
 /// `LoadK 0 0 1`: an instruction without its mark, as 01 lists them.
 pub fn line(i: &Instruction) -> String {
-    let name = OPCODES.get(usize::from(i.opcode)).unwrap_or(&"?");
-    format!("{name} {} {} {}", i.a, i.b, i.c)
+    format!("{} {} {} {}", name(i.opcode).unwrap_or("?"), i.a, i.b, i.c)
 }
 
 pub fn listing(image: &Image) -> String {

@@ -1,7 +1,7 @@
 //! The traced copy against the source, unchanged or as mode 1 has it: the same image, or the panic that the refusal stands for.
 use crate::judge;
 use files::image::Image;
-use files::listing::opcode;
+use files::opcodes::opcode;
 use files::tree::{is_wide, Field};
 
 /// What the unchanged source does in a process of its own.

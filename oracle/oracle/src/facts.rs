@@ -1,7 +1,8 @@
 //! Demand 3 in plain Rust: what holds at every instruction of an accepted image, reached or not; and 01's two rules on how
 //! each prototype ends.
 use files::image::{Capture, Constant, Image, Instruction, Prototype};
-use files::listing::{line, OPCODES};
+use files::listing::line;
+use files::opcodes::{self, Meets};
 
 /// 17: how many instructions a prototype may have, its last Return counted.
 const LONGEST: usize = 32_767;
@@ -39,7 +40,7 @@ fn check_prototype(image: &Image, k: usize) -> Result<(), String> {
 }
 
 fn name(i: &Instruction) -> &'static str {
-    OPCODES.get(usize::from(i.opcode)).copied().unwrap_or("?")
+    opcodes::name(i.opcode).unwrap_or("?")
 }
 
 /// A prototype with what its instructions may name.
@@ -120,20 +121,14 @@ pub fn targets(at: usize, i: &Instruction) -> Vec<isize> {
 /// 01, "Registers met".
 fn registers_met(i: &Instruction) -> Vec<usize> {
     let (a, b, c) = (usize::from(i.a), usize::from(i.b), usize::from(i.c));
-    match name(i) {
-        "Add" | "Sub" | "Div" | "Mod" | "Mul" | "Pow" | "Lt" | "Gt" | "Lte" | "Gte" | "Eq" | "Neq" => vec![a, b, c],
-        "Class" | "ClassMeth" | "ClassStMeth" | "GetIter" | "GetIterk" => vec![a, b, c],
-        "Move" | "Test" | "Not" | "Neg" | "Addi" | "GetIteri" | "Length" => vec![a, b],
-        "Jmp" | "RegisterTryCatch" | "DeregisterTryCatch" => vec![],
-        "Return" => {
-            if b == 0 {
-                vec![]
-            } else {
-                vec![a]
-            }
-        }
+    match opcodes::meets(i.opcode) {
+        Meets::None => vec![],
+        Meets::A => vec![a],
+        Meets::Ab => vec![a, b],
+        Meets::Abc => vec![a, b, c],
+        Meets::Return if b == 0 => vec![],
+        Meets::Return => vec![a],
         // the function, its b - 1 arguments behind it, and the result before c
-        "Call" => (a..a + b).chain([c.wrapping_sub(1)]).collect(),
-        _ => vec![a],
+        Meets::Call => (a..a + b).chain([c.wrapping_sub(1)]).collect(),
     }
 }

@@ -1,5 +1,6 @@
 //! The command line; README.md says what each word does.
 use files::image::Image;
+use files::opcodes;
 use oracle::questions::Question;
 use oracle::{answer, compare, export, facts, judge, packed, questions, sample};
 use std::io::{Read, Write};
@@ -24,6 +25,7 @@ fn run(words: &[&str]) -> Done {
         ["answer", "--mode", mode, tree, work, room, image @ ..] => tell(mode, tree, work, room, image),
         ["answer", tree, work, room, image @ ..] => tell("0", tree, work, room, image),
         ["show", image] => show(&load(image)?),
+        ["opcodes"] => print(&opcodes::lines()),
         ["rust", tree] => rust(&load(tree)?),
         ["rust", tree, image] => rust_image(&load(tree)?, image),
         ["generate", kind, rest @ ..] => generate(kind, &Options::read(rest)?),
@@ -33,7 +35,7 @@ fn run(words: &[&str]) -> Done {
             let lines = export::lines(o.seed, o.count, o.mode.unwrap_or(0), !o.without_many);
             lines.iter().try_for_each(|l| print(&format!("{l}\n")))
         }
-        _ => Err("answer, show, rust, generate, sample or export; see oracle/README.md".into()),
+        _ => Err("answer, show, opcodes, rust, generate, sample or export; see oracle/README.md".into()),
     }
 }
 

@@ -2,7 +2,7 @@
 use crate::images::build::end;
 use crate::reading;
 use files::image::{Image, Instruction};
-use files::listing::opcode;
+use files::opcodes::opcode;
 
 /// What a call leaves: the answer's four numbers, every byte of the output and of the list.
 #[derive(Clone, Debug, PartialEq)]

@@ -1,6 +1,6 @@
 //! What both modes share of a tree without classes, as long as they differ in where continue goes alone: number, place, length, and every
 //! other byte of the image.
-use files::listing::opcode;
+use files::opcodes::opcode;
 use files::tree::{fields, whole_fields, Field};
 
 /// The tag of a continue, whose payload is its mark.

@@ -3,17 +3,11 @@
 use crate::facts::{targets, Here};
 use crate::judge::Refusal;
 use files::image::{mark, Capture, Constant, Image, Instruction, Prototype};
-use files::listing::opcode;
+use files::opcodes::{is_written, opcode};
 use files::tree::{fields, Field};
 
 const MOST_PROTOTYPES: usize = 256;
 const MOST_CONSTANTS: usize = 1024;
-
-/// The 38 opcodes that the lowering writes: all but SetUpval, those of lists, dictionaries, objects, Super and
-/// This, and Subi, which no routine of the source pushes.
-pub fn is_written(opcode: u8) -> bool {
-    matches!(opcode, 0..=20 | 22 | 23 | 31..=33 | 36 | 38..=41 | 44..=50)
-}
 
 /// The image, where it is taken.
 pub fn read(bytes: &[u8]) -> Result<Image, Refusal> {

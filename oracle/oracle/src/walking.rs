@@ -3,7 +3,7 @@
 use crate::facts::targets;
 use crate::reading::read;
 use files::image::{Instruction, Prototype};
-use files::listing::opcode;
+use files::opcodes::opcode;
 
 /// What a walk is asked for, but for the image and the lent bytes.
 #[derive(Clone, Debug, PartialEq)]

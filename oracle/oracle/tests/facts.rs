@@ -1,6 +1,6 @@
 //! The checker of demand 3: takes what the lowering writes, and refuses images broken by hand.
 use files::image::{Capture, Constant, Image, Instruction, Prototype};
-use files::listing::opcode;
+use files::opcodes::opcode;
 use oracle::facts::{check, check_bytes};
 use oracle::limits::{ask, cases, zoo, Room, Work};
 use oracle::questions;

@@ -1,6 +1,6 @@
 //! What the generator reaches: every tag, op, opcode and refusal, and orders other than post order.
 use files::image::Image;
-use files::listing::OPCODES;
+use files::opcodes::is_written;
 use files::tree::{fields, Field};
 use files::NONE;
 use oracle::limits::{ask, heavy_cases, Room, Work};
@@ -8,12 +8,6 @@ use oracle::rng::Rng;
 use oracle::trees::order::post;
 use oracle::trees::script::script;
 use oracle::{compare, questions};
-
-/// What the lowering of 01's nodes never writes.
-const UNWRITTEN: [&str; 13] = [
-    "SetUpval", "List", "PushList", "Dict", "PushDict", "Slice", "Access", "Set", "GetObj", "SetObj", "Subi", "Super",
-    "This",
-];
 
 struct Seen {
     numbers: [u64; 19],
@@ -66,8 +60,8 @@ fn random_trees_reach_everything() {
     let numbers = seen.numbers;
     assert!(numbers[0] > count * 8 / 10, "{numbers:?}");
     assert!(numbers[5..].iter().all(|n| *n > 0), "{numbers:?}");
-    for (opcode, name) in OPCODES.iter().enumerate() {
-        assert_eq!(seen.opcodes[opcode] > 0, !UNWRITTEN.contains(name), "{name}");
+    for (opcode, times) in seen.opcodes.iter().enumerate() {
+        assert_eq!(*times > 0, is_written(opcode as u8), "{opcode}");
     }
     assert!((1..=9).chain(0x10..=0x1E).all(|tag| seen.tags[tag] > 0), "{:?}", seen.tags);
     for (ops, most) in seen.ops.iter().zip([2, 12, 2]) {

@@ -1,8 +1,9 @@
 //! The second reader against numbers and places that were written down by hand, and what the kinds of images reach.
 use files::image::Image;
+use files::opcodes::is_written;
 use oracle::images::build::Edge;
 use oracle::images::{by_hand, edits, fixed, random};
-use oracle::reading::{is_written, numbers, read};
+use oracle::reading::{numbers, read};
 use oracle::{answer, questions};
 
 #[test]

@@ -8,14 +8,14 @@ use native.Mathlib.Omega.{arith}
 use lib.ListN.{length}
 use lib.Dec.{eqb, ltb}
 use borrow.Author.Tests.{eqb-true, eqb-false, eq-eqb, ne-eqb, ltb-true, lt-ltb}
-use Rattle.meaning.specs.Opcode.{bx, Jmp, Test, Return, Call, LoadK, GetUpval, Closure, RegisterTryCatch}
+use Rattle.meaning.specs.Opcode.{opcodes-written, bx, Jmp, Test, Return, Call, LoadK, GetUpval, Closure, RegisterTryCatch}
 use Rattle.meaning.specs.Constant.{Constant, number, text, other}
 use Rattle.meaning.specs.State.{Proto, among}
-use Rattle.meaning.specs.Steps.{target, inst-at, Step, next, jump, skip, handler}
+use Rattle.meaning.specs.Steps.{target, inst-at, Step-01, next, jump, skip, handler}
 use Rattle.meaning.specs.Safety.{met, name-due, IsText, All, Holds, Fits, Inside, Facts}
 use Rattle.meaning.specs.declared.Instruction.{Instruction}
 use Rattle.meaning.proofs.Lists.{and-left, and-right, false-true}
-use Rattle.meaning.specs.Rules.{opcodes-written, all, passes-at, inside, leads, let-pass, if-opcode, capture-fits, is-text, lawful}
+use Rattle.meaning.specs.Rules.{all, passes-at, inside, leads, let-pass, if-opcode, capture-fits, is-text, lawful}
 
 -- ---- lists
 
@@ -79,7 +79,7 @@ module _ (n i : ℕ) (x : Instruction) (stay : all (inside n) (leads i x) ≡ tr
   unfolding all leads
   handler-in t = ltb-true (i + bx x) n (and-left _ _ (and-right (ltb (i + 1) n) _ (rw (ne-eqb (x .opcode) Jmp (λ e. omega arith), ne-eqb (x .opcode) Return (λ e. omega arith), ne-eqb (x .opcode) Test (λ e. omega arith), eq-eqb (x .opcode) RegisterTryCatch t) at stay)))
 
-pub steps-inside : (code : List Instruction) (i : ℕ) → all (inside (length code)) (leads i (inst-at code i)) ≡ true → (o : Option ℕ) → Step code i o → Inside (length code) o
+pub steps-inside : (code : List Instruction) (i : ℕ) → all (inside (length code)) (leads i (inst-at code i)) ≡ true → (o : Option ℕ) → Step-01 code i o → Inside (length code) o
 steps-inside code i stay _ (next h j r) = next-in (length code) i (inst-at code i) stay j r
 steps-inside code i stay _ (jump h e) = inside-is (length code) (target i (bx (inst-at code i))) (jump-in (length code) i (inst-at code i) stay e)
 steps-inside code i stay _ (skip h e) = skip-in (length code) i (inst-at code i) stay e
@@ -137,7 +137,7 @@ module _ (ks : List Constant) (earlier : List Proto) (p : Proto) (i : ℕ) where
       go true q = f (eqb-true (x .opcode) o q)
       go false q = refl
 
-  leads-inside : i < length (p .code) → ((o : Option ℕ) → Step (p .code) i o → Inside (length (p .code)) o) → all (inside (length (p .code))) (leads i x) ≡ true
+  leads-inside : i < length (p .code) → ((o : Option ℕ) → Step-01 (p .code) i o → Inside (length (p .code)) o) → all (inside (length (p .code))) (leads i x) ≡ true
   unfolding all leads
   leads-inside h f = go (eqb (x .opcode) Jmp) refl (eqb (x .opcode) Return) refl (eqb (x .opcode) Test) refl (eqb (x .opcode) RegisterTryCatch) refl
     where

@@ -12,7 +12,7 @@ use borrow.Author.Tests.{eq-eqb, ne-eqb}
 use Rattle.meaning.specs.Opcode.{inst, no-mark, Jmp, Test, Return, RegisterTryCatch}
 use Rattle.meaning.specs.Constant.{Constant}
 use Rattle.meaning.specs.State.{Proto}
-use Rattle.meaning.specs.Steps.{inst-at, opcode-at, Step, next, jump, skip, handler, Amended, ordinary, struck, Walk, here, and-on}
+use Rattle.meaning.specs.Steps.{inst-at, opcode-at, Step-01, next, jump, skip, handler, Amended, ordinary, struck, Walk, here, and-on}
 use Rattle.meaning.specs.Safety.{All, Facts, Inside, Stands}
 use Rattle.meaning.specs.declared.Instruction.{Instruction}
 use Rattle.meaning.proofs.Lists.{false-true}
@@ -76,7 +76,7 @@ is-self : (m : ℕ) → is m (some m) ≡ true
 is-self m = eq-eqb m m refl
 
 -- a step leads where `leads` says
-leads-to : (code : List Instruction) (i m : ℕ) (o : Option ℕ) → Step code i o → o ≡ some m → some-of (is m) (leads i (inst-at code i)) ≡ true
+leads-to : (code : List Instruction) (i m : ℕ) (o : Option ℕ) → Step-01 code i o → o ≡ some m → some-of (is m) (leads i (inst-at code i)) ≡ true
 unfolding some-of leads
 leads-to code i m _ (next h j r) e = rw (ne-eqb (inst-at code i .opcode) Jmp j, ne-eqb (inst-at code i .opcode) Return r) (or-first _ _ (ap (is m) e ∙ is-self m))
 leads-to code i m _ (jump h j) e = rw (eq-eqb (inst-at code i .opcode) Jmp j) (or-first _ _ (ap (is m) e ∙ is-self m))
@@ -123,7 +123,7 @@ module _ (im : Image) (good : broken im ≡ none) (before : List Proto) (p : Pro
   on : (m : ℕ) → m < length (p .code) → (opcode-at (p .code) m ≡ Return → ⊥) → (further : Option ℕ) × Amended (p .code) m further
   on m h r = let g = goes-on (p .code) m h r in (g .0, ordinary (g .1))
 
-  after-step : (j : ℕ) (o : Option ℕ) → Step (p .code) j o → Inside (length (p .code)) o → Stands (im .constants) before p (Amended (p .code)) o
+  after-step : (j : ℕ) (o : Option ℕ) → Step-01 (p .code) j o → Inside (length (p .code)) o → Stands (im .constants) before p (Amended (p .code)) o
   after-step j none s h = absurd h
   after-step j (some m) s h = record {
     place = m;
@@ -133,7 +133,7 @@ module _ (im : Image) (good : broken im ≡ none) (before : List Proto) (p : Pro
     goes-on = on m h;
   }
 
-  stays : (j : ℕ) (o : Option ℕ) → Step (p .code) j o → Inside (length (p .code)) o
+  stays : (j : ℕ) (o : Option ℕ) → Step-01 (p .code) j o → Inside (length (p .code)) o
   stays j o s = steps-inside (p .code) j (lawful-stays (im .constants) before p j (each j (step-from (p .code) j o s))) o s
 
   pub stands : 0 < length (p .code) → (o : Option ℕ) → Walk (Amended (p .code)) 0 o → Stands (im .constants) before p (Amended (p .code)) o

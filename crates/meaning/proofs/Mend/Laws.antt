@@ -7,13 +7,13 @@ use native.Mathlib.Omega.{arith}
 use lib.ListN.{length, getD, length-map}
 use lib.Dec.{eqb}
 use borrow.Author.Tests.{eqb-true, ne-eqb}
-use Rattle.meaning.specs.Opcode.{inst, bx, no-mark, Jmp, Call, Return, JMP-CONTINUE, JMP-BREAK}
+use Rattle.meaning.specs.Opcode.{opcodes-written, inst, bx, no-mark, Jmp, Call, Return, JMP-CONTINUE, JMP-BREAK}
 use Rattle.meaning.specs.Constant.{Constant}
 use Rattle.meaning.specs.State.{Proto, among}
 use Rattle.meaning.specs.Steps.{inst-at, target}
 use Rattle.meaning.specs.Safety.{All, met}
 use Rattle.meaning.specs.Images.{Image}
-use Rattle.meaning.specs.Rules.{opcodes-written, all, inside, leads, let-pass, if-opcode, lawful}
+use Rattle.meaning.specs.Rules.{all, inside, leads, let-pass, if-opcode, lawful}
 use Rattle.meaning.specs.Mend.{replaced, mended, mended-from, mended-proto, mended-image, Entry, listed-from, listed}
 use Rattle.meaning.specs.declared.Instruction.{Instruction}
 use Rattle.meaning.proofs.Lists.{and-left, and-right}

@@ -7,7 +7,7 @@ use mathlib.Core.List.{List, [], _∷_, _++_}
 use native.Mathlib.Omega.{arith}
 use lib.Dec.{eqb, leb}
 use borrow.Author.Tests.{eqb-true, leb-true}
-use Rattle.meaning.specs.Opcode.{inst, wide, no-mark, is-continue, is-break, is-end-jump, unary-opcode, binary-opcode, Move, Jmp, Not, Neg, Add, Lt, Eq, Neq, Gt, Gte, Lte, Sub, Div, Mod, Mul, Pow, Test, RegisterTryCatch, DeregisterTryCatch}
+use Rattle.meaning.specs.Opcode.{opcodes-written, inst, wide, no-mark, is-continue, is-break, is-end-jump, unary-opcode, binary-opcode, Move, Jmp, Not, Neg, Add, Lt, Eq, Neq, Gt, Gte, Lte, Sub, Div, Mod, Mul, Pow, Test, RegisterTryCatch, DeregisterTryCatch}
 use Rattle.meaning.specs.State.{Chunk, among}
 use Rattle.meaning.specs.Chunk.{joined, each-at, jump-by, patch-loop, open-loop, loop-code, branch-code, patch-ends, patch-first, open-try, try-code}
 use Rattle.meaning.specs.Functions.{last-mark}
@@ -16,7 +16,6 @@ use Rattle.meaning.specs.declared.Instruction.{Instruction}
 use Rattle.meaning.proofs.Lists.{and-left, and-right}
 use Rattle.meaning.proofs.Grows.{cond-either}
 use Rattle.meaning.proofs.Safe.Fine.{all-append, all-table}
-use Rattle.meaning.specs.Rules.{opcodes-written}
 use Rattle.meaning.proofs.Ranges.Fits.{Written, InstFits}
 
 -- the operators' opcodes

@@ -9,13 +9,12 @@ use lib.Dec.{eqb, ltb}
 use native.Mathlib.Omega.{arith}
 use borrow.Author.Tests.{lt-ltb, eqb-false}
 use Rattle.meaning.specs.Grammar.{short-mark}
-use Rattle.meaning.specs.Opcode.{no-mark}
+use Rattle.meaning.specs.Opcode.{opcodes-written, no-mark}
 use Rattle.meaning.specs.Images.{inst-tag}
 use Rattle.meaning.specs.Constant.{Constant, number, text, other}
 use Rattle.meaning.specs.Syntax.{Token, Expr, literal, variable, unary, binary, logical, call, function, Exprs, no-expr, and-expr, Stmt, expression, let-only, let-as, block, while, classic-for, for-in, break, continue, return-none, return, if, try, define, class, Stmts, no-stmt, and-stmt, Elifs, no-elif, and-elif, Fun, fun, Funs, no-fun, and-fun, Super, no-super, super}
 use Rattle.meaning.specs.State.{State, Capture, Proto, among}
 use Rattle.meaning.specs.Safety.{All}
-use Rattle.meaning.specs.Rules.{opcodes-written}
 use Rattle.meaning.specs.declared.Instruction.{Instruction}
 
 -- ---- what an image holds

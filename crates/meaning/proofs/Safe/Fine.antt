@@ -9,7 +9,7 @@ use mathlib.Core.List.{List, [], _∷_, _++_, append-nil, append-assoc}
 use native.Mathlib.Nat.{le-refl, le-trans}
 use native.Mathlib.Omega.{arith}
 use lib.ListN.{length, length-append, getD}
-use Rattle.meaning.specs.Opcode.{bx, is-continue, is-break, Move, LoadK, LoadNil, Jmp, Test, Add, Sub, Div, Mod, Mul, Pow, Lt, Gt, Lte, Gte, Eq, Neq, Not, Neg, Call, Return, GetUpval, Closure, Class, ClassMeth, ClassStMeth, Addi, GetIter, GetIterk, GetIteri, Length, GetCurrentFunc, RegisterTryCatch, DeregisterTryCatch, GetExcept}
+use Rattle.meaning.specs.Opcode.{bx, opcodes-written, is-continue, is-break, LoadK, Jmp, Test, Call, GetUpval, Closure, RegisterTryCatch}
 use Rattle.meaning.specs.Constant.{Constant}
 use Rattle.meaning.specs.State.{Capture, Proto, State, among}
 use Rattle.meaning.specs.Safety.{met, name-due, IsText, All, Holds, Fits}
@@ -53,8 +53,7 @@ kinds =
     ∷ (GetUpval ∷ [], capture-of)
     ∷ (Closure ∷ [], closure-of)
     ∷ (RegisterTryCatch ∷ [], handler)
-    ∷ (Add ∷ Sub ∷ Div ∷ Mod ∷ Mul ∷ Pow ∷ Lt ∷ Gt ∷ Lte ∷ Gte ∷ Eq ∷ Neq ∷ Not ∷ Neg ∷ Addi ∷ Move ∷ LoadNil ∷ Return ∷ [], plain)
-    ∷ (Class ∷ ClassMeth ∷ ClassStMeth ∷ GetIter ∷ GetIterk ∷ GetIteri ∷ Length ∷ GetCurrentFunc ∷ DeregisterTryCatch ∷ GetExcept ∷ [], plain)
+    ∷ (opcodes-written, plain)
     ∷ []
 
 -- what stands in no row is never written

@@ -14,7 +14,7 @@ use borrow.Author.Tests.{eqb-true, eqb-false, ltb-true, ltb-false, leb-false}
 use Rattle.meaning.specs.Opcode.{inst, bx, no-mark, Jmp, Test, Call, Return, GetUpval, Closure, LoadK, RegisterTryCatch}
 use Rattle.meaning.specs.Constant.{Constant}
 use Rattle.meaning.specs.State.{Proto, among}
-use Rattle.meaning.specs.Steps.{inst-at, opcode-at, target, Step, next, jump, skip, handler, Amended, ordinary, struck, Walk, here, and-on}
+use Rattle.meaning.specs.Steps.{inst-at, opcode-at, target, Step-01, next, jump, skip, handler, Amended, ordinary, struck, Walk, here, and-on}
 use Rattle.meaning.specs.Safety.{met, name-due, All, Inside, Facts, Safe, Stands}
 use Rattle.meaning.specs.declared.Instruction.{Instruction}
 use Rattle.meaning.proofs.Safe.Fine.{View, Fine, FineAs, Kind, kind, name-of, Sane, Leap, lands, continues, breaks, Lands, Any, holds-below, fine-at}
@@ -56,7 +56,7 @@ module _ (cs : List Constant) (earlier : List Proto) (p : Proto) (i f : ℕ) (h 
   needs-name : among (opcode-at (p .code) i) name-due ≡ true → FineAs name-of (proto-view cs earlier p) i f (inst-at (p .code) i)
   needs-name e = subst (λ (κ : Kind). FineAs κ (proto-view cs earlier p) i f (inst-at (p .code) i)) (cond-true (among (opcode-at (p .code) i) name-due) _ _ e) (k .1)
 
-  steps-inside : (o : Option ℕ) → Step (p .code) i o → Inside (length (p .code)) o
+  steps-inside : (o : Option ℕ) → Step-01 (p .code) i o → Inside (length (p .code)) o
   steps-inside o (next l j r) = omega arith
   steps-inside o (jump l e) = leap-inside _ i f _ h s (needs Jmp e) .1
   steps-inside o (skip l e) = let r = needs Test e in omega (arith, r)
@@ -76,7 +76,7 @@ module _ (cs : List Constant) (earlier : List Proto) (p : Proto) (i f : ℕ) (h 
       }
 
 -- none after Return
-pub return-ends : (code : List Instruction) (i : ℕ) (o : Option ℕ) → opcode-at code i ≡ Return → Step code i o → ⊥
+pub return-ends : (code : List Instruction) (i : ℕ) (o : Option ℕ) → opcode-at code i ≡ Return → Step-01 code i o → ⊥
 return-ends code i o z (next l j r) = r z
 return-ends code i o z (jump l e) = omega arith
 return-ends code i o z (skip l e) = omega arith
@@ -136,7 +136,7 @@ by-test true h k = h refl
 by-test false h k = k refl
 
 -- from any instruction but Return there is a step
-pub goes-on : (code : List Instruction) (i : ℕ) → i < length code → (opcode-at code i ≡ Return → ⊥) → (o : Option ℕ) × Step code i o
+pub goes-on : (code : List Instruction) (i : ℕ) → i < length code → (opcode-at code i ≡ Return → ⊥) → (o : Option ℕ) × Step-01 code i o
 goes-on code i h r = by-test (eqb (opcode-at code i) Jmp) (λ e. (target i (bx (inst-at code i)), jump h (eqb-true _ _ e))) (λ e. (some (i + 1), next h (eqb-false _ _ e) r))
 
 -- a prototype has a first instruction
@@ -145,19 +145,19 @@ first-inside cs earlier p σ =
     let n = ap (λ (l : List Instruction). length l) (σ .last .1) ∙ length-append (σ .last .0) (last-return ∷ []) in
     omega (arith, n)
 
-inside-stands : (cs : List Constant) (earlier : List Proto) (p : Proto) (step : ℕ → Option ℕ → Type 0) → Safe cs earlier p → ((i : ℕ) (o : Option ℕ) → Step (p .code) i o → step i o)
+inside-stands : (cs : List Constant) (earlier : List Proto) (p : Proto) (step : ℕ → Option ℕ → Type 0) → Safe cs earlier p → ((i : ℕ) (o : Option ℕ) → Step-01 (p .code) i o → step i o)
     → (o : Option ℕ) → Inside (length (p .code)) o → Stands cs earlier p step o
 inside-stands cs earlier p step σ more none h = absurd h
 inside-stands cs earlier p step σ more (some i) h =
     record { place = i; there = refl; inside = h; facts = σ .facts i h; goes-on = λ r. let g = goes-on (p .code) i h r in (g .0, more i (g .0) (g .1)) }
 
 -- whatever steps there are beside 01's, if none of them leaves the prototype, no walk does
-pub walk-stands : (cs : List Constant) (earlier : List Proto) (p : Proto) (step : ℕ → Option ℕ → Type 0) → Safe cs earlier p → ((i : ℕ) (o : Option ℕ) → Step (p .code) i o → step i o)
+pub walk-stands : (cs : List Constant) (earlier : List Proto) (p : Proto) (step : ℕ → Option ℕ → Type 0) → Safe cs earlier p → ((i : ℕ) (o : Option ℕ) → Step-01 (p .code) i o → step i o)
     → ((i : ℕ) (o : Option ℕ) → step i o → Inside (length (p .code)) o) → (o : Option ℕ) → Walk step 0 o → Stands cs earlier p step o
 walk-stands cs earlier p step σ more stays o here = inside-stands cs earlier p step σ more (some 0) (first-inside cs earlier p σ)
 walk-stands cs earlier p step σ more stays o (and-on {j} w s) = inside-stands cs earlier p step σ more o (stays j o s)
 
-pub step-from : (code : List Instruction) (i : ℕ) (o : Option ℕ) → Step code i o → i < length code
+pub step-from : (code : List Instruction) (i : ℕ) (o : Option ℕ) → Step-01 code i o → i < length code
 step-from code i o (next l j r) = l
 step-from code i o (jump l e) = l
 step-from code i o (skip l e) = l
@@ -166,11 +166,11 @@ step-from code i o (handler l e) = l
 -- ---- the amended steps
 
 -- a failure leads where a step of the RegisterTryCatch leads that has the handler
-pub amended-inside : (code : List Instruction) → ((i : ℕ) (o : Option ℕ) → Step code i o → Inside (length code) o) → (i : ℕ) (o : Option ℕ) → Amended code i o → Inside (length code) o
+pub amended-inside : (code : List Instruction) → ((i : ℕ) (o : Option ℕ) → Step-01 code i o → Inside (length code) o) → (i : ℕ) (o : Option ℕ) → Amended code i o → Inside (length code) o
 amended-inside code stays i o (ordinary s) = stays i o s
 amended-inside code stays i o (struck k l r h e) = stays k _ (handler h e)
 
-pub safe-inside : (cs : List Constant) (earlier : List Proto) (p : Proto) → Safe cs earlier p → (i : ℕ) (o : Option ℕ) → Step (p .code) i o → Inside (length (p .code)) o
+pub safe-inside : (cs : List Constant) (earlier : List Proto) (p : Proto) → Safe cs earlier p → (i : ℕ) (o : Option ℕ) → Step-01 (p .code) i o → Inside (length (p .code)) o
 safe-inside cs earlier p σ i o s = σ .facts i (step-from (p .code) i o s) .steps o s
 
 pub amended-stand : (cs : List Constant) (earlier : List Proto) (p : Proto) → Safe cs earlier p → (o : Option ℕ) → Walk (Amended (p .code)) 0 o → Stands cs earlier p (Amended (p .code)) o
@@ -178,13 +178,13 @@ amended-stand cs earlier p σ = walk-stands cs earlier p (Amended (p .code)) σ 
 
 -- ---- the older statement, from that
 
-pub walk-amended : (code : List Instruction) (o : Option ℕ) → Walk (Step code) 0 o → Walk (Amended code) 0 o
+pub walk-amended : (code : List Instruction) (o : Option ℕ) → Walk (Step-01 code) 0 o → Walk (Amended code) 0 o
 walk-amended code _ here = here
 walk-amended code o (and-on {j} w s) = and-on (walk-amended code (some j) w) (ordinary s)
 
 -- a walk of 01's steps is one of the amended steps, and stands where that stands; from there 01 has a step too, but from a Return
 pub stands-01 : (cs : List Constant) (earlier : List Proto) (p : Proto) → ((o : Option ℕ) → Walk (Amended (p .code)) 0 o → Stands cs earlier p (Amended (p .code)) o)
-    → (o : Option ℕ) → Walk (Step (p .code)) 0 o → Stands cs earlier p (Step (p .code)) o
+    → (o : Option ℕ) → Walk (Step-01 (p .code)) 0 o → Stands cs earlier p (Step-01 (p .code)) o
 stands-01 cs earlier p amended o w =
     let s = amended o (walk-amended (p .code) o w) in
     record { place = s .place; there = s .there; inside = s .inside; facts = s .facts; goes-on = goes-on (p .code) (s .place) (s .inside) }

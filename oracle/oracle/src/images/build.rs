@@ -1,6 +1,6 @@
 //! What images are put together from.
 use files::image::{Capture, Constant, Image, Instruction, Prototype};
-use files::listing::opcode;
+use files::opcodes::opcode;
 use files::tree::push_field;
 use files::NONE;
 

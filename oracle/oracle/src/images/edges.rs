@@ -1,7 +1,7 @@
 //! Every rule by its cases, one inside and one outside.
 use super::build::*;
-use crate::reading::is_written;
 use files::image::{Instruction, Prototype};
+use files::opcodes::{is_written, meets, Meets};
 
 pub fn all() -> Vec<Edge> {
     let mut edges = vec![];
@@ -86,8 +86,8 @@ fn opcodes(edges: &mut Vec<Edge>) {
             let b = u8::from(opcode == 19); // a Call has itself
             let code = vec![Instruction { opcode, ..ins("Move", 0, b, 1) }, end(), end()];
             let main = prototype(registers, vec![local(0), outer(0)], code);
-            let meets = !matches!(opcode, 3 | 20 | 48 | 49);
-            let due = rule_unless(is_written(opcode) && (registers > 0 || !meets), 7);
+            let none = matches!(meets(opcode), Meets::None | Meets::Return);
+            let due = rule_unless(is_written(opcode) && (registers > 0 || none), 7);
             edges.push(edge(format!("opcode {opcode}"), image(vec![bare(), bare(), main], texts(2)), due));
         }
     }

@@ -3,11 +3,11 @@ use super::build::{bare, end};
 use super::width;
 use crate::answer;
 use crate::questions;
-use crate::reading::is_written;
 use crate::rng::Rng;
 use crate::trees::damage::{hurt_bytes, joined, loose, Loose};
 use crate::trees::values;
 use files::image::{Capture, Constant, Image, Instruction, Prototype};
+use files::opcodes::{is_written, meets, Meets};
 use files::tree::push_field;
 
 /// Case k of a seed: half of them built, the others what a small tree gives, each as it is or damaged; and noise.
@@ -83,8 +83,8 @@ fn prototype(rng: &mut Rng, taste: &Taste) -> Prototype {
 fn instruction(rng: &mut Rng, taste: &Taste, at: usize) -> Instruction {
     let opcode = loop {
         let any = if rng.chance(400) { *rng.pick(&[3, 3, 4, 20, 20, 20, 23, 48, 49]) } else { rng.below(52) as u8 };
-        let register = !matches!(any, 3 | 20 | 48 | 49);
-        if rng.chance(taste.wild) || is_written(any) && (taste.registers > 0 || !register) {
+        let none = matches!(meets(any), Meets::None | Meets::Return);
+        if rng.chance(taste.wild) || is_written(any) && (taste.registers > 0 || none) {
             break any;
         }
     };

@@ -2,7 +2,7 @@
 use crate::images::build::*;
 use crate::images::width::widened;
 use files::image::Instruction;
-use files::listing::opcode;
+use files::opcodes::opcode;
 
 pub struct Edge {
     pub name: String,

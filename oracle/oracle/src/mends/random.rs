@@ -5,7 +5,7 @@ use crate::images::width::widened_at_random;
 use crate::rng::Rng;
 use crate::trees::damage::{joined, loose};
 use crate::walks::mazes;
-use files::listing::opcode;
+use files::opcodes::opcode;
 
 /// Case k of a seed.
 pub fn any(seed: u64, k: u64) -> Question {

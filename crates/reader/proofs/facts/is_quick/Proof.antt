@@ -5,7 +5,7 @@ use Prim.Native.Nat.{ℕ, _<_}
 use native.Mathlib.Omega.{arith}
 use denote.Ref.{now}
 use Rattle.meaning.proofs.Lists.{false-true}
-use Rattle.reader.specs.Tests.{lawful-seen, plain-seen, text-seen}
+use Rattle.reader.specs.Tests.{lawful-seen, kind-seen, plain-seen, text-seen}
 use Rattle.reader.proofs.Quick.{plain-lawful, name-lawful}
 use Rattle.reader.proofs.facts.is_quick.Statement.{statement}
 use Rattle.reader.proofs.facts.is_quick.Tie as tie
@@ -25,6 +25,7 @@ returns-2 c = λ e closure entered. let k = c .before .before in let s = k .befo
     (ap (λ (m : ℕ). plain-seen m (x .i) (x .n) (x .a) (x .b) (x .c) (x .v .registers)) (sym (k .kind-of .ensures)) ∙ sym (c .is-plain .ensures) ∙ e)
 
 returns-5 : tie.Need-returns-5
+unfolding kind-seen
 returns-5 c = λ e closure entered. let m = c .before in let s = m .before .before .before .before .before .before .before in let x = s .args in
     name-lawful (x .v) (x .i) (x .n) (x .o) (x .a) (x .b) (x .c) (x .w) (omega (arith, s .fits)) closure _ entered (m .before .if5 .taken)
     ∙ sym (ap (λ (t : Bool). lawful-seen (x .v) (x .i) (x .n) 44 (x .a) (x .b) (x .c) (x .w) false t false) (m .names .ensures)) ∙ sym (c .is-lawful4 .ensures) ∙ e
@@ -34,6 +35,7 @@ asked : (s : tie.Start) → let x = s .args in (x .w < 65536) × (x .i < 65536) 
 asked s = let p = s .pre .0 in (p .0, p .1, p .2, p .3, p .4)
 
 pub is-quick-spec : {M : Type 1} → statement M
+unfolding kind-seen
 is-quick-spec =
     tie.close
     (tie.spec

@@ -11,7 +11,7 @@ use mathlib.Core.List.{List}
 use Rattle.meaning.specs.Base.{lowest}
 use Rattle.meaning.specs.Steps.{inst-at}
 use Rattle.reader.specs.declared.facts.Around.{Around}
-use Rattle.reader.specs.Tests.{seen-test}
+use Rattle.reader.specs.Tests.{kind-seen, seen-test}
 use Rattle.meaning.specs.Fields.{word-at}
 use Rattle.meaning.proofs.Lists.{lowest-same, all-to}
 use Rattle.meaning.specs.Images.{inst-size}
@@ -75,7 +75,7 @@ returns c =
     answer (s .args .mend) _ _ _ _ _ (now (s .args .t)) (s .args .tag) _ _ _ _ _ _ _ n (p .4) (p .1) (c .first-unlawful .ensures) ∙ lowest-same _ _ _ (front-lawful _ _ _ _ _ _ (q .0) (s .args .v) (q .1) (q .2) (now (s .args .t)) (s .args .tag) (s .args .mend) (λ i. omega (arith, k .before .before .before .before .shared-slice-known2 .given i)) (p .3) (p .4) (marked c))
 
 pub first-in-spec : {M : Type 1} → statement M
-unfolding all-to
+unfolding all-to kind-seen
 first-in-spec =
     tie.close
     (tie.spec
