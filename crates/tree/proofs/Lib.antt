@@ -1,6 +1,7 @@
 -- Laws that the functions' proofs cite.
 pub mod Table
 pub mod Words
+pub mod Noted
 pub mod Payloads
 pub mod Shapes
 pub mod Depths
