@@ -138,12 +138,14 @@ fn walk_by(
     while is_whole(t) {
         let k = span_of(t);
         last = t[0];
+        // taken before a word is stored: what was read of the header need not be read again
+        let p = payload(t);
         note_offset(scratch, notes, i, tree.len() - t.len());
         // from a wrong node on, and behind the limit, fields are only counted
         if i < wrong {
             // the last field is the one that ends the file
             let first = start_of(starts, four, last, k == t.len());
-            if !fits_from(scratch, rows, limits, i, first, payload(t)) {
+            if !fits_from(scratch, rows, limits, i, first, p) {
                 wrong = i;
             }
             scratch[i] = last as u32;

@@ -32,30 +32,30 @@ fit c = omega (arith, c .span-of .ensures, whole-true _ (is (c .before)))
 
 -- the offset of node i, behind which three bytes stand at least, is noted, and it fits a word
 note-offset-requires : tie.Need-note-offset-requires Inv-loop μ-loop
-note-offset-requires c κs = let l = c .before .before .before .before .before in let pre = l .before .before .before .pre .0 in let p = l .loop .inv .passed in
-    (omega (arith, pre .room, passed-size _ _ _ _ _ _ _ p), λ h. omega (arith, h, pre .noted, p .low, passed-at _ _ _ _ _ _ _ p (is (c .before .before .before))))
+note-offset-requires c κs = let l = c .before .before .before .before .before .before in let pre = l .before .before .before .pre .0 in let p = l .loop .inv .passed in
+    (omega (arith, pre .room, passed-size _ _ _ _ _ _ _ p), λ h. omega (arith, h, pre .noted, p .low, passed-at _ _ _ _ _ _ _ p (is (c .before .before .before .before))))
 
-noted : (c : tie.After-note-offset Inv-loop μ-loop) → let l = c .before .before .before .before .before .before in let a = l .before .before .before .args in
+noted : (c : tie.After-note-offset Inv-loop μ-loop) → let l = c .before .before .before .before .before .before .before in let a = l .before .before .before .args in
     Judged (a .limit) (a .four) (now (a .tree)) (now (a .scratch)) (c .note-offset .last .0) (now (l .loop .t)) (l .loop .i) (min (l .loop .i + 1) (a .notes)) (l .loop .wrong) (l .loop .last)
-noted c = let l = c .before .before .before .before .before .before in let w = is (c .before .before .before .before) in
+noted c = let l = c .before .before .before .before .before .before .before in let w = is (c .before .before .before .before .before) in
     judged-offset _ _ _ _ _ _ _ _ _ _ (l .before .before .before .pre .0 .room) (l .loop .inv) w _ (passed-at _ _ _ _ _ _ _ (l .loop .inv .passed) w) _ (c .note-offset .ensures)
 
 -- a node that is tested has a word
-low : (c : tie.Then2 Inv-loop μ-loop) → let l = c .before .before .before .before .before .before .before .before .before in
+low : (c : tie.Then2 Inv-loop μ-loop) → let l = c .before .before .before .before .before .before .before .before .before .before in
     (l .loop .i < l .before .before .before .args .limit) × (l .before .before .before .args .limit ≤ length (c .before .before .before .note-offset .last .0)) × (l .loop .i < 32768)
-low c = let l = c .before .before .before .before .before .before .before .before .before in let pre = l .before .before .before .pre .0 in
+low c = let l = c .before .before .before .before .before .before .before .before .before .before in let pre = l .before .before .before .pre .0 in
     (omega (arith, l .loop .inv .most, c .if2 .taken), omega (arith, pre .room, passed-size _ _ _ _ _ _ _ (noted (c .before .before .before) .passed)), omega (arith, l .loop .inv .most, c .if2 .taken, pre .judged))
 
 fits-from-requires : tie.Need-fits-from-requires Inv-loop μ-loop
 fits-from-requires c κs =
-    let y = c .before .before .before in
-    let pre = y .before .before .before .before .before .before .before .before .before .before .before .before .pre in
-    (low y .2, omega (arith, low y .0, low y .1), c .before .before .start-of .ensures .1, pre .1, pre .3)
+    let y = c .before .before in
+    let pre = y .before .before .before .before .before .before .before .before .before .before .before .before .before .pre in
+    (low y .2, omega (arith, low y .0, low y .1), c .before .start-of .ensures .1, pre .1, pre .3)
 
 store : tie.Need-slice-write-scratch Inv-loop μ-loop
 store c =
     let f = c .before .before .before in
-    let y = f .before .before .before .before in
+    let y = f .before .before .before in
     omega (arith, low y .0, low y .1, f .fits-from .kept .0)
 
 -- a field has at most 65,538 bytes
@@ -66,7 +66,8 @@ loop-again : tie.Need-loop-again Inv-loop μ-loop
 loop-again c =
     let b = c .before .before in
     let o = b .before .before in
-    let s = o .before .before in
+    let p = o .before .before in
+    let s = p .before in
     let k = s .before in
     let l = k .before .before .before in
     let whole = is (k .before) in
@@ -74,8 +75,8 @@ loop-again c =
     let few = short k (λ i. omega (arith, s .shared-slice-known2 .given i)) in
     ⊎-elim
     (λ x. judged-more _ _ _ _ _ _ _ _ _ _ (noted o) whole _ span few _ refl (omega (arith, x .0 .taken)) (omega (arith, l .before .before .before .pre .0 .room)) (omega (arith, s .shared-slice-known2 .given 0))
-    _ _ _ _ (x .1 .ensures .0) (x .3 .ensures) _ (x .4 .ensures .0) (x .4 .ensures .1) (x .8) _
-    (⊎-elim (λ y. inl (not-true _ (y .0 .taken), x .9 ∙ y .1)) (λ y. inr (not-false _ (y .0 .left), x .9 ∙ y .1)) (x .7 .came)))
+    _ _ _ _ (x .1 .ensures .0) (p .payload .ensures) _ (x .3 .ensures .0) (x .3 .ensures .1) (x .7) _
+    (⊎-elim (λ y. inl (not-true _ (y .0 .taken), x .8 ∙ y .1)) (λ y. inr (not-false _ (y .0 .left), x .8 ∙ y .1)) (x .6 .came)))
     (λ x. judged-over _ _ _ _ _ _ _ _ _ _ (noted o) whole _ span few _ refl (omega (arith, x .0 .left)) _ _ (x .1) (x .2))
     (c .before .if2 .came)
 
@@ -96,19 +97,19 @@ walk-by-spec =
     (λ c κs. tt)
     (λ c κs. header c)
     (λ c. omega (arith, header (c .before .before)))
-    (λ c. omega (arith, c .before .before .before .before .before .loop .inv .passed .walk .room))
+    (λ c κs. whole-true _ (is (c .before .before)))
+    (λ c. omega (arith, c .before .before .before .before .before .before .loop .inv .passed .walk .room))
     note-offset-requires
-    (λ c κs. c .before .before .before .before .before .before .before .before .before .before .before .before .pre .2)
-    (λ c κs. whole-true _ (is (c .before .before .before .before .before .before .before .before .before)))
+    (λ c κs. c .before .before .before .before .before .before .before .before .before .before .before .before .before .pre .2)
     fits-from-requires
     (λ c. omega (arith, c .before .before .before .before .before .before .before .before .before .before .before .before .shared-slice-known2 .given 0))
     (λ c. omega (arith, store c))
     store
-    (λ c. fit (c .before .before .before .before .before .before))
-    (λ c. fit (c .before .before .before .before .before .before))
+    (λ c. fit (c .before .before .before .before .before .before .before))
+    (λ c. fit (c .before .before .before .before .before .before .before))
     (λ c. omega arith)
-    (λ c. let l = c .before .before .before .before .before .before .before .before .before .before in omega (arith, header (c .before .before .before .before .before .before .before .before), l .loop .inv .passed .walk .room, l .before .before .before .good .1 .0 .0))
-    (λ c. part-less _ _ (is (c .before .before .before .before .before .before .before .before)) (c .before .before .before .before .before .before .before .span-of .ensures))
+    (λ c. let l = c .before .before .before .before .before .before .before .before .before .before .before in omega (arith, header (c .before .before .before .before .before .before .before .before .before), l .loop .inv .passed .walk .room, l .before .before .before .good .1 .0 .0))
+    (λ c. part-less _ _ (is (c .before .before .before .before .before .before .before .before .before)) (c .before .before .before .before .before .before .before .before .span-of .ensures))
     loop-again
     (λ c. passed-size _ _ _ _ _ _ _ (c .before .before .loop .inv .passed))
     returns)
