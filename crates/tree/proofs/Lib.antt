@@ -3,6 +3,7 @@ pub mod Table
 pub mod Words
 pub mod Noted
 pub mod Payloads
+pub mod Forms
 pub mod Shapes
 pub mod Depths
 pub mod Parents

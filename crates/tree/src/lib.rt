@@ -3,6 +3,7 @@ mod owners;
 mod retired;
 mod rows;
 mod shape;
+mod starts;
 
 use meaning::Cause;
 use meaning::Outcome;

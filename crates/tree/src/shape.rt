@@ -3,13 +3,13 @@
 // that has it as a child plus one, 0 where none has, 65,535 where it is a child more than once; and from its end on the offset of each node.
 use crate::rows::LIMITS;
 use crate::rows::ROWS;
-use crate::rows::STARTS;
-use crate::rows::WIDE_STARTS;
 use crate::rows::is_child;
 use crate::rows::is_inside;
 use crate::rows::place_after;
-use crate::rows::start_of;
 use crate::rows::wide32;
+use crate::starts::STARTS;
+use crate::starts::WIDE_STARTS;
+use crate::starts::start_of;
 use fields::is_whole;
 use fields::payload;
 use fields::span_of;
@@ -20,8 +20,9 @@ ghost use Prim.Native.Nat.{suc, min, _-_, _<_, _≤_};
 ghost use lib.ListN.{length, set};
 ghost use lib.Dec.{ltb};
 ghost use Rattle.meaning.specs.Fields.{fields};
-ghost use Rattle.meaning.specs.Grammar.{bounds, lawful, wide-marks};
-ghost use Rattle.tree.specs.Rows.{row-list, first-rows, fits-row};
+ghost use Rattle.meaning.specs.Grammar.{bounds, expr, lawful, wide-marks};
+ghost use Rattle.tree.specs.Rows.{row-list, fits-row};
+ghost use Rattle.tree.specs.Starts.{start-list, first-in, size-in, Start};
 ghost use Rattle.tree.specs.Scratch.{tags-in, note, note-word, note-row, last-tag, Beyond, Found, Apart};
 ghost use Rattle.tree.specs.Used.{few, with-offsets};
 
@@ -93,6 +94,66 @@ fn fits_from(
     wide32(rows[at]) / 4194304 == 1
 }
 
+// The word w is lawful as an expression of node i. That is noted.
+fn expression(scratch: &mut [u32], i: usize, w: usize) -> bool
+    requires { ⌜ (i < 32768) × (i ≤ length (now scratch)) ⌝ }
+    ensures lawful { λ r. ⌜ r ≡ lawful (tags-in (now (scratch .entry))) i expr w ⌝ }
+    ensures noted { λ r. ⌜ now (scratch .exit) ≡ cond r (note-word (now (scratch .entry)) i expr w) (now (scratch .entry)) ⌝ }
+{
+    if w < i {
+        let tag = scratch[w] % 256;
+        if (0 < tag) & (tag < 10) {
+            note(scratch, i, w);
+            return true;
+        }
+    }
+    false
+}
+
+// The payload p of node i, which is as long as the start's form says, fits.
+fn fits_form(scratch: &mut [u32], i: usize, start: usize, p: &[u8]) -> bool
+    requires { ⌜ (i < 32768) × (i ≤ length (now scratch)) × (length (now p) ≡ size-in start) × (size-in start < 65536) × Start start ⌝ }
+    ensures fits { λ r. ⌜ r ≡ fits-row (lawful (tags-in (now (scratch .entry))) i) (first-in start) 0 (now (p .entry)) ⌝ }
+    ensures noted { λ r. ⌜ now (scratch .exit) ≡ note-row (lawful (tags-in (now (scratch .entry))) i) (now (scratch .entry)) i (first-in start) 0 (now (p .entry)) ⌝ }
+{
+    let w = word(p, 0);
+    if w < start / 134217728 % 2 {
+        return false;
+    }
+    if start / 268435456 < w {
+        return false;
+    }
+    let children = start / 33554432 % 4;
+    if children == 0 {
+        return true;
+    }
+    if children == 2 {
+        if !expression(scratch, i, word(p, p.len() - 4)) {
+            return false;
+        }
+    }
+    expression(scratch, i, word(p, p.len() - 2))
+}
+
+// The payload p of node i fits: by the start's form where it is as long, else from the start's row on.
+fn fits(
+    scratch: &mut [u32],
+    rows: &[u32; 163],
+    limits: &[u32; 36],
+    i: usize,
+    start: usize,
+    p: &[u8],
+) -> bool
+    requires { ⌜ (i < 32768) × (i ≤ length (now scratch)) × (length (now p) < 65536) × Start start × (now rows ≡ row-list) × (now limits ≡ bounds) ⌝ }
+    ensures fits { λ r. ⌜ r ≡ fits-row (lawful (tags-in (now (scratch .entry))) i) (first-in start) 0 (now (p .entry)) ⌝ }
+    ensures noted { λ r. ⌜ now (scratch .exit) ≡ note-row (lawful (tags-in (now (scratch .entry))) i) (now (scratch .entry)) i (first-in start) 0 (now (p .entry)) ⌝ }
+{
+    if p.len() == start / 256 % 131072 {
+        return fits_form(scratch, i, start, p);
+    }
+    fits_from(scratch, rows, limits, i, start % 256, p)
+}
+
 // Notes where node i starts, if it is one of the first `notes`: node 0 in the last word, node 1 in the one before it.
 fn note_offset(scratch: &mut [u32], notes: usize, i: usize, at: usize)
     requires { ⌜ (notes ≤ length (now scratch)) × (i < notes → at < 4294967296) ⌝ }
@@ -122,10 +183,10 @@ fn walk_by(
     notes: usize,
     four: bool,
     rows: &[u32; 163],
-    starts: &[u8; 30],
+    starts: &[usize; 30],
     limits: &[u32; 36],
 ) -> Walked
-    requires { ⌜ Apart limit notes (now scratch) × (now rows ≡ row-list) × (now starts ≡ first-rows four) × (now limits ≡ bounds) ⌝ }
+    requires { ⌜ Apart limit notes (now scratch) × (now rows ≡ row-list) × (now starts ≡ start-list four) × (now limits ≡ bounds) ⌝ }
     ensures count { λ r. ⌜ r .count ≡ length (fields (now (tree .entry))) ⌝ }
     ensures found { λ r. ⌜ (few (r .count) ≤ limit → Found four (now (tree .entry)) (now (scratch .exit)) (r .count) (r .after) (r .wrong)) ⌝ }
     ensures last { λ r. ⌜ r .last ≡ last-tag (fields (now (tree .entry))) ⌝ }
@@ -144,8 +205,8 @@ fn walk_by(
         // from a wrong node on, and behind the limit, fields are only counted
         if i < wrong {
             // the last field is the one that ends the file
-            let first = start_of(starts, four, last, k == t.len());
-            if !fits_from(scratch, rows, limits, i, first, p) {
+            let start = start_of(starts, four, last, k == t.len());
+            if !fits(scratch, rows, limits, i, start, p) {
                 wrong = i;
             }
             scratch[i] = last as u32;

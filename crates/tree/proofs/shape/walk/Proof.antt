@@ -5,7 +5,8 @@ use Prim.Native.Nat.{min}
 use native.Mathlib.Omega.{arith}
 use denote.Ref.{now}
 use Rattle.meaning.specs.Grammar.{bounds}
-use Rattle.tree.specs.Rows.{row-list, first-rows}
+use Rattle.tree.specs.Rows.{row-list}
+use Rattle.tree.specs.Starts.{start-list}
 use Rattle.tree.specs.Scratch.{Beyond}
 use Rattle.tree.specs.Used.{with-offsets}
 use Rattle.tree.proofs.Words.{beyond-then}
@@ -15,7 +16,7 @@ use Rattle.tree.proofs.shape.walk.Statement.{statement}
 use Rattle.tree.proofs.shape.walk.Tie as tie
 
 walk-by-requires : tie.Need-walk-by-requires
-unfolding row-list first-rows bounds
+unfolding row-list start-list bounds
 walk-by-requires c κs = (c .before .before .before .before .before .before .pre, refl, refl, refl)
 
 returns : tie.Need-returns
@@ -23,7 +24,7 @@ returns c = let e = c .before .before .before .before .walk-by .ensures in
     (e .0, (λ all. found-narrow _ _ _ _ _ _ (e .1 .1 .0) (c .if1 .taken) (e .1 .0 all), e .1 .1 .1))
 
 walk-by-requires-2 : tie.Need-walk-by-requires-2
-unfolding row-list first-rows bounds
+unfolding row-list start-list bounds
 walk-by-requires-2 c κs = let w = c .before .before .before .before .before .before .before .before in let pre = w .before .before .before .before .before .before .before .pre in
     (record { judged = pre .judged; noted = omega arith; room = omega (arith, w .walk-by .kept .0, pre .room) }, refl, refl, refl)
 

@@ -1,14 +1,14 @@
 -- The invariant is `Judged`: below field i every shape is right and the scratch is as after those nodes, or the lowest wrong node is found; and the
 -- offsets are noted, as many as are asked for. The measure is the rest of the file.
-use mathlib.Core.Path.{_≡_, refl, sym, _∙_}
+use mathlib.Core.Path.{_≡_, refl, sym, ap, _∙_}
 use mathlib.Core.Bool.{true}
 use mathlib.Core.Logic.{inl, inr, ⊎-elim}
 use Prim.Native.Nat.{ℕ, min, _+_, _<_, _≤_}
 use native.Mathlib.Omega.{arith}
-use lib.ListN.{length, getD}
+use lib.ListN.{length, getD, drop, length-take}
 use borrow.Author.Tests.{not-true, not-false}
 use denote.Ref.{now}
-use Rattle.meaning.specs.Fields.{whole}
+use Rattle.meaning.specs.Fields.{word-at, whole}
 use Rattle.meaning.proofs.FieldLaws.{part-less, whole-true}
 use Rattle.tree.proofs.Shapes.{Judged, judged-start, judged-offset, judged-over, judged-more, judged-count, judged-end, last-end, passed-at, passed-size}
 use Rattle.tree.proofs.shape.walk_by.Statement.{statement}
@@ -46,17 +46,22 @@ low : (c : tie.Then2 Inv-loop μ-loop) → let l = c .before .before .before .be
 low c = let l = c .before .before .before .before .before .before .before .before .before .before in let pre = l .before .before .before .pre .0 in
     (omega (arith, l .loop .inv .most, c .if2 .taken), omega (arith, pre .room, passed-size _ _ _ _ _ _ _ (noted (c .before .before .before) .passed)), omega (arith, l .loop .inv .most, c .if2 .taken, pre .judged))
 
-fits-from-requires : tie.Need-fits-from-requires Inv-loop μ-loop
-fits-from-requires c κs =
+-- a payload has at most 65,535 bytes
+payload-low : (c : tie.After-payload Inv-loop μ-loop) → length (now (c .payload .result)) < 65536
+payload-low c = let t = now (c .before .before .before .before .before .loop .t) in let bytes = c .before .shared-slice-known2 .given in
+    omega (arith, ap length (c .payload .ensures), length-take (word-at t 1) (drop 3 t), bytes 1, bytes 2)
+
+fits-requires : tie.Need-fits-requires Inv-loop μ-loop
+fits-requires c κs =
     let y = c .before .before in
     let pre = y .before .before .before .before .before .before .before .before .before .before .before .before .before .pre in
-    (low y .2, omega (arith, low y .0, low y .1), c .before .start-of .ensures .1, pre .1, pre .3)
+    (low y .2, omega (arith, low y .0, low y .1), payload-low (y .before .before .before .before .before), c .before .start-of .ensures .1, pre .1, pre .3)
 
 store : tie.Need-slice-write-scratch Inv-loop μ-loop
 store c =
     let f = c .before .before .before in
     let y = f .before .before .before in
-    omega (arith, low y .0, low y .1, f .fits-from .kept .0)
+    omega (arith, low y .0, low y .1, f .fits2 .kept .0)
 
 -- a field has at most 65,538 bytes
 short : (c : tie.After-span-of Inv-loop μ-loop) → ((i : ℕ) → getD (now (c .before .before .before .loop .t)) i 0 < 256) → c .span-of .result ≤ 65538
@@ -101,7 +106,7 @@ walk-by-spec =
     (λ c. omega (arith, c .before .before .before .before .before .before .loop .inv .passed .walk .room))
     note-offset-requires
     (λ c κs. c .before .before .before .before .before .before .before .before .before .before .before .before .before .pre .2)
-    fits-from-requires
+    fits-requires
     (λ c. omega (arith, c .before .before .before .before .before .before .before .before .before .before .before .before .shared-slice-known2 .given 0))
     (λ c. omega (arith, store c))
     store
