@@ -150,8 +150,7 @@ module _ (k low high w : ℕ) (e : reaches k low high ≡ true) (h : w < 65536) 
   inside-only t =
       let both = and-left (leb (bound k 0) w && leb w (bound k 1)) _ t in
       let most = leb-true w (bound k 1) (and-right (leb (bound k 0) w) _ both) in
-      let other = eqb-false w (bound k 2) (not-true _ (and-right (leb (bound k 0) w && leb w (bound k 1)) _ t)) in
-      (
+      let other = eqb-false w (bound k 2) (not-true _ (and-right (leb (bound k 0) w && leb w (bound k 1)) _ t)) in (
         omega (arith, lowest, leb-true (bound k 0) w (and-left _ _ both)),
         ⊎-elim (λ x. omega (arith, most, x .0)) (λ x. let z : (w ≡ suc high → ⊥) = λ q. other (q ∙ sym (x .1)) in omega (arith, most, x .0)) highest,
       )

@@ -7,6 +7,10 @@ use crate::rows::is_child;
 use crate::rows::is_inside;
 use crate::rows::place_after;
 use crate::rows::wide32;
+use crate::starts::CHILDREN;
+use crate::starts::HIGH;
+use crate::starts::LOW;
+use crate::starts::SIZE;
 use crate::starts::STARTS;
 use crate::starts::WIDE_STARTS;
 use crate::starts::start_of;
@@ -117,13 +121,13 @@ fn fits_form(scratch: &mut [u32], i: usize, start: usize, p: &[u8]) -> bool
     ensures noted { λ r. ⌜ now (scratch .exit) ≡ note-row (lawful (tags-in (now (scratch .entry))) i) (now (scratch .entry)) i (first-in start) 0 (now (p .entry)) ⌝ }
 {
     let w = word(p, 0);
-    if w < start / 134217728 % 2 {
+    if w < start / LOW % 2 {
         return false;
     }
-    if start / 268435456 < w {
+    if start / HIGH < w {
         return false;
     }
-    let children = start / 33554432 % 4;
+    let children = start / CHILDREN % 4;
     if children == 0 {
         return true;
     }
@@ -148,7 +152,7 @@ fn fits(
     ensures fits { λ r. ⌜ r ≡ fits-row (lawful (tags-in (now (scratch .entry))) i) (first-in start) 0 (now (p .entry)) ⌝ }
     ensures noted { λ r. ⌜ now (scratch .exit) ≡ note-row (lawful (tags-in (now (scratch .entry))) i) (now (scratch .entry)) i (first-in start) 0 (now (p .entry)) ⌝ }
 {
-    if p.len() == start / 256 % 131072 {
+    if p.len() == start / SIZE % 131072 {
         return fits_form(scratch, i, start, p);
     }
     fits_from(scratch, rows, limits, i, start % 256, p)

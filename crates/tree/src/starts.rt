@@ -11,13 +11,13 @@ ghost use mathlib.Core.Path.{_≡_};
 ghost use Rattle.tree.specs.Rows.{start-of};
 ghost use Rattle.tree.specs.Starts.{start-list, first-in, Start};
 
-const SIZE: usize = 256;
+pub(crate) const SIZE: usize = 256;
 
-const CHILDREN: usize = 33554432;
+pub(crate) const CHILDREN: usize = 33554432;
 
-const LOW: usize = 134217728;
+pub(crate) const LOW: usize = 134217728;
 
-const HIGH: usize = 268435456;
+pub(crate) const HIGH: usize = 268435456;
 
 const ANY: usize = 65535 * HIGH;
 
