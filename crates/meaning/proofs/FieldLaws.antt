@@ -7,8 +7,9 @@ use Prim.Native.Nat.{ℕ, zero, suc, _+_, _-_, _<_, _≤_}
 use native.Mathlib.Nat.{le-refl}
 use native.Mathlib.Omega.{arith}
 use lib.ListN.{length, getD, take, drop, length-drop}
+use lib.Seq.{drop-drop}
 use borrow.Author.Tests.{leb-true, lt-leb}
-use Rattle.meaning.specs.Fields.{span, whole, Field, front, rest, fields-by, left-by, fields, left}
+use Rattle.meaning.specs.Fields.{span, whole, Field, front, rest, fields-by, left-by, fields, left, header}
 use Rattle.meaning.proofs.Lists.{tail-part, at-drop, drop-more, empty}
 
 -- the test, as a fact
@@ -109,3 +110,17 @@ walk-below s n t i w = omega (arith, ap length (fields-whole t w), i .count)
 -- a walk past every field has none left
 pub walk-done : (s : List ℕ) (n : ℕ) (t : List ℕ) → Walk s n t → length (fields s) ≤ n → fields t ≡ []
 walk-done s n t i h = empty (fields t) (omega (arith, i .count))
+
+-- the next header stands a field's span further
+header-next : (s : List ℕ) (i : ℕ) → header s (suc i) ≡ header s i + span (drop (header s i) s)
+unfolding header
+header-next s zero = omega arith
+header-next s (suc i) =
+    let r = rw (drop-drop (header (rest s) i) (span s) s) at (header-next (rest s) i) in
+    omega arith
+
+-- A walk that stands before field i stands at its header: t is the rest of the file from there on.
+pub header-part : (s : List ℕ) (i : ℕ) (t : List ℕ) (k : ℕ) → t ≡ drop (header s i) s → k ≡ span t → (header s (suc i) ≡ header s i + k) × (from k t ≡ drop (header s (suc i)) s)
+header-part s i t k e q =
+    let n : header s (suc i) ≡ header s i + k = header-next s i ∙ ap (λ (u : List ℕ). header s i + span u) (sym e) ∙ ap (λ (m : ℕ). header s i + m) (sym q) in
+    (n, tail-part k t ∙ rw e (drop-drop k (header s i) s) ∙ ap (λ (m : ℕ). drop m s) (sym n))

@@ -65,3 +65,8 @@ unfoldable pub words : List ℕ → List ℕ
 words [] = []
 words (a ∷ []) = []
 words (a ∷ b ∷ p) = (a * 256 + b) ∷ words p
+
+-- the byte at which the header of field i starts
+unfoldable pub header : List ℕ → ℕ → ℕ
+header s zero = 0
+header s (suc i) = span s + header (rest s) i

@@ -9,12 +9,12 @@ use native.Mathlib.Omega.{arith}
 use lib.ListN.{length, getD, take, drop, set, length-take, length-drop, length-set}
 use lib.Seq.{drop-drop, getD-drop, getD-set-same, getD-set-other}
 use borrow.Author.Count.{below-more}
-use Rattle.meaning.specs.Fields.{word-at, span, whole, Field, front, rest, fields, field-at}
+use Rattle.meaning.specs.Fields.{word-at, span, whole, Field, front, rest, fields, field-at, header}
 use Rattle.meaning.specs.At.{tag-of, file-words}
 use Rattle.meaning.proofs.Lists.{tail-part}
 use Rattle.meaning.proofs.FieldLaws.{whole-true, fields-whole, fields-cut}
 use Rattle.nodes.proofs.Words.{words-count}
-use Rattle.nodes.specs.Offsets.{header, Offsets, Readable, Filled}
+use Rattle.nodes.specs.Offsets.{Offsets, Readable, Filled}
 
 -- where there is a field, a whole one stands at the front
 some-whole : (s : List ℕ) → 1 ≤ length (fields s) → whole s ≡ true

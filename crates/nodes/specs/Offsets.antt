@@ -1,14 +1,9 @@
 -- The table of the nodes' offsets: word `base + i` of the work area is where field i starts in the tree.
-use Prim.Native.Nat.{ℕ, zero, suc, _+_, _<_, _≤_}
+use Prim.Native.Nat.{ℕ, _+_, _<_, _≤_}
 use mathlib.Core.Path.{_≡_}
 use mathlib.Core.List.{List}
 use lib.ListN.{length, getD}
-use Rattle.meaning.specs.Fields.{span, rest, fields}
-
--- the byte at which field i's header starts
-unfoldable pub header : List ℕ → ℕ → ℕ
-header s zero = 0
-header s (suc i) = span s + header (rest s) i
+use Rattle.meaning.specs.Fields.{fields, header}
 
 -- the table of a tree
 pub record Offsets (tree work : List ℕ) (base : ℕ) : Type 0 where

@@ -1,10 +1,10 @@
 -- The answer, a refusal at a time: what the code finds in the scratch is what the definition of refusals 3 to 6 says.
 use mathlib.Core.Path.{_≡_, refl, sym, ap, _∙_}
 use mathlib.Core.Bool.{Bool, true, false, _&&_, cond}
-use mathlib.Core.List.{List}
-use Prim.Native.Nat.{ℕ, zero, suc, _+_, _-_, _*_, _/_, _<_, _≤_}
+use mathlib.Core.List.{List, _++_}
+use Prim.Native.Nat.{ℕ, zero, suc, min, _+_, _-_, _*_, _/_, _<_, _≤_}
 use native.Mathlib.Omega.{arith}
-use lib.ListN.{length, getD, length-drop}
+use lib.ListN.{length, getD, replicate, length-drop}
 use lib.Dec.{leb, ltb}
 use borrow.Author.Tests.{eqb-true, eq-eqb, ne-eqb, lt-ltb, le-ltb, lt-leb, le-leb}
 use Rattle.meaning.specs.Base.{count, lowest}
@@ -19,8 +19,8 @@ use Rattle.meaning.proofs.Lists.{lowest-all, lowest-same}
 use Rattle.meaning.proofs.Modes.{fields-0}
 use Rattle.meaning.proofs.FieldLaws.{whole-true, whole-false, fields-whole, fields-cut}
 use Rattle.meaning.proofs.Kids.{shape-tag, shape-kids, parent-above, depth-same}
-use Rattle.tree.specs.Used.{few, used, zeroed, scratch-after}
-use Rattle.tree.specs.Scratch.{once, parent-in, Owned, depth-in, Entered, shape-by}
+use Rattle.tree.specs.Used.{few, used, zeroed, with-offsets, scratch-after}
+use Rattle.tree.specs.Scratch.{once, parent-in, Owned, depth-in, Entered, shape-by, Beyond}
 use Rattle.tree.proofs.Parents.{owner-is, once-is}
 
 -- a shape by the tree's own width is its shape
@@ -56,7 +56,7 @@ module _ (fs : List Field) (l : List ℕ) (n : ℕ) (v : Shapely fs l n) where
 
   -- 4: the lowest node that is not a child exactly once
   pub free-is : (k : ℕ) → k ≡ lowest (λ (c : ℕ). once (getD l c 0)) (n - 1) → k ≡ lowest (tree-at fs) (n - 1)
-  free-is k e = e ∙ lowest-same _ _ (n - 1) (λ c h. ap (λ (x : List ℕ). once (getD x c 0)) (v .entered .all)
+  free-is k e = e ∙ lowest-same _ _ (n - 1) (λ c h. ap once (v .entered .each c (omega arith))
       ∙ once-is l₀ fs c (omega arith) (omega arith) (omega arith) (tag c (omega arith)) (none c (omega arith)))
 
   module _ (trees : n - 1 ≤ lowest (tree-at fs) (n - 1)) where
@@ -68,7 +68,7 @@ module _ (fs : List Field) (l : List ℕ) (n : ℕ) (v : Shapely fs l n) where
     above c h = parent-above fs c good′ (omega (arith, is-child c h))
 
     owner : (c : ℕ) → c < n - 1 → (256 ≤ getD l c 0) × (parent-in l c ≡ parent-of fs c)
-    owner c h = rw (v .entered .all) (owner-is l₀ fs c (omega arith) (omega arith) (omega arith) (tag c (omega arith)) (none c (omega arith)) (is-child c h))
+    owner c h = rw (v .entered .each c (omega arith)) (owner-is l₀ fs c (omega arith) (omega arith) (omega arith) (tag c (omega arith)) (none c (omega arith)) (is-child c h))
 
     pub owned-is : Owned l n
     owned-is = record {
@@ -157,15 +157,15 @@ module _ (s : List ℕ) where
   module _ (mode : ℕ) (l : List ℕ) where
     -- no mode: it was not used
     pub kept-mode : 1 < mode → l ≡ scratch-after mode s l
-    unfolding scratch-after used
+    unfolding scratch-after used with-offsets
     kept-mode h = simp (lt-leb mode 1 h)
 
-    -- too short: neither
-    pub kept-short : mode ≤ 1 → length l < few (length s / 3) → l ≡ scratch-after mode s l
+    -- either mode uses it in the same way
+    pub either-mode : mode ≤ 1 → (l′ : List ℕ) → l′ ≡ scratch-after 0 s l → l′ ≡ scratch-after mode s l
     unfolding scratch-after used
-    kept-short m h = simp (le-leb mode 1 m, lt-leb _ _ h)
+    either-mode h l′ e = simp (le-leb mode 1 h) e
 
-    -- it was used, and cleared
-    pub zeroed-after : mode ≤ 1 → few (length s / 3) ≤ length l → (l′ : List ℕ) → l′ ≡ zeroed (few (length (fields s))) l → l′ ≡ scratch-after mode s l
-    unfolding scratch-after used
-    zeroed-after m h l′ e = simp (le-leb mode 1 m, le-leb _ _ h) e
+  -- n words were used and cleared, and n offsets noted
+  pub used-after : (l : List ℕ) (n : ℕ) → n ≡ min (few (length (fields s))) (length l / 2) → (l₁ l′ : List ℕ) → Beyond n (with-offsets s n l) l₁ → l′ ≡ zeroed n l₁ → l′ ≡ scratch-after 0 s l
+  unfolding scratch-after used
+  used-after l n en l₁ l′ b e = e ∙ ap (λ (m : List ℕ). replicate n 0 ++ m) (b .rest) ∙ ap (λ (k : ℕ). zeroed k (with-offsets s k l)) en

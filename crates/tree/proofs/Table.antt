@@ -513,14 +513,6 @@ module _ (row : ℕ) (is : List Item) (t : all-true (start-tests row is) ≡ tru
 
 -- as the code finds it for a node that is not the last
 module _ (wide : Bool) (tag : ℕ) where
-  pub start-low : start-of wide tag false < 163
-  unfolding start-of
-  start-low = go (is-program tag) (first-low (row-of wide tag) (items-in wide tag) (start-true wide tag))
-    where
-      go : (b : Bool) → cond b 77 (getD (first-rows wide) tag 0) < 163 → cond b 0 (getD (first-rows wide) tag 0) < 163
-      go true h = omega arith
-      go false h = h
-
   pub start-tag : tag < 0x1E → getD (first-rows wide) tag 0 ≡ start-of wide tag false
   unfolding start-of
   start-tag h = simp (ne-eqb tag 0x1E (λ q. omega arith), ne-eqb tag 0x3E (λ q. omega arith))

@@ -4,10 +4,10 @@ use mathlib.Core.Bool.{Bool, true, false, _&&_, cond}
 use mathlib.Core.List.{List, [], _∷_, _++_}
 use Prim.Native.Nat.{ℕ, _+_, _-_, _*_, _%_, _<_, _≤_}
 use native.Mathlib.Omega.{arith}
-use lib.ListN.{length, getD, set, drop, length-set, List·getD-map}
-use lib.Seq.{map-set-same, drop-set-lt, drop-drop}
+use lib.ListN.{length, getD, set, take, drop, length-set, length-take, List·getD-map}
+use lib.Seq.{map-set-same, set-out, take-set-le, take-set-lt, drop-set-lt, drop-set-add, drop-drop, getD-take}
 use lib.Dec.{ltb}
-use borrow.Author.Tests.{lt-ltb, le-ltb, ltb-true}
+use borrow.Author.Tests.{lt-ltb, le-ltb, ltb-true, ltb-false}
 use Rattle.meaning.specs.Grammar.{names, inside, lawful}
 use Rattle.meaning.proofs.Lists.{and-left, and-right}
 use Rattle.tree.specs.Rows.{row-at, kind-in, next-left, next-row, fits-row, kids-row}
@@ -91,6 +91,16 @@ beyond-then n a b c x y = record { size = y .size ∙ x .size; rest = y .rest �
 pub beyond-set : (n : ℕ) (l : List ℕ) (w v : ℕ) → w < n → Beyond n l (set l w v)
 beyond-set n l w v h = record { size = length-set l w v; rest = drop-set-lt n l w v h }
 
+-- the same store beyond n in both
+pub beyond-both : (n : ℕ) (a b : List ℕ) (w v : ℕ) → n ≤ w → Beyond n a b → Beyond n (set a w v) (set b w v)
+beyond-both n a b w v h x = record {
+  size = length-set b w v ∙ x .size ∙ sym (length-set a w v);
+  rest = stored b ∙ ap (λ (l : List ℕ). set l (w - n) v) (x .rest) ∙ sym (stored a);
+}
+  where
+    stored : (l : List ℕ) → drop n (set l w v) ≡ set (drop n l) (w - n) v
+    stored l = let e : n + (w - n) ≡ w = omega arith in ap (λ (k : ℕ). drop n (set l k v)) (sym e) ∙ drop-set-add n l (w - n) v
+
 pub beyond-more : (m n : ℕ) (a b : List ℕ) → m ≤ n → Beyond m a b → Beyond n a b
 beyond-more m n a b h x = record {
   size = x .size;
@@ -157,3 +167,18 @@ pub all-tags : (l : List ℕ) (i : ℕ) (ws : List ℕ) → tags-in (note-all l 
 unfolding note-all
 all-tags l i [] = refl
 all-tags l i (w ∷ ws) = all-tags (note l i w) i ws ∙ note-tags l i w
+
+-- ---- the words below h go by those below h alone
+
+take-note : (h : ℕ) (l : List ℕ) (i w : ℕ) → take h (note l i w) ≡ note (take h l) i w
+unfolding note
+take-note h l i w = go (ltb w h) refl
+  where
+    go : (b : Bool) → ltb w h ≡ b → take h (set l w (noted (getD l w 0) i)) ≡ set (take h l) w (noted (getD (take h l) w 0) i)
+    go true e = take-set-lt h l w _ (ltb-true w h e) ∙ ap (λ (v : ℕ). set (take h l) w (noted v i)) (sym (getD-take h l w 0 (ltb-true w h e)))
+    go false e = take-set-le h l w _ (ltb-false w h e) ∙ sym (set-out (take h l) w _ (omega (arith, length-take h l, ltb-false w h e)))
+
+pub take-all-noted : (h : ℕ) (l : List ℕ) (i : ℕ) (ws : List ℕ) → take h (note-all l i ws) ≡ note-all (take h l) i ws
+unfolding note-all
+take-all-noted h l i [] = refl
+take-all-noted h l i (w ∷ ws) = take-all-noted h (note l i w) i ws ∙ ap (λ (m : List ℕ). note-all m i ws) (take-note h l i w)

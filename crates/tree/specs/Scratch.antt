@@ -55,11 +55,17 @@ pub record Beyond (n : ℕ) (a b : List ℕ) : Type 0 where
   pub size : length b ≡ length a
   pub rest : drop n b ≡ drop n a
 
--- the words as after all nodes, whatever they were before
+-- the words of the nodes as after all nodes, whatever they were before
 pub record Entered (wide : Bool) (fs : List Field) (l : List ℕ) : Type 0 where
   pub before : List ℕ
-  pub size : length l ≡ length before
-  pub all : l ≡ enter-all wide before 0 fs
+  pub room : length fs ≤ length before
+  pub each : (c : ℕ) → c < length fs → getD l c 0 ≡ getD (enter-all wide before 0 fs) c 0
+
+-- the words of the first `limit` nodes, at the front, and the offsets of the first `notes`, at the end, have room beside each other
+pub record Apart (limit notes : ℕ) (l : List ℕ) : Type 0 where
+  pub judged : limit ≤ 32768
+  pub noted : notes ≤ 32768
+  pub room : limit + notes ≤ length l
 
 -- the shape of node i is right, judged by marks of a width; `shape-at` is that of the tree's own width
 unfoldable pub shape-by : (wide : Bool) → List Field → ℕ → Bool

@@ -3,6 +3,7 @@ mod owners;
 mod retired;
 mod rows;
 mod shape;
+mod starts;
 
 use meaning::Cause;
 use meaning::Outcome;
@@ -13,7 +14,7 @@ ghost use lib.ListN.{length};
 ghost use Rattle.meaning.specs.Fields.{fields};
 ghost use Rattle.meaning.specs.Grammar.{wide-marks};
 ghost use Rattle.meaning.specs.Check.{checked-tree, checked};
-ghost use Rattle.tree.specs.Used.{few, zeroed, scratch-after};
+ghost use Rattle.tree.specs.Used.{few, scratch-after};
 ghost use Rattle.tree.specs.Scratch.{Beyond, Found};
 
 // n, but 32,768 at most: a tree has no more nodes.
@@ -59,17 +60,14 @@ fn judged(tree: &[u8], scratch: &mut [u32], walked: Walked, work_len: usize) -> 
     Outcome::Accepted(n)
 }
 
-// The same with the walk. The words that it uses are zero afterwards.
+// The same with the walk, in a scratch that nobody reads afterwards: every node is judged, and no offset noted.
 fn check_with(tree: &[u8], scratch: &mut [u32], work_len: usize) -> Outcome
     requires { ⌜ few (length (fields (now tree))) ≤ length (now scratch) ⌝ }
-    ensures outcome { λ r. ⌜ r ≡ checked-tree 0 (now (tree .entry)) «work_len» ⌝ }
-    ensures scratch { λ _. ⌜ now (scratch .exit) ≡ zeroed (few (length (fields (now (tree .entry))))) (now (scratch .entry)) ⌝ }
+    ensures { λ r. ⌜ r ≡ checked-tree 0 (now (tree .entry)) «work_len» ⌝ }
 {
-    let walked = shape::walk(scratch, tree);
-    let n = few(walked.count);
-    let outcome = judged(tree, scratch, walked, work_len);
-    owners::clear(scratch, n);
-    outcome
+    let limit = few(scratch.len());
+    let walked = shape::walk(scratch, tree, limit, 0);
+    judged(tree, scratch, walked, work_len)
 }
 
 // The same in a large scratch of its own. Inlined, that would be a part of every caller's frame; a function that may call itself is not, so this one may: no file is so long that it does.
@@ -108,7 +106,25 @@ pub fn check(tree: &[u8], work_len: usize, mode: u64) -> Outcome
     retired::over(tree, judged)
 }
 
-// The same. The scratch serves where the mode is one and it has a word for each field that there may be.
+// The same as in mode 0, in a scratch that is lent: one half of it serves the check, and at the end of the other stand the offsets. A tree of more nodes than
+// a half has words is judged in a scratch of the check's own; no work area of that length would be enough for it.
+fn check_lent(tree: &[u8], scratch: &mut [u32], work_len: usize) -> Outcome
+    ensures outcome { λ r. ⌜ r ≡ checked-tree 0 (now (tree .entry)) «work_len» ⌝ }
+    ensures scratch { λ _. ⌜ now (scratch .exit) ≡ scratch-after 0 (now (tree .entry)) (now (scratch .entry)) ⌝ }
+{
+    let limit = few(scratch.len() / 2);
+    let walked = shape::walk(scratch, tree, limit, limit);
+    let n = few(walked.count);
+    if limit < n {
+        owners::clear(scratch, limit);
+        return check_alone(tree, work_len);
+    }
+    let outcome = judged(tree, scratch, walked, work_len);
+    owners::clear(scratch, n);
+    outcome
+}
+
+// What `check` answers. Where the mode is one, the scratch then has the offsets of the nodes at its end, as the lowering reads them.
 pub fn check_in(tree: &[u8], scratch: &mut [u32], work_len: usize, mode: u64) -> Outcome
     ensures outcome { λ r. ⌜ r ≡ checked mode (now (tree .entry)) «work_len» ⌝ }
     ensures scratch { λ _. ⌜ now (scratch .exit) ≡ scratch-after mode (now (tree .entry)) (now (scratch .entry)) ⌝ }
@@ -116,10 +132,7 @@ pub fn check_in(tree: &[u8], scratch: &mut [u32], work_len: usize, mode: u64) ->
     if mode > 1 {
         return check(tree, work_len, mode);
     }
-    if scratch.len() < few(tree.len() / 3) {
-        return check(tree, work_len, mode);
-    }
-    let judged = check_with(tree, scratch, work_len);
+    let judged = check_lent(tree, scratch, work_len);
     if mode == 0 {
         return judged;
     }

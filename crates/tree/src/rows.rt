@@ -5,13 +5,12 @@
 //     DONE      times the row of the word after it
 //     ENDS      the payload may end before this word
 // specs/Rows.antt has the same table, and proofs/Table.antt proves that it says what the grammar of 01 and of 02, E5, says.
-use fields::wide;
 ghost use mathlib.Core.Path.{_≡_};
 ghost use Prim.Native.Nat.{_-_, _<_};
 ghost use mathlib.Core.Bool.{cond};
 ghost use lib.Dec.{eqb};
 ghost use Rattle.meaning.specs.Grammar.{bounds, bound, inside, names};
-ghost use Rattle.tree.specs.Rows.{first-rows, next-left, next-row, start-of};
+ghost use Rattle.tree.specs.Rows.{next-left, next-row};
 
 const NONE: u32 = 0;
 
@@ -256,74 +255,6 @@ pub(crate) const ROWS: [u32; 163] = [
     METHOD + 162 * NEXT + ENDS,
 ];
 
-// The first row of each tag but a program's, from 00 on; 0 for a number that is no tag.
-pub(crate) const STARTS: [u8; 30] = [
-    0,
-    2,
-    6,
-    7,
-    8,
-    10,
-    13,
-    17,
-    21,
-    24,
-    0,
-    0,
-    0,
-    0,
-    0,
-    0,
-    28,
-    29,
-    32,
-    33,
-    36,
-    41,
-    48,
-    49,
-    50,
-    52,
-    59,
-    61,
-    65,
-    71,
-];
-
-// The same in a tree of wide marks: tags that have no mark share their rows.
-pub(crate) const WIDE_STARTS: [u8; 30] = [
-    0,
-    2,
-    6,
-    7,
-    78,
-    81,
-    85,
-    90,
-    95,
-    99,
-    0,
-    0,
-    0,
-    0,
-    0,
-    0,
-    28,
-    104,
-    32,
-    108,
-    112,
-    118,
-    128,
-    130,
-    132,
-    135,
-    59,
-    143,
-    148,
-    156,
-];
-
 // Of each kind the lowest, the highest and one more that is not lawful: of the word, and from EXPR on of the child's tag.
 pub(crate) const LIMITS: [u32; 36] = [
     // NONE
@@ -430,23 +361,6 @@ pub(crate) fn place_after(row: usize, left: usize, w: usize) -> Place
         at: row / 16 % 256,
         left: more,
     }
-}
-
-// The first row of a node: the last node is a program, and no other is. The contract alone reads whether marks have four bytes, as the starts say.
-pub(crate) fn start_of(starts: &[u8; 30], four: bool, tag: u8, last: bool) -> usize
-    requires { ⌜ now starts ≡ first-rows four ⌝ }
-    ensures { λ r. ⌜ (r ≡ start-of four tag last) × (r < 163) ⌝ }
-{
-    if last {
-        if (tag == 0x1E) | (tag == 0x3E) {
-            return 77;
-        }
-        return 0;
-    }
-    if tag < 0x1E {
-        return wide(starts[wide(tag)]);
-    }
-    0
 }
 
 fn limit_at(limits: &[u32; 36], kind: usize, column: usize) -> usize

@@ -36,4 +36,4 @@ pub +check-large-spec : {M : Type 1} → statement M
     (λ c κs. (search needs, tt))
     (λ c. sym (length-replicate {A = ℕ} 32768 0))
     (λ c κs. room-enough _ 32768 (omega arith))
-    (λ c. c .before .check-with .ensures .0)
+    (λ c. c .before .check-with .ensures)

@@ -11,6 +11,6 @@ check-alone-spec =
     (tie.spec
     (λ c. search needs)
     (λ c κs. room-enough _ 4096 (omega (arith, c .before .if1 .taken)))
-    (λ c. c .before .check-with .ensures .0)
+    (λ c. c .before .check-with .ensures)
     (λ c κs. tt)
     (λ c. c .check-large .ensures))
