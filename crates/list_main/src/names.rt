@@ -7,8 +7,20 @@ ghost use Rattle.meaning.specs.Opcode.{Class, ClassMeth, ClassStMeth};
 ghost use lib.Dec.{eqb};
 ghost use lib.ListN.{length};
 
-// Puts the name of an opcode at a place, and a blank behind it.
+// Puts the name of an opcode at a place, and a blank behind it. In four parts, since the time to prove a match grows with the square of its arms.
 pub(crate) fn name(text: &mut [u8], at: usize, opcode: u8) -> usize
+    requires { ⌜ at + 18 < length (now text) ⌝ }
+    ensures { λ r. ⌜ r ≤ at + 19 ⌝ }
+{
+    match opcode {
+        0..=10 => name_to_10(text, at, opcode),
+        11..=20 => name_to_20(text, at, opcode),
+        21..=36 => name_to_36(text, at, opcode),
+        _ => name_to_50(text, at, opcode),
+    }
+}
+
+fn name_to_10(text: &mut [u8], at: usize, opcode: u8) -> usize
     requires { ⌜ at + 18 < length (now text) ⌝ }
     ensures { λ r. ⌜ r ≤ at + 19 ⌝ }
 {
@@ -23,7 +35,15 @@ pub(crate) fn name(text: &mut [u8], at: usize, opcode: u8) -> usize
         7 => word(text, at, b"Div", b' '),
         8 => word(text, at, b"Mod", b' '),
         9 => word(text, at, b"Mul", b' '),
-        10 => word(text, at, b"Pow", b' '),
+        _ => word(text, at, b"Pow", b' '),
+    }
+}
+
+fn name_to_20(text: &mut [u8], at: usize, opcode: u8) -> usize
+    requires { ⌜ at + 18 < length (now text) ⌝ }
+    ensures { λ r. ⌜ r ≤ at + 19 ⌝ }
+{
+    match opcode {
         11 => word(text, at, b"Lt", b' '),
         12 => word(text, at, b"Gt", b' '),
         13 => word(text, at, b"Lte", b' '),
@@ -33,13 +53,29 @@ pub(crate) fn name(text: &mut [u8], at: usize, opcode: u8) -> usize
         17 => word(text, at, b"Not", b' '),
         18 => word(text, at, b"Neg", b' '),
         19 => word(text, at, b"Call", b' '),
-        20 => word(text, at, b"Return", b' '),
+        _ => word(text, at, b"Return", b' '),
+    }
+}
+
+fn name_to_36(text: &mut [u8], at: usize, opcode: u8) -> usize
+    requires { ⌜ at + 18 < length (now text) ⌝ }
+    ensures { λ r. ⌜ r ≤ at + 19 ⌝ }
+{
+    match opcode {
         22 => word(text, at, b"GetUpval", b' '),
         23 => word(text, at, b"Closure", b' '),
         31 => word(text, at, b"Class", b' '),
         32 => word(text, at, b"ClassMeth", b' '),
         33 => word(text, at, b"ClassStMeth", b' '),
-        36 => word(text, at, b"Addi", b' '),
+        _ => word(text, at, b"Addi", b' '),
+    }
+}
+
+fn name_to_50(text: &mut [u8], at: usize, opcode: u8) -> usize
+    requires { ⌜ at + 18 < length (now text) ⌝ }
+    ensures { λ r. ⌜ r ≤ at + 19 ⌝ }
+{
+    match opcode {
         38 => word(text, at, b"GetIter", b' '),
         39 => word(text, at, b"GetIterk", b' '),
         40 => word(text, at, b"GetIteri", b' '),
