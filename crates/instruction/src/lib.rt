@@ -1,6 +1,6 @@
 // The port of src/instruction.rs: opcodes, what an instruction's b and c hold, and the 16-bit offset of a jump. `imm` is left out.
 ghost use mathlib.Core.Path.{_≡_};
-ghost use Rattle.meaning.specs.Opcode.{table, opcode-of, bx, back, is-continue, is-break};
+ghost use Rattle.meaning.specs.Opcode.{opcode-table, opcode-of, bx, back, is-continue, is-break};
 ghost use mathlib.Core.List.{map};
 ghost use Rattle.instruction.specs.Offset.{signed, sbx, halves-of};
 use meaning::Instruction;
@@ -62,7 +62,7 @@ pub enum OpCode {
 
 // The number of every opcode, in their order: that `as u8` gives the numbers of the one table, row for row.
 pub fn numbers() -> [u8; 51]
-    ensures { λ r. ⌜ r ≡ map opcode-of table ⌝ }
+    ensures { λ r. ⌜ r ≡ map opcode-of opcode-table ⌝ }
 {
     [
         OpCode::Move as u8,

@@ -170,89 +170,89 @@ pub data Meets : Type 0 where
 
 -- a row: an opcode that this lowering writes, and what it meets; or one that it does not write
 pub data Row : Type 0 where
-  written : (opcode : ℕ) → Meets → Row
-  unwritten : (opcode : ℕ) → Row
+  is-written : (opcode : ℕ) → Meets → Row
+  not-written : (opcode : ℕ) → Row
 
 -- the one table, in the order of `OpCode`; proofs/Table proves that its rows are numbered from 0 to 50
-abbrev pub table : Core.List Row
-table =
-    written Move of-ab ∷
-    written LoadK of-a ∷
-    written LoadNil of-a ∷
-    written Jmp of-none ∷
-    written Test of-ab ∷
-    written Add of-abc ∷
-    written Sub of-abc ∷
-    written Div of-abc ∷
-    written Mod of-abc ∷
-    written Mul of-abc ∷
-    written Pow of-abc ∷
-    written Lt of-abc ∷
-    written Gt of-abc ∷
-    written Lte of-abc ∷
-    written Gte of-abc ∷
-    written Eq of-abc ∷
-    written Neq of-abc ∷
-    written Not of-ab ∷
-    written Neg of-ab ∷
-    written Call of-call ∷
-    written Return of-return ∷
-    unwritten SetUpval ∷
-    written GetUpval of-a ∷
-    written Closure of-a ∷
-    unwritten List ∷
-    unwritten PushList ∷
-    unwritten Dict ∷
-    unwritten PushDict ∷
-    unwritten Slice ∷
-    unwritten Access ∷
-    unwritten Set ∷
-    written Class of-abc ∷
-    written ClassMeth of-abc ∷
-    written ClassStMeth of-abc ∷
-    unwritten GetObj ∷
-    unwritten SetObj ∷
-    written Addi of-ab ∷
-    unwritten Subi ∷
-    written GetIter of-abc ∷
-    written GetIterk of-abc ∷
-    written GetIteri of-ab ∷
-    written Length of-ab ∷
-    unwritten Super ∷
-    unwritten This ∷
-    written GetGlobal of-a ∷
-    written SetGlobal of-a ∷
-    written GetCurrentFunc of-a ∷
-    written GetBuiltin of-a ∷
-    written RegisterTryCatch of-none ∷
-    written DeregisterTryCatch of-none ∷
-    written GetExcept of-a ∷
+abbrev pub opcode-table : Core.List Row
+opcode-table =
+    is-written Move of-ab ∷
+    is-written LoadK of-a ∷
+    is-written LoadNil of-a ∷
+    is-written Jmp of-none ∷
+    is-written Test of-ab ∷
+    is-written Add of-abc ∷
+    is-written Sub of-abc ∷
+    is-written Div of-abc ∷
+    is-written Mod of-abc ∷
+    is-written Mul of-abc ∷
+    is-written Pow of-abc ∷
+    is-written Lt of-abc ∷
+    is-written Gt of-abc ∷
+    is-written Lte of-abc ∷
+    is-written Gte of-abc ∷
+    is-written Eq of-abc ∷
+    is-written Neq of-abc ∷
+    is-written Not of-ab ∷
+    is-written Neg of-ab ∷
+    is-written Call of-call ∷
+    is-written Return of-return ∷
+    not-written SetUpval ∷
+    is-written GetUpval of-a ∷
+    is-written Closure of-a ∷
+    not-written List ∷
+    not-written PushList ∷
+    not-written Dict ∷
+    not-written PushDict ∷
+    not-written Slice ∷
+    not-written Access ∷
+    not-written Set ∷
+    is-written Class of-abc ∷
+    is-written ClassMeth of-abc ∷
+    is-written ClassStMeth of-abc ∷
+    not-written GetObj ∷
+    not-written SetObj ∷
+    is-written Addi of-ab ∷
+    not-written Subi ∷
+    is-written GetIter of-abc ∷
+    is-written GetIterk of-abc ∷
+    is-written GetIteri of-ab ∷
+    is-written Length of-ab ∷
+    not-written Super ∷
+    not-written This ∷
+    is-written GetGlobal of-a ∷
+    is-written SetGlobal of-a ∷
+    is-written GetCurrentFunc of-a ∷
+    is-written GetBuiltin of-a ∷
+    is-written RegisterTryCatch of-none ∷
+    is-written DeregisterTryCatch of-none ∷
+    is-written GetExcept of-a ∷
     []
 
 -- the opcode of a row
 abbrev pub opcode-of : Row → ℕ
-opcode-of (written o m) = o
-opcode-of (unwritten o) = o
+opcode-of (is-written o m) = o
+opcode-of (not-written o) = o
 
 -- the opcodes that rows say are written
 abbrev pub written-in : Core.List Row → Core.List ℕ
 written-in [] = []
-written-in (written o m ∷ rows) = o ∷ written-in rows
-written-in (unwritten o ∷ rows) = written-in rows
+written-in (is-written o m ∷ rows) = o ∷ written-in rows
+written-in (not-written o ∷ rows) = written-in rows
 
 -- "opcodes that this lowering writes" (E1)
 abbrev pub opcodes-written : Core.List ℕ
-opcodes-written = written-in table
+opcodes-written = written-in opcode-table
 
 -- what rows say that an opcode meets; "of the rest a"
 abbrev pub meets-in : Core.List Row → (opcode : ℕ) → Meets
 meets-in [] n = of-a
-meets-in (written o m ∷ rows) n = cond (eqb n o) m (meets-in rows n)
-meets-in (unwritten o ∷ rows) n = meets-in rows n
+meets-in (is-written o m ∷ rows) n = cond (eqb n o) m (meets-in rows n)
+meets-in (not-written o ∷ rows) n = meets-in rows n
 
 -- what an opcode meets
 abbrev pub meets : (opcode : ℕ) → Meets
-meets n = meets-in table n
+meets n = meets-in opcode-table n
 
 -- ---- struct Instruction, with its mark (struct InstSrc)
 
