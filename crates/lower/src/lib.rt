@@ -2,7 +2,6 @@
 use meaning::Outcome;
 use meaning::Reply;
 use store::OFFSETS;
-use store::Scope;
 use store::Step;
 ghost use mathlib.Core.Path.{_≡_};
 ghost use mathlib.Core.List.{_++_};
@@ -69,14 +68,8 @@ fn lower_checked(tree: &[u8], work: &mut [u32], out: &mut [u8], n: usize, mode: 
     ensures { λ r. ⌜ Ending (finished mode (now (tree .entry)) (length (now (work .entry))) (length (now (out .entry)))) (now (out .exit)) r × Counted (now (tree .entry)) (now (work .exit)) r ⌝ }
 {
     let first = set_up(tree, work, n);
-    let main = Scope {
-        nodes: n,
-        depth: 0,
-        block: 1,
-        loops: 0,
-        mode: mode as usize,
-        wide: width_of(tree, work, n),
-    };
+    let wide = width_of(tree, work, n);
+    let main = store::main_scope(mode as usize, wide, n);
     let last = n - 1;
     let count = nodes::count_of(tree, work, OFFSETS + 15 * n, last);
     let rowed = cycle::row(tree, work, out, first, main, last, 0, count, 0);

@@ -21,20 +21,21 @@ width-of-requires c κs =
 
 count-of-requires : tie.Need-count-of-requires
 count-of-requires c κs =
-    let start = c .before .before .before .before .before .before .before .before .before .before in
-    let set-up = c .before .before .before .before .before .set-up in
+    let start = c .before .before .before .before .before .before .before .before .before .before .before in
+    let set-up = c .before .before .before .before .before .before .set-up in
     let a = start .args in
     last-readable (a .mode) (now (a .tree)) (length (now (a .work))) (a .n) (start .pre) (set-up .ensures .1)
 
 row-requires : tie.Need-row-requires
 row-requires c κs =
-    let start = c .before .before .before .before .before .before .before .before .before .before .before .before .before in
-    let set-up = c .before .before .before .before .before .before .before .before .set-up in
-    let width-of = c .before .before .before .before .width-of in
+    let start = c .before .before .before .before .before .before .before .before .before .before .before .before .before .before in
+    let set-up = c .before .before .before .before .before .before .before .before .before .set-up in
+    let width-of = c .before .before .before .before .before .width-of in
+    let main-scope = c .before .before .before .before .main-scope in
     let count-of = c .before .before .count-of in
     let a = start .args in
     let all = program-size (a .mode) (now (a .tree)) (length (now (a .work))) (a .n) (start .pre) (set-up .ensures .1) in
-    rw (set-up .ensures .0, count-of .ensures .0, all) (row-asked (a .mode) (now (a .tree)) (length (now (a .work))) (a .n) (start .pre) (set-up .ensures .1) (width-of .ensures))
+    rw (main-scope .ensures, set-up .ensures .0, count-of .ensures .0, all) (row-asked (a .mode) (now (a .tree)) (length (now (a .work))) (a .n) (start .pre) (set-up .ensures .1) (width-of .ensures))
 
 finish-requires : tie.Need-finish-requires
 finish-requires c κs =
@@ -43,21 +44,22 @@ finish-requires c κs =
 
 returns : tie.Need-returns
 returns c =
-    let start = c .before .before .before .before .before .before .before .before .before .before .before .before .before .before .before .before .before .before .before .before .before .before .before .before .before .before .before .before in
-    let set-up = c .before .before .before .before .before .before .before .before .before .before .before .before .before .before .before .before .before .before .before .before .before .before .before .set-up in
-    let width-of = c .before .before .before .before .before .before .before .before .before .before .before .before .before .before .before .before .before .before .before .width-of in
+    let start = c .before .before .before .before .before .before .before .before .before .before .before .before .before .before .before .before .before .before .before .before .before .before .before .before .before .before .before .before .before in
+    let set-up = c .before .before .before .before .before .before .before .before .before .before .before .before .before .before .before .before .before .before .before .before .before .before .before .before .set-up in
+    let width-of = c .before .before .before .before .before .before .before .before .before .before .before .before .before .before .before .before .before .before .before .before .width-of in
+    let main-scope = c .before .before .before .before .before .before .before .before .before .before .before .before .before .before .before .before .before .before .before .main-scope in
     let count-of = c .before .before .before .before .before .before .before .before .before .before .before .before .before .before .before .before .before .count-of in
     let row = c .before .before .before .before .before .before .before .before .before .before .before .before .before .before .row in
     let end-program = c .before .before .before .before .before .before .before .end-program in
     let finish = c .before .before .finish in
     let a = start .args in
     let all = program-size (a .mode) (now (a .tree)) (length (now (a .work))) (a .n) (start .pre) (set-up .ensures .1) in
-    let rows = rw (set-up .ensures .0, count-of .ensures .0, all) at (row .ensures) in
-    whole (a .mode) (now (a .tree)) (length (now (a .work))) (a .n) (start .pre) (width-of .ensures) (set-up .ensures .1) rows (end-program .ensures) (finish .ensures)
+    let rows = rw (main-scope .ensures, set-up .ensures .0, count-of .ensures .0, all) at (row .ensures) in
+    whole (a .mode) (now (a .tree)) (length (now (a .work))) (a .n) (start .pre) (width-of .ensures) (set-up .ensures .1) rows (rw (main-scope .ensures) at (end-program .ensures)) (finish .ensures)
 
 same-length : tie.Need-same-length
 same-length c =
-    let set-up = c .before .before .before .before .before .before .before .before .before .before .before .before .before .before .before .before .before .before .before .before .before .before .before .set-up in
+    let set-up = c .before .before .before .before .before .before .before .before .before .before .before .before .before .before .before .before .before .before .before .before .before .before .before .before .set-up in
     let row = c .before .before .before .before .before .before .before .before .before .before .before .before .before .before .row in
     row .ensures .does .moves .kept .same ∙ set-up .kept .1 .0
 
@@ -67,9 +69,10 @@ lower-checked-spec =
     (tie.spec
     (λ c κs. ((c .before .before .before .before) .args .mode, (c .before .before .before .before) .pre))
     width-of-requires
-    (λ c. omega (arith, (c .before .before .before .before .set-up) .ensures .1 .fine 0 0 .sound .some))
-    (λ c. omega (arith, (c .before .before .before .before .before .set-up) .ensures .1 .fine 0 0 .sound .few))
-    (λ c. omega (arith, (c .before .before .before .before .before .set-up) .ensures .1 .fine 0 0 .sound .few))
+    (λ c κs. tt)
+    (λ c. omega (arith, (c .before .before .before .before .before .set-up) .ensures .1 .fine 0 0 .sound .some))
+    (λ c. omega (arith, (c .before .before .before .before .before .before .set-up) .ensures .1 .fine 0 0 .sound .few))
+    (λ c. omega (arith, (c .before .before .before .before .before .before .set-up) .ensures .1 .fine 0 0 .sound .few))
     count-of-requires
     row-requires
     (λ c κs. search needs)
