@@ -290,15 +290,21 @@ module _ (fs : List Field) (i : ℕ) where
         )
 
     -- the third, of a try
-    pub heads-2 : (a b c : ℕ) → items-of (tag-of fs i) ≡ one a ∷ one b ∷ one markkind ∷ one c ∷ [] → eqb a markkind ≡ false → eqb b markkind ≡ false → eqb c markkind ≡ false → Heads fs i 2
+    pub heads-2 : (a b c : ℕ) → items-of (tag-of fs i) ≡ one a ∷ one b ∷ one markkind ∷ one c ∷ [] → eqb a markkind ≡ false → eqb b markkind ≡ false → eqb c markkind ≡ false → Heads fs i 2 × Behind fs i 3 (extra w)
     unfolding least marked kind-of due-after unmarked
     heads-2 a b c e na nb nc =
         let l = words-many (one a ∷ one b ∷ one markkind ∷ one c ∷ []) e in
+        let v = file-many (one a ∷ one b ∷ one markkind ∷ one c ∷ []) e in
         let x = plain w ws vs (one a ∷ one b ∷ one markkind ∷ one c ∷ []) 0 0 na (rw e at from-first) (omega (arith, l)) in
         let y = plain w ws vs (one b ∷ one markkind ∷ one c ∷ []) 1 1 nb (x .1) (omega (arith, l)) in
         let z = marks w ws vs (one markkind ∷ one c ∷ []) 2 2 refl (y .1) (omega (arith, l)) in
         let r = rest w ws vs (one c ∷ []) 3 (3 + extra w) (rw nc) (subst (From w ws vs (one c ∷ []) 3) (let q : 2 + (1 + extra w) ≡ 3 + extra w = omega arith in q) (z .1)) in
-        record { before = λ k p q. two k p (x .0) (y .0); mark = λ p. z .0; after = λ k p q. after-by 3 (extra w) r k (omega arith) }
+        let la = rw na at (least-one a (one b ∷ one markkind ∷ one c ∷ [])) in
+        let lb = rw nb at (least-one b (one markkind ∷ one c ∷ [])) in
+        let lm = least-one markkind (one c ∷ []) in (
+          record { before = λ k p q. two k p (x .0) (y .0); mark = λ p. z .0; after = λ k p q. after-by 3 (extra w) r k (omega arith) },
+          behind 3 (extra w) r (omega (arith, l)) (omega (arith, v, la, lb, lm)),
+        )
       where
         two : (k : ℕ) → k < 2 → at ws 0 ≡ at vs 0 → at ws 1 ≡ at vs 1 → at ws k ≡ at vs k
         two zero l p q = p
