@@ -21,7 +21,7 @@ use Rattle.tree.proofs.Payloads.{Fitting, fitting-start, fitting-more, 
 -- ---- words that name no child
 
 module _ (ts l : List ℕ) (i k w : ℕ) (h : k < 6) where
-  pub plain-lawful : lawful ts i k w ≡ inside k w
+  plain-lawful : lawful ts i k w ≡ inside k w
   unfolding lawful names
   plain-lawful = simp (lt-ltb k 6 h)
 
@@ -29,24 +29,9 @@ module _ (ts l : List ℕ) (i k w : ℕ) (h : k < 6) where
   unfolding note-word names
   plain-noted = simp (lt-ltb k 6 h)
 
-any-inside : (w : ℕ) → w < 65536 → inside any w ≡ true
+pub any-inside : (w : ℕ) → w < 65536 → inside any w ≡ true
 unfolding inside bound bounds
 any-inside w h = simp (le-leb 0 w (omega arith), le-leb w 65535 (omega arith), ne-eqb w 65536 (λ q. omega arith))
-
--- ---- expressions: every word names one, and their tags are 01 to 09
-
-pub expr-names : (w : ℕ) → names expr w ≡ true
-unfolding names
-expr-names w = refl
-
-pub expr-inside : (v : ℕ) → v < 256 → inside expr v ≡ ltb 0 v && ltb v 10
-unfolding inside bound bounds
-expr-inside v h = go (ltb 0 v) (ltb v 10) refl refl
-  where
-    go : (a b : Bool) → ltb 0 v ≡ a → ltb v 10 ≡ b → leb 1 v && leb v 9 && not (eqb v 65536) ≡ a && b
-    go true true e f = simp (le-leb 1 v (omega (arith, ltb-true 0 v e)), le-leb v 9 (omega (arith, ltb-true v 10 f)), ne-eqb v 65536 (λ q. omega arith))
-    go true false e f = simp (le-leb 1 v (omega (arith, ltb-true 0 v e)), lt-leb v 9 (omega (arith, ltb-false v 10 f)))
-    go false b e f = simp (lt-leb 1 v (omega (arith, ltb-false 0 v e)))
 
 -- ---- the loop, a word at a time along rows of known kinds
 

@@ -19,12 +19,12 @@ use fields::payload;
 use fields::span_of;
 use fields::word;
 ghost use mathlib.Core.Path.{_≡_};
-ghost use mathlib.Core.Bool.{cond};
+ghost use mathlib.Core.Bool.{true, cond};
 ghost use Prim.Native.Nat.{suc, min, _-_, _<_, _≤_};
 ghost use lib.ListN.{length, set};
 ghost use lib.Dec.{ltb};
 ghost use Rattle.meaning.specs.Fields.{fields};
-ghost use Rattle.meaning.specs.Grammar.{bounds, expr, lawful, wide-marks};
+ghost use Rattle.meaning.specs.Grammar.{bounds, bound, expr, stmt, names, lawful, wide-marks};
 ghost use Rattle.tree.specs.Rows.{row-list, fits-row};
 ghost use Rattle.tree.specs.Starts.{start-list, first-in, size-in, Start};
 ghost use Rattle.tree.specs.Scratch.{tags-in, note, note-word, note-row, last-tag, Beyond, Found, Apart};
@@ -43,12 +43,55 @@ fn note(scratch: &mut [u32], i: usize, w: usize)
     }
 }
 
-// The word w of this kind is lawful in node i. If it names a child, that is noted.
-fn admit(scratch: &mut [u32], limits: &[u32; 36], i: usize, kind: usize, w: usize) -> bool
-    requires { ⌜ (i < 32768) × (i ≤ length (now scratch)) × (kind < 12) × (now limits ≡ bounds) ⌝ }
+// The word w is lawful as a child of node i, of a kind whose tags are from `low` to `high` without `but`. That is noted.
+fn child(scratch: &mut [u32], i: usize, kind: usize, low: u32, high: u32, but: u32, w: usize) -> bool
+    requires { ⌜ (i < 32768) × (i ≤ length (now scratch)) × (names kind w ≡ true) × (bound kind 0 ≡ low) × (bound kind 1 ≡ high) × (bound kind 2 ≡ but) ⌝ }
     ensures lawful { λ r. ⌜ r ≡ lawful (tags-in (now (scratch .entry))) i kind w ⌝ }
     ensures noted { λ r. ⌜ now (scratch .exit) ≡ cond r (note-word (now (scratch .entry)) i kind w) (now (scratch .entry)) ⌝ }
 {
+    if w < i {
+        let tag = scratch[w] % 256;
+        if (low <= tag) & (tag <= high) & (tag != but) {
+            note(scratch, i, w);
+            return true;
+        }
+    }
+    false
+}
+
+// As an expression: tags 01 to 09.
+fn expression(scratch: &mut [u32], i: usize, w: usize) -> bool
+    requires { ⌜ (i < 32768) × (i ≤ length (now scratch)) ⌝ }
+    ensures lawful { λ r. ⌜ r ≡ lawful (tags-in (now (scratch .entry))) i expr w ⌝ }
+    ensures noted { λ r. ⌜ now (scratch .exit) ≡ cond r (note-word (now (scratch .entry)) i expr w) (now (scratch .entry)) ⌝ }
+{
+    child(scratch, i, 6, 0x01, 0x09, 65536, w)
+}
+
+// As a statement: tags 10 to 1D without 1A.
+fn statement(scratch: &mut [u32], i: usize, w: usize) -> bool
+    requires { ⌜ (i < 32768) × (i ≤ length (now scratch)) ⌝ }
+    ensures lawful { λ r. ⌜ r ≡ lawful (tags-in (now (scratch .entry))) i stmt w ⌝ }
+    ensures noted { λ r. ⌜ now (scratch .exit) ≡ cond r (note-word (now (scratch .entry)) i stmt w) (now (scratch .entry)) ⌝ }
+{
+    child(scratch, i, 7, 0x10, 0x1D, 0x1A, w)
+}
+
+// The word w of this kind is lawful in node i. If it names a child, that is noted. The kinds that most words have are told without the limits.
+fn admit(scratch: &mut [u32], limits: &[u32; 36], i: usize, kind: usize, w: usize) -> bool
+    requires { ⌜ (i < 32768) × (i ≤ length (now scratch)) × (kind < 12) × (w < 65536) × (now limits ≡ bounds) ⌝ }
+    ensures lawful { λ r. ⌜ r ≡ lawful (tags-in (now (scratch .entry))) i kind w ⌝ }
+    ensures noted { λ r. ⌜ now (scratch .exit) ≡ cond r (note-word (now (scratch .entry)) i kind w) (now (scratch .entry)) ⌝ }
+{
+    if kind == 6 {
+        return expression(scratch, i, w);
+    }
+    if kind == 7 {
+        return statement(scratch, i, w);
+    }
+    if kind == 1 {
+        return true;
+    }
     if is_child(kind, w) {
         if w < i {
             if is_inside(limits, kind, wide32(scratch[w]) % 256) {
@@ -96,22 +139,6 @@ fn fits_from(
         return false;
     }
     wide32(rows[at]) / 4194304 == 1
-}
-
-// The word w is lawful as an expression of node i. That is noted.
-fn expression(scratch: &mut [u32], i: usize, w: usize) -> bool
-    requires { ⌜ (i < 32768) × (i ≤ length (now scratch)) ⌝ }
-    ensures lawful { λ r. ⌜ r ≡ lawful (tags-in (now (scratch .entry))) i expr w ⌝ }
-    ensures noted { λ r. ⌜ now (scratch .exit) ≡ cond r (note-word (now (scratch .entry)) i expr w) (now (scratch .entry)) ⌝ }
-{
-    if w < i {
-        let tag = scratch[w] % 256;
-        if (0 < tag) & (tag < 10) {
-            note(scratch, i, w);
-            return true;
-        }
-    }
-    false
 }
 
 // The payload p of node i, which is as long as the start's form says, fits.

@@ -29,7 +29,7 @@ admit-requires : tie.Need-admit-requires Inv-loop μ-loop
 admit-requires c κs =
     let v = c .before .before .before .before .before .loop .inv in
     let pre = c .before .before .before .before .before .before .before .before .pre in
-    (pre .0, omega (arith, pre .1, v .size), rw (row (c .before)) (kind-low _ (v .low)), pre .4)
+    (pre .0, omega (arith, pre .1, v .size), rw (row (c .before)) (kind-low _ (v .low)), c .before .before .before .word .ensures .1, pre .4)
 
 -- the scratch after a word, by whether it was lawful
 left : (b : Bool) (r : Bool) (l x y : List ℕ) → l ≡ cond r x y → r ≡ b → l ≡ cond b x y
