@@ -11,7 +11,6 @@ use meaning::Outcome;
 use store::Scope;
 use store::Step;
 use store::pack;
-use store::pack_wide;
 use store::write_cell;
 
 // One instruction more, and the result.
@@ -52,13 +51,10 @@ pub fn put_wide(
     requires { ⌜ Fine (now work) scope step × Room (now work) scope step 0 2 0 × while-going (outcome-of step) ((op < 256) × (a < 256)) × while-going (outcome-of step) (result < 1024) ⌝ }
     ensures { λ r. ⌜ Leaf (now (work .entry)) scope step (now (work .exit)) scope r (uses 2 0 0) (sure (put result (wide op a n mark))) ⌝ }
 {
-    let o = step.outcome;
-    let Outcome::Accepted(_) = o else {
-        return step;
-    };
-    let pc = step.pc;
-    write_cell(work, scope.nodes, pc, pack_wide(op, a, n as usize), mark);
-    store::advance(step, pc + 1, result)
+    let h = instruction::forward(n as usize);
+    let b = h.b as u32;
+    let c = h.c as u32;
+    put(work, step, scope, op, a, b, c, mark, result)
 }
 
 // One instruction more; the result stays.

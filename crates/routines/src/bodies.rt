@@ -64,13 +64,8 @@ pub fn end_body(
             return store::refuse(step, Cause::Empty, node);
         }
         let mark = store::mark_at(work, scope.nodes, pc - 1);
-        store::write_cell(
-            work,
-            scope.nodes,
-            pc,
-            store::pack(RETURN, result, result + 2, 0),
-            mark,
-        );
+        let word = store::pack(RETURN, result, result + 2, 0);
+        store::write_cell(work, scope.nodes, pc, word, mark);
         return store::advance(step, pc + 1, 0);
     }
     store::advance(step, pc, 0)
@@ -86,12 +81,7 @@ pub(crate) fn closure(work: &mut [u32], step: Step, scope: Scope, register: u32,
         return step;
     };
     let pc = step.pc;
-    store::write_cell(
-        work,
-        scope.nodes,
-        pc,
-        store::pack_wide(CLOSURE, register, step.result as usize),
-        mark,
-    );
+    let word = store::pack_wide(CLOSURE, register, step.result as usize);
+    store::write_cell(work, scope.nodes, pc, word, mark);
     store::advance(step, pc + 1, register)
 }

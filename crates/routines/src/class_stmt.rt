@@ -83,13 +83,8 @@ pub fn make_class(work: &mut [u32], step: Step, scope: Scope, class: u32, mark: 
         return step;
     };
     let pc = step.pc;
-    store::write_cell(
-        work,
-        scope.nodes,
-        pc,
-        store::pack(CLASS, class, class + 1, step.result),
-        mark,
-    );
+    let word = store::pack(CLASS, class, class + 1, step.result);
+    store::write_cell(work, scope.nodes, pc, word, mark);
     store::advance(step, pc + 1, step.result)
 }
 

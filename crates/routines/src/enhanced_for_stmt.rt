@@ -219,13 +219,8 @@ pub fn end_for_in(
         return step;
     };
     let pc = step.pc;
-    store::write_cell(
-        work,
-        scope.nodes,
-        pc,
-        store::pack(ADDI, counter, counter, 1),
-        mark,
-    );
+    let word = store::pack(ADDI, counter, counter, 1);
+    store::write_cell(work, scope.nodes, pc, word, mark);
     let goal = continue_goal(scope.mode, first, pc);
     close_loop(
         work,

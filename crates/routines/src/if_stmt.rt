@@ -19,13 +19,8 @@ pub fn end_branch(work: &mut [u32], step: Step, scope: Scope, test: usize, mark:
     };
     let pc = step.pc;
     store::write_cell(work, scope.nodes, pc, JMP, mark);
-    store::write_cell(
-        work,
-        scope.nodes,
-        test + 1,
-        store::pack_wide(JMP, 0, pc - test),
-        mark,
-    );
+    let jump = store::pack_wide(JMP, 0, pc - test);
+    store::write_cell(work, scope.nodes, test + 1, jump, mark);
     store::advance(step, pc + 1, 0)
 }
 

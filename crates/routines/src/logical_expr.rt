@@ -26,19 +26,9 @@ pub fn end_logical(
         return step;
     };
     let pc = step.pc;
-    store::write_cell(
-        work,
-        scope.nodes,
-        pc,
-        store::pack(MOVE, left, step.result, 0),
-        mark,
-    );
-    store::write_cell(
-        work,
-        scope.nodes,
-        test + 1,
-        store::pack_wide(JMP, 0, pc - test),
-        mark,
-    );
+    let word = store::pack(MOVE, left, step.result, 0);
+    store::write_cell(work, scope.nodes, pc, word, mark);
+    let jump = store::pack_wide(JMP, 0, pc - test);
+    store::write_cell(work, scope.nodes, test + 1, jump, mark);
     store::advance(step, pc + 1, left)
 }

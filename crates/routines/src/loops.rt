@@ -37,13 +37,8 @@ pub(crate) fn close_loop(
     ensures { λ _. ⌜ Recoded (now (work .entry)) nodes code (code + 1) (closed-loop goal first condition test mark) (now (work .exit)) ⌝ }
 {
     store::write_cell(work, nodes, code, store::jump_back(code - condition), mark);
-    store::write_cell(
-        work,
-        nodes,
-        test + 1,
-        store::pack_wide(JMP, 0, code - test),
-        mark,
-    );
+    let jump = store::pack_wide(JMP, 0, code - test);
+    store::write_cell(work, nodes, test + 1, jump, mark);
     code::patch_loop(work, nodes, first, code + 1, goal);
 }
 

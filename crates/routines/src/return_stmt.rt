@@ -37,12 +37,7 @@ pub fn end_return(work: &mut [u32], step: Step, scope: Scope, node: usize, mark:
     if result == 254 {
         return store::refuse(step, Cause::Returned, node);
     }
-    store::write_cell(
-        work,
-        scope.nodes,
-        pc,
-        store::pack(RETURN, result, result + 2, 0),
-        mark,
-    );
+    let word = store::pack(RETURN, result, result + 2, 0);
+    store::write_cell(work, scope.nodes, pc, word, mark);
     store::advance(step, pc + 1, 0)
 }

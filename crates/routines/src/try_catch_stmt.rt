@@ -67,13 +67,8 @@ pub fn end_try(work: &mut [u32], step: Step, scope: Scope, first: usize, body: u
         return step;
     };
     let pc = step.pc;
-    store::write_cell(
-        work,
-        scope.nodes,
-        first,
-        store::pack_wide(REGISTER_TRY_CATCH, 0, body + 2 - first),
-        NO_MARK,
-    );
+    let word = store::pack_wide(REGISTER_TRY_CATCH, 0, body + 2 - first);
+    store::write_cell(work, scope.nodes, first, word, NO_MARK);
     code::patch_first(work, scope.nodes, first, pc, pc - (body + 1));
     store::settle(step, 0)
 }

@@ -15,8 +15,8 @@ returns c = leaf-absorbed (uses 2 0 0) _ ((c .before .before .before) .pre .0) (
 
 pack-wide-requires : tie.Need-pack-wide-requires
 pack-wide-requires c κs =
-    let start = c .before .before .before .before .before in
-    (omega arith, met ((c .before .before .enum-told) .given .1) (start .pre .1) .1)
+    let start = c .before .before .before .before in
+    (omega arith, met ((c .before .enum-told) .given .1) (start .pre .1) .1)
 
 write-cell-requires : tie.Need-write-cell-requires
 write-cell-requires c κs =
@@ -34,7 +34,7 @@ returns-2 c =
     let fine = start .pre .0 in
     let on = told .given .1 in
     let h = met on (start .pre .1) in
-    let one = spell (starts fine) ((c .before .before .before .before .pack-wide) .ensures) ((c .before .before .before .write-cell) .ensures) (omega (arith, h .0)) in
+    let one = spell (starts fine) ((c .before .before .before .before .before .pack-wide) .ensures) ((c .before .before .before .write-cell) .ensures) (omega (arith, h .0)) in
     rw (c .advance .ensures) (coded (a .register) 2 _ fine on one (omega arith) (omega arith) (omega (arith, h .1)) (λ t. refl))
 
 pub closure-spec : {M : Type 1} → statement M

@@ -55,15 +55,15 @@ mark-at-requires c κs =
 
 add-pack : tie.Need-add-pack
 add-pack c =
-    let start = c .before .before .before .before .before .before .before .before .before in
-    let told = c .before .before .before .before .before .before .enum-told in
+    let start = c .before .before .before .before .before .before .before .before in
+    let told = c .before .before .before .before .before .enum-told in
     omega (arith, met (told .given .1) (start .pre .3))
 
 pack-requires : tie.Need-pack-requires
 pack-requires c κs =
-    let start = c .before .before .before .before .before .before .before .before .before in
-    let told = c .before .before .before .before .before .before .enum-told in
-    let if2 = c .before .before .before .before .if2 in
+    let start = c .before .before .before .before .before .before .before .before in
+    let told = c .before .before .before .before .before .enum-told in
+    let if2 = c .before .before .before .if2 in
     let h = met (told .given .1) (start .pre .3) in
     let k = if2 .left in
     record { op-small = omega arith; a-small = omega (arith, h); b-small = omega (arith, h, k); c-small = omega arith }
@@ -84,7 +84,7 @@ returns-4 c =
     let room = room-for 2 fine on (start .pre .1) in
     let some : 1 ≤ a .step .pc = omega (arith, h, if3 .left) in
     let size = tab-length (inst-at w (a .scope .nodes)) (a .step .pc) in
-    let one = spell (starts fine) ((c .before .before .before .before .pack) .ensures) ((c .before .before .before .write-cell) .ensures) (omega (arith, room)) in
+    let one = spell (starts fine) ((c .before .before .before .before .before .pack) .ensures) ((c .before .before .before .write-cell) .ensures) (omega (arith, room)) in
     rw (c .advance .ensures)
     (coded 0 2 _ fine on one (omega arith) (omega arith) (omega arith)
     (λ t. rw (c .before .before .before .before .before .before .mark-at .ensures, eq-eqb (a .count) 1 (if1 .taken), ne-eqb (a .step .result) 254 (if2 .left), ← (last-mark w (a .scope .nodes) (a .step .pc) some), size, ne-eqb (a .step .pc) (a .first) (if3 .left))))

@@ -15,8 +15,8 @@ returns c = leaf-absorbed (uses 2 0 0) _ ((c .before .before .before) .pre .0) (
 
 pack-requires : tie.Need-pack-requires
 pack-requires c κs =
-    let start = c .before .before .before .before in
-    let h = met ((c .before .enum-told) .given .1) (start .pre .2) in
+    let start = c .before .before .before in
+    let h = met ((c .enum-told) .given .1) (start .pre .2) in
     record { op-small = omega arith; a-small = omega (arith, h .0); b-small = omega (arith, h .0); c-small = h .1 }
 
 returns-2 : tie.Need-returns-2
@@ -28,7 +28,7 @@ returns-2 c =
     let fine = start .pre .0 in
     let on = told .given .1 in
     let room = room-for 2 fine on (start .pre .1) in
-    let one = spell (starts fine) ((c .before .before .before .before .pack) .ensures) ((c .before .before .before .write-cell) .ensures) (omega (arith, room)) in
+    let one = spell (starts fine) ((c .before .before .before .before .before .pack) .ensures) ((c .before .before .before .write-cell) .ensures) (omega (arith, room)) in
     rw (c .advance .ensures) (coded (a .step .result) 2 _ fine on one (omega arith) (omega arith) (result-small fine on) (λ t. refl))
 
 pub make-class-spec : {M : Type 1} → statement M
@@ -38,7 +38,7 @@ make-class-spec =
     (λ c. search needs)
     (λ c. search needs)
     returns
-    (λ c. omega (arith, met ((c .before .enum-told) .given .1) ((c .before .before .before .before) .pre .2) .0))
+    (λ c. omega (arith, met ((c .enum-told) .given .1) ((c .before .before .before) .pre .2) .0))
     pack-requires
     (λ c κs. search needs)
     (λ c. search needs)

@@ -20,8 +20,8 @@ returns c = leaf-absorbed (uses 4 0 0) _ ((c .before .before .before) .pre .0) (
 
 pack-requires : tie.Need-pack-requires
 pack-requires c κs =
-    let start = c .before .before .before .before in
-    let h = met ((c .before .enum-told) .given .1) (start .pre .2) in
+    let start = c .before .before .before in
+    let h = met ((c .enum-told) .given .1) (start .pre .2) in
     record { op-small = omega arith; a-small = h .2; b-small = h .2; c-small = omega arith }
 
 continue-goal-requires : tie.Need-continue-goal-requires
@@ -49,7 +49,7 @@ unfolding end-for-in end-loop jump-here
 returns-2 c =
     let start = c .before .before .before .before .before .before .before .before .before .before .before .before .before .before in
     let told = c .before .before .before .before .before .before .before .before .before .before .before .enum-told in
-    let pack = c .before .before .before .before .before .before .before .before .before .pack in
+    let pack = c .before .before .before .before .before .before .before .before .before .before .pack in
     let write = c .before .before .before .before .before .before .before .before .write-cell in
     let a = start .args in
     let fine = start .pre .0 in

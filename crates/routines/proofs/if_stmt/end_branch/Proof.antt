@@ -16,8 +16,8 @@ returns c = leaf-absorbed (uses 2 0 0) _ ((c .before .before .before) .pre .0) (
 
 add-write : tie.Need-add-write-cell
 add-write c =
-    let start = c .before .before .before .before .before .before .before .before in
-    let told = c .before .before .before .before .before .enum-told in
+    let start = c .before .before .before .before .before .before .before .before .before in
+    let told = c .before .before .before .before .before .before .enum-told in
     omega (arith, met (told .given .1) (start .pre .2), start .pre .0 .room, start .pre .0 .sound .few)
 
 write-cell-requires-2 : tie.Need-write-cell-requires-2
@@ -41,7 +41,7 @@ returns-2 c =
     let h = met on (start .pre .2) in
     let room = room-for 2 fine on (start .pre .1) in
     let one = spell {i = inst Jmp 0 0 0} (starts fine) (record { is = λ m. refl }) (write .ensures) (omega (arith, room)) in
-    let two = spell-over one ((c .before .before .before .before .pack-wide) .ensures) ((c .before .before .before .write-cell2) .ensures) (omega (arith, h)) in
+    let two = spell-over one ((c .before .before .before .before .before .pack-wide) .ensures) ((c .before .before .before .write-cell2) .ensures) (omega (arith, h)) in
     rw (c .advance .ensures) (coded 0 2 _ fine on two (omega arith) (omega arith) (omega arith) (jumped _ (a .step .pc) (a .test) (a .mark) 0 _ _))
 
 pub end-branch-spec : {M : Type 1} → statement M
@@ -52,9 +52,9 @@ end-branch-spec =
     (λ c. search needs)
     returns
     (λ c κs. search needs)
-    add-write
-    (λ c. omega (arith, met ((c .before .before .before .before .before .enum-told) .given .1) ((c .before .before .before .before .before .before .before .before) .pre .2)))
+    (λ c. omega (arith, met ((c .before .before .before .before .enum-told) .given .1) ((c .before .before .before .before .before .before .before) .pre .2)))
     (λ c κs. search needs)
+    add-write
     write-cell-requires-2
     (λ c. search needs)
     (λ c κs. search needs)

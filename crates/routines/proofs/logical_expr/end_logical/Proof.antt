@@ -14,21 +14,21 @@ returns c = leaf-absorbed (uses 2 0 0) _ ((c .before .before .before) .pre .0) (
 
 pack-requires : tie.Need-pack-requires
 pack-requires c κs =
-    let start = c .before .before .before .before in
-    let h = met ((c .before .enum-told) .given .1) (start .pre .2) in
+    let start = c .before .before .before in
+    let h = met ((c .enum-told) .given .1) (start .pre .2) in
     record { op-small = omega arith; a-small = h .1; b-small = h .2; c-small = omega arith }
-
-add-write : tie.Need-add-write-cell
-add-write c =
-    let start = c .before .before .before .before .before .before .before .before .before in
-    let told = c .before .before .before .before .before .before .enum-told in
-    omega (arith, met (told .given .1) (start .pre .2) .0, start .pre .0 .room, start .pre .0 .sound .few)
 
 sub-pack-wide : tie.Need-sub-pack-wide
 sub-pack-wide c =
-    let start = c .before .before .before .before .before .before .before .before .before in
-    let told = c .before .before .before .before .before .before .enum-told in
+    let start = c .before .before .before .before .before .before .before .before in
+    let told = c .before .before .before .before .before .enum-told in
     omega (arith, met (told .given .1) (start .pre .2) .0)
+
+add-write : tie.Need-add-write-cell
+add-write c =
+    let start = c .before .before .before .before .before .before .before .before .before .before in
+    let told = c .before .before .before .before .before .before .before .enum-told in
+    omega (arith, met (told .given .1) (start .pre .2) .0, start .pre .0 .room, start .pre .0 .sound .few)
 
 write-cell-requires-2 : tie.Need-write-cell-requires-2
 write-cell-requires-2 c κs =
@@ -44,7 +44,7 @@ unfolding end-logical
 returns-2 c =
     let start = c .before .before .before .before .before .before .before .before .before .before .before .before .before .before in
     let told = c .before .before .before .before .before .before .before .before .before .before .before .enum-told in
-    let pack = c .before .before .before .before .before .before .before .before .before .pack in
+    let pack = c .before .before .before .before .before .before .before .before .before .before .pack in
     let write = c .before .before .before .before .before .before .before .before .write-cell in
     let a = start .args in
     let fine = start .pre .0 in
@@ -52,7 +52,7 @@ returns-2 c =
     let h = met on (start .pre .2) in
     let room = room-for 2 fine on (start .pre .1) in
     let one = spell (starts fine) (pack .ensures) (write .ensures) (omega (arith, room)) in
-    let two = spell-over one ((c .before .before .before .before .pack-wide) .ensures) ((c .before .before .before .write-cell2) .ensures) (omega (arith, h .0)) in
+    let two = spell-over one ((c .before .before .before .before .before .pack-wide) .ensures) ((c .before .before .before .write-cell2) .ensures) (omega (arith, h .0)) in
     rw (c .advance .ensures) (coded (a .left) 2 _ fine on two (omega arith) (omega arith) (omega (arith, h .1)) (jumped _ (a .step .pc) (a .test) (a .mark) (a .left) _ _))
 
 pub end-logical-spec : {M : Type 1} → statement M
@@ -64,9 +64,9 @@ end-logical-spec =
     returns
     pack-requires
     (λ c κs. search needs)
-    add-write
     sub-pack-wide
     (λ c κs. search needs)
+    add-write
     write-cell-requires-2
     (λ c. search needs)
     (λ c κs. search needs)

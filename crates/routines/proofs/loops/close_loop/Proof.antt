@@ -30,7 +30,7 @@ returns c =
     let start = c .before .before .before .before .before .before .before .before .before .before .before .before .before .before .before in
     let jump-back = c .before .before .before .before .before .before .before .before .before .before .before .before .jump-back in
     let write = c .before .before .before .before .before .before .before .before .before .before .before .write-cell in
-    let pack-wide = c .before .before .before .before .before .before .before .pack-wide in
+    let pack-wide = c .before .before .before .before .before .before .before .before .pack-wide in
     let write2 = c .before .before .before .before .before .before .write-cell2 in
     let a = start .args in
     let pre = start .pre in
@@ -50,8 +50,8 @@ close-loop-spec =
     (λ c κs. search needs)
     (λ c κs. search needs)
     (λ c. search needs)
-    (λ c. search needs)
     (λ c κs. search needs)
+    (λ c. search needs)
     (λ c κs. search needs)
     (λ c. search needs)
     (λ c κs. search needs)

@@ -23,9 +23,9 @@ returns-2 c =
 
 pack-requires : tie.Need-pack-requires
 pack-requires c κs =
-    let start = c .before .before .before .before .before in
-    let h = met ((c .before .before .enum-told) .given .1) (start .pre .2) in
-    let k = (c .before .if1) .left in
+    let start = c .before .before .before .before in
+    let h = met ((c .before .enum-told) .given .1) (start .pre .2) in
+    let k = (c .if1) .left in
     record { op-small = omega arith; a-small = omega (arith, h); b-small = omega (arith, h, k); c-small = omega arith }
 
 returns-3 : tie.Need-returns-3
@@ -38,7 +38,7 @@ returns-3 c =
     let fine = start .pre .0 in
     let on = told .given .1 in
     let room = room-for 2 fine on (start .pre .1) in
-    let one = spell (starts fine) ((c .before .before .before .before .pack) .ensures) ((c .before .before .before .write-cell) .ensures) (omega (arith, room)) in
+    let one = spell (starts fine) ((c .before .before .before .before .before .pack) .ensures) ((c .before .before .before .write-cell) .ensures) (omega (arith, room)) in
     rw (c .advance .ensures) (coded 0 2 _ fine on one (omega arith) (omega arith) (omega arith) (λ t. rw (ne-eqb (a .step .result) 254 (if1 .left))))
 
 pub end-return-spec : {M : Type 1} → statement M
@@ -50,7 +50,7 @@ end-return-spec =
     returns
     (λ c κs. search needs)
     returns-2
-    (λ c. omega (arith, met ((c .before .before .enum-told) .given .1) ((c .before .before .before .before .before) .pre .2)))
+    (λ c. omega (arith, met ((c .before .enum-told) .given .1) ((c .before .before .before .before) .pre .2)))
     pack-requires
     (λ c κs. search needs)
     (λ c. search needs)

@@ -47,7 +47,7 @@ unfolding end-try
 returns-2 c =
     let start = c .before .before .before .before .before .before .before .before .before .before .before .before .before in
     let told = c .before .before .before .before .before .before .before .before .before .before .enum-told in
-    let pack-wide = c .before .before .before .before .before .before .before .before .pack-wide in
+    let pack-wide = c .before .before .before .before .before .before .before .before .before .pack-wide in
     let write = c .before .before .before .before .before .before .before .write-cell in
     let a = start .args in
     let fine = start .pre .0 in
@@ -64,8 +64,8 @@ end-try-spec =
     (λ c. search needs)
     (λ c. search needs)
     returns
-    (λ c. omega (arith, met ((c .before .enum-told) .given .1) ((c .before .before .before .before) .pre .1) .1, (c .before .before .before .before) .pre .0 .room, (c .before .before .before .before) .pre .0 .sound .few))
-    (λ c. omega (arith, met ((c .before .enum-told) .given .1) ((c .before .before .before .before) .pre .1) .0))
+    (λ c. omega (arith, met ((c .enum-told) .given .1) ((c .before .before .before) .pre .1) .1, (c .before .before .before) .pre .0 .room, (c .before .before .before) .pre .0 .sound .few))
+    (λ c. omega (arith, met ((c .enum-told) .given .1) ((c .before .before .before) .pre .1) .0))
     (λ c κs. search needs)
     write-cell-requires
     add-patch-first
