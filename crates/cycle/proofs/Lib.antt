@@ -1,6 +1,5 @@
 -- The laws of the lowering.
 pub mod Way
-mod Due
 pub mod Sizes
 pub mod Visited
 pub mod Nodes

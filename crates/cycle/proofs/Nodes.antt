@@ -18,7 +18,7 @@ use Rattle.meaning.proofs.Lists.{lt-or-le}
 use Rattle.cycle.proofs.Sizes.{number-size, text-size, other-size, break-size, continue-size}
 use Rattle.cycle.proofs.Visited.{number-visits, text-visits, other-visits, break-visits, continue-visits}
 use Rattle.meaning.specs.Visits.{under-expr, under-stmt}
-use Rattle.meaning.proofs.Places.{none-of, unmarked, heads-none, heads-0, heads-1, heads-2, function-places, define-places, for-in-places}
+use Rattle.meaning.proofs.Places.{none-of, unmarked, heads-none, heads-0, heads-1, function-places, define-places, for-in-places}
 use Rattle.store.specs.declared.Scope.{Scope}
 use Rattle.store.specs.declared.Step.{Step}
 use Rattle.cycle.specs.Cycle.{Ready}
@@ -114,76 +114,44 @@ module _ {t w : List ℕ} {n i : ℕ} (h : Lawful t w n) (l : i < n) where
   pub no-jump-visits : 0x16 ≤ tag-of (fields t) i → tag-of (fields t) i ≤ 0x17 → under-stmt (stmt-at (fields t) i) ≡ 0
   no-jump-visits a b = ⊎-elim (λ c. break-visits (a-break (omega arith))) (λ c. continue-visits (a-continue (omega arith))) (lt-or-le (tag-of (fields t) i) 0x17)
 
-  -- ---- where the words stand in the file
+  -- ---- where rows of children stand in the file
 
   shape : shape-at (fields t) i ≡ true
   shape = h .shapes i (inside h l)
 
-  -- one mark, which is the first word, the second, or none
+  -- the rows behind one mark, which is the first word, the second, or none
   abbrev First : ℕ → Type 0
-  First tag = tag-of (fields t) i ≡ tag → Heads (fields t) i 0 × Behind (fields t) i 1 (extra (wide-marks (fields t)))
+  First tag = tag-of (fields t) i ≡ tag → Behind (fields t) i 1 (extra (wide-marks (fields t)))
 
   abbrev Second : ℕ → Type 0
-  Second tag = tag-of (fields t) i ≡ tag → Heads (fields t) i 1 × Behind (fields t) i 2 (extra (wide-marks (fields t)))
+  Second tag = tag-of (fields t) i ≡ tag → Behind (fields t) i 2 (extra (wide-marks (fields t)))
 
   abbrev Plain : ℕ → Type 0
-  Plain tag = tag-of (fields t) i ≡ tag → Heads (fields t) i 4 × Behind (fields t) i 0 0
-
-  pub unary-stands : Second 0x05
-  unfolding items-of grammar unmarked none-of
-  unary-stands e = heads-1 (fields t) i shape _ _ (ap items-of e) refl refl
-
-  pub binary-stands : Second 0x06
-  unfolding items-of grammar unmarked none-of
-  binary-stands e = heads-1 (fields t) i shape _ _ (ap items-of e) refl refl
-
-  pub logical-stands : Second 0x07
-  unfolding items-of grammar unmarked none-of
-  logical-stands e = heads-1 (fields t) i shape _ _ (ap items-of e) refl refl
+  Plain tag = tag-of (fields t) i ≡ tag → Behind (fields t) i 0 0
 
   pub call-stands : Second 0x08
   unfolding items-of grammar unmarked none-of
-  call-stands e = heads-1 (fields t) i shape _ _ (ap items-of e) refl refl
-
-  pub expression-stands : Plain 0x10
-  unfolding items-of grammar unmarked none-of
-  expression-stands e = heads-none (fields t) i shape _ (ap items-of e) refl
-
-  pub let-stands : Second 0x11
-  unfolding items-of grammar unmarked none-of
-  let-stands e = heads-1 (fields t) i shape _ _ (ap items-of e) refl refl
+  call-stands e = heads-1 (fields t) i shape _ _ (ap items-of e) refl refl .1
 
   pub block-stands : Plain 0x12
   unfolding items-of grammar unmarked none-of
-  block-stands e = heads-none (fields t) i shape _ (ap items-of e) refl
-
-  pub while-stands : First 0x13
-  unfolding items-of grammar unmarked none-of
-  while-stands e = heads-0 (fields t) i shape _ (ap items-of e) refl
+  block-stands e = heads-none (fields t) i shape _ (ap items-of e) refl .1
 
   pub for-stands : First 0x14
   unfolding items-of grammar unmarked none-of
-  for-stands e = heads-0 (fields t) i shape _ (ap items-of e) refl
-
-  pub return-stands : First 0x18
-  unfolding items-of grammar unmarked none-of
-  return-stands e = heads-0 (fields t) i shape _ (ap items-of e) refl
+  for-stands e = heads-0 (fields t) i shape _ (ap items-of e) refl .1
 
   pub if-stands : First 0x19
   unfolding items-of grammar unmarked none-of
-  if-stands e = heads-0 (fields t) i shape _ (ap items-of e) refl
+  if-stands e = heads-0 (fields t) i shape _ (ap items-of e) refl .1
 
   pub elif-stands : Plain 0x1A
   unfolding items-of grammar unmarked none-of
-  elif-stands e = heads-none (fields t) i shape _ (ap items-of e) refl
-
-  pub try-stands : tag-of (fields t) i ≡ 0x1B → Heads (fields t) i 2
-  unfolding items-of grammar
-  try-stands e = heads-2 (fields t) i shape _ _ _ (ap items-of e) refl refl refl
+  elif-stands e = heads-none (fields t) i shape _ (ap items-of e) refl .1
 
   pub class-stands : Second 0x1D
   unfolding items-of grammar unmarked none-of
-  class-stands e = heads-1 (fields t) i shape _ _ (ap items-of e) refl refl
+  class-stands e = heads-1 (fields t) i shape _ _ (ap items-of e) refl refl .1
 
   -- pairs of names and marks: parameters, the names of a for-in
   pub function-stands : tag-of (fields t) i ≡ 0x09

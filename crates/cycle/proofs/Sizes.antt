@@ -2,18 +2,19 @@
 use Prim.Native.Nat.{ℕ, zero, suc, _+_, _-_, _*_, _<_, _≤_}
 use mathlib.Core.Path.{_≡_, refl, ap}
 use mathlib.Core.Bool.{Bool, true, false, cond}
+use lib.ListN.{length}
 use mathlib.Core.List.{List}
 use native.Mathlib.Omega.{arith}
 use Rattle.meaning.specs.Fields.{Field, fields, field-at}
 use Rattle.meaning.specs.Grammar.{wide-marks}
-use Rattle.meaning.specs.At.{word-of, count-of, expr-at, stmt-at, fun-at, exprs-at, stmts-at, funs-at, elifs-at, init-at, super-at, extra, file-words, pairs-in}
+use Rattle.meaning.specs.At.{word-of, count-of, expr-at, stmt-at, fun-at, exprs-at, stmts-at, funs-at, elifs-at, init-at, super-at, extra, file-words, pair-place, pairs-in}
 use Rattle.meaning.specs.Weight.{weight-expr, size-expr, size-exprs, size-stmt, size-stmts, size-elifs, size-fun, size-funs, size-super}
 use Rattle.meaning.proofs.Reading.{Number, Text, Other, Variable, Unary, Binary, Logical, Call, Function, Expression, Let, Block, While, For, ForIn, Break, Continue, Return, If, Elif, Try, Define, Class}
 use Rattle.forward.proofs.FunctionsForward.{stmt-count}
-use Rattle.routines.specs.Pieces.{tokens-from}
+use Rattle.nodes.specs.Nodes.{Width}
+use Rattle.routines.specs.Pieces.{HasPairs, tokens-from}
 use Rattle.store.specs.declared.Scope.{Scope}
-use Rattle.cycle.specs.Cycle.{Width}
-use Rattle.cycle.proofs.Way.{wide-is}
+use Rattle.cycle.proofs.Way.{few-wide, wide-is}
 use Rattle.meaning.proofs.Rows.{exprs-more, exprs-none, stmts-more, stmts-none, funs-more, funs-none, elifs-more, elifs-none}
 
 module _ {fs : List Field} {i : ℕ} where
@@ -163,10 +164,15 @@ stmts-count fs i k to l = go (to - k) k refl
     go (suc d) k e = rw (stmts-more fs i k to (omega arith) l) (ap suc (go d (k + 1) (omega arith)))
 
 -- the pairs of a payload, as those of its node's words in the file
-pub tokens-same : (t : List ℕ) (q : Scope) (i : ℕ) (payload : List ℕ) (f f' n : ℕ) → Width t q → payload ≡ field-at (fields t) i .payload → f ≡ f'
+pub tokens-same : (t : List ℕ) (q : Scope) (i : ℕ) (payload : List ℕ) (f f' n : ℕ) → Width t (q .wide) → payload ≡ field-at (fields t) i .payload → f ≡ f'
     → tokens-from q payload f n ≡ pairs-in (wide-marks (fields t)) (file-words (fields t) i) f' n
 unfolding tokens-from
 tokens-same t q i payload f f' n w e k = rw (e, k, wide-is q (wide-marks (fields t)) w) refl
+
+-- and those that are in the file are there
+pub has-pairs : (t : List ℕ) (q : Scope) (i : ℕ) (payload : List ℕ) (f f' n : ℕ) → Width t (q .wide) → payload ≡ field-at (fields t) i .payload → f ≡ f'
+    → f' + pair-place (wide-marks (fields t)) n ≤ length (file-words (fields t) i) → HasPairs q payload f n
+has-pairs t q i payload f f' n w e k h = record { inside = rw (e, k, wide-is q (wide-marks (fields t)) w) h; width = few-wide q (wide-marks (fields t)) w }
 
 -- n marks take so many places more
 pub more-is : (b : Bool) (n : ℕ) → cond b n 0 ≡ n * extra b

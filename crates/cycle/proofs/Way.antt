@@ -10,7 +10,7 @@ use lib.Dec.{eqb}
 use Rattle.meaning.specs.Fields.{fields}
 use Rattle.meaning.specs.Grammar.{wide-marks}
 use Rattle.meaning.specs.Read.{at}
-use Rattle.meaning.specs.At.{extra, Behind, Heads, file-words, word-of, count-of, expr-at, stmt-at, stmts-at, ExprBelow, StmtBelow}
+use Rattle.meaning.specs.At.{extra, Behind, file-words, tag-of, word-of, count-of, expr-at, stmt-at, stmts-at, ExprBelow, StmtBelow}
 use Rattle.meaning.specs.Weight.{size-expr, size-stmt, size-stmts}
 use Rattle.meaning.specs.State.{Proto, Chunk, M, leave-block}
 use Rattle.meaning.specs.declared.Cause.{Cause}
@@ -18,10 +18,11 @@ use Rattle.meaning.specs.declared.Instruction.{Instruction}
 use Rattle.meaning.specs.declared.Outcome.{Outcome}
 use Rattle.meaning.specs.declared.Outcome.the-variants.{Accepted, Refused}
 use Rattle.nodes.specs.Offsets.{Readable}
+use Rattle.nodes.specs.Nodes.{Node, Width}
 use Rattle.forward.specs.Forward.{Config, Run, going, bind, sure, fwd, fwd-unit}
 use Rattle.store.specs.declared.Step.{Step}
 use Rattle.store.specs.declared.Scope.{Scope}
-use Rattle.store.specs.Store.{is-wide, run, config-of, goes-on, result-limit, while-going, deeper, looped, Image, Fine, Kept}
+use Rattle.store.specs.Store.{is-wide, run, config-of, goes-on, result-limit, while-going, deeper, looped, Image, Fine}
 use Rattle.store.specs.Promise.{Cost, uses, takes, nothing, a-visit, both, Used, Roomy, Room, Moves, Leaf, After, Does, Ticked}
 use Rattle.store.proofs.Runs.{due, promised, going-is, none-due, run-going, leaf-absorbed}
 use Rattle.store.proofs.Compose.{none-moved, moves-then, moves-by, leaf-after, leaf-does, known}
@@ -31,7 +32,7 @@ use Rattle.store.specs.Cell.{Bytes}
 use Rattle.routines.specs.Pieces.{Small}
 use Rattle.routines.specs.Node.{Lawful, OnNode, Gives}
 use Rattle.routines.proofs.Held.{lawful-kept}
-use Rattle.cycle.specs.Cycle.{Ready, Given, AskExpr, AskStmt, Headed, Children, AskRow, Lowers}
+use Rattle.cycle.specs.Cycle.{Ready, Given, AskExpr, AskStmt, Children, AskRow, Lowers}
 
 -- ---- the way
 
@@ -169,18 +170,24 @@ fits o op a b c h = promised o λ g. record { op-small = h g .0; a-small = h g .
 pub inside : {t w : List ℕ} {n i : ℕ} → Lawful t w n → i < n → i < length (fields t)
 inside h l = omega (arith, l, h .nodes)
 
--- its words can be read
-pub readable : {t w : List ℕ} {p : Scope} {s : Step} {k a b i : ℕ} → Ready t w p s k a b → i < p .nodes → Readable t w (12288 + 15 * p .nodes) i × (p .nodes ≤ 32768)
-readable r l = (record { offsets = r .lawful .offsets; known = inside (r .lawful) l }, r .fine .sound .few)
+-- its header can be read
+pub readable : {t w : List ℕ} {p : Scope} {s : Step} {k a b i : ℕ} → Ready t w p s k a b → i < p .nodes → Readable t w i
+readable r l = record { offsets = r .lawful .offsets; known = inside (r .lawful) l }
 
--- with what is asked of a count, and of the first words
-pub counted : {t w : List ℕ} {n i k d : ℕ} → Readable t w (12288 + 15 * n) i × (n ≤ 32768) → Behind (fields t) i k d
-    → Readable t w (12288 + 15 * n) i × (n ≤ 32768) × (length (file-words (fields t) i) ≡ count-of (fields t) i + d)
-counted r b = (r .0, r .1, b .size)
+-- with what is asked of a count
+pub counted : {t w : List ℕ} {i k d : ℕ} → Readable t w i → Behind (fields t) i k d → Readable t w i × (length (file-words (fields t) i) ≡ count-of (fields t) i + d)
+counted r b = (r, b .size)
 
-pub headed : {t w : List ℕ} {p : Scope} {s : Step} {k a b i m : ℕ} → Ready t w p s k a b → i < p .nodes → Heads (fields t) i m
-    → Readable t w (12288 + 15 * p .nodes) i × (p .nodes ≤ 32768) × Headed t p i m
-headed r l h = (readable r l .0, readable r l .1, (h, r .width))
+-- its words can be read, and what its reader asks of it
+pub node : {t w : List ℕ} {p : Scope} {s : Step} {k a b i : ℕ} → Ready t w p s k a b → i < p .nodes → Node t w i
+node r l = record { readable = readable r l; shapes = r .lawful .shapes }
+
+pub held : {t w : List ℕ} {p : Scope} {s : Step} {k a b i tag : ℕ} → Ready t w p s k a b → i < p .nodes → tag-of (fields t) i ≡ tag → Node t w i × Width t (p .wide) × (tag-of (fields t) i ≡ tag)
+held r l e = (node r l, r .width, e)
+
+-- the same of a node without a mark
+pub held-bare : {t w : List ℕ} {p : Scope} {s : Step} {k a b i tag : ℕ} → Ready t w p s k a b → i < p .nodes → tag-of (fields t) i ≡ tag → Node t w i × (tag-of (fields t) i ≡ tag)
+held-bare r l e = (node r l, e)
 
 -- a child of a row, by the word of the file
 pub placed : {t w : List ℕ} {p : Scope} {s : Step} {i f g d k a j x : ℕ} {B : ℕ → Type 0} → Children t w p s i f g d k a B → f ≤ j → x ≡ at (file-words (fields t) i) (j + d) → x ≡ word-of (fields t) i j
@@ -207,7 +214,7 @@ few-more n (suc (suc w)) h l = absurd (omega arith)
 
 -- a node without children, where it stands
 pub on-node : {t w : List ℕ} {p : Scope} {s : Step} {k i : ℕ} → Ready t w p s k 0 0 → i < p .nodes → OnNode t w p s k i
-on-node {t = t} {p = p} r l = record { lawful = r .lawful; width = wide-is p (wide-marks (fields t)) (r .width); fine = r .fine; room = r .room; known = l }
+on-node {t = t} {p = p} r l = record { lawful = r .lawful; width = r .width; fine = r .fine; room = r .room; known = l }
 
 -- a child that is an expression, a statement
 pub ask-expr : {t w : List ℕ} {p : Scope} {s : Step} {i c : ℕ} → Ready t w p s (size-expr (expr-at (fields t) c)) 0 0 → i < p .nodes → ExprBelow (fields t) i c → AskExpr t w p s c

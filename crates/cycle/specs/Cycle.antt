@@ -2,14 +2,10 @@
 -- definition's own step, with what it uses: eight words and a local for each node of the syntax tree that is lowered, and the visits as document 02 counts them.
 use Prim.Native.Nat.{ℕ, _+_, _-_, _*_, _<_, _≤_}
 use mathlib.Core.Path.{_≡_}
-use mathlib.Core.Bool.{cond}
 use mathlib.Core.List.{List}
 use mathlib.Core.Option.{none, some}
-use lib.Dec.{eqb, ltb}
-use Rattle.meaning.specs.Fields.{Field, fields}
-use Rattle.meaning.specs.Grammar.{wide-marks}
-use Rattle.meaning.specs.Read.{at}
-use Rattle.meaning.specs.At.{extra, mark-at, Behind, Heads, file-words, tag-of, word-of, count-of, expr-at, stmt-at, fun-at, exprs-at, stmts-at, funs-at, elifs-at, ExprBelow, StmtBelow, TagBelow}
+use Rattle.meaning.specs.Fields.{fields}
+use Rattle.meaning.specs.At.{Behind, tag-of, word-of, count-of, expr-at, stmt-at, fun-at, exprs-at, stmts-at, funs-at, elifs-at, ExprBelow, StmtBelow, TagBelow}
 use Rattle.meaning.specs.Weight.{size-expr, size-exprs, size-stmt, size-stmts, size-elifs, size-fun, size-funs}
 use Rattle.meaning.specs.Visits.{under-expr, under-stmt, under-fun, visits-expr, visits-exprs, visits-stmt, visits-stmts, visits-elifs, visits-funs}
 use Rattle.meaning.specs.State.{M, Chunk}
@@ -19,24 +15,18 @@ use Rattle.meaning.specs.Lower.{lower-expr, lower-arguments, lower-stmt, lower-
 use Rattle.forward.specs.Forward.{Config, Run, fwd, fwd-code, fwd-row}
 use Rattle.store.specs.declared.Step.{Step}
 use Rattle.store.specs.declared.Scope.{Scope}
-use Rattle.store.specs.Store.{nodes-of, depth-of, block-of, loops-of, mode-of, wide-of, outcome-of, is-wide, while-going, Fine}
+use Rattle.store.specs.Store.{nodes-of, depth-of, block-of, loops-of, mode-of, wide-of, outcome-of, while-going, Fine}
 use Rattle.store.specs.Promise.{Cost, takes, Room, Does}
 use Rattle.routines.specs.Pieces.{Small}
+use Rattle.nodes.specs.Nodes.{Width}
 use Rattle.routines.specs.Node.{Lawful}
-use Rattle.cycle.specs.declared.Three.{Three}
-use Rattle.cycle.specs.declared.Words.{Words}
-use Rattle.cycle.specs.declared.Branches.{Branches}
 
 -- ---- what is given
-
--- the scope has the width of the tree's marks, as the places that one takes more than two bytes do
-abbrev pub Width : (t : List ℕ) → Scope → Type 0
-Width t p = wide-of p ≡ extra (wide-marks (fields t))
 
 -- a lawful tree, and room for k nodes that are still to be lowered, and for a words and b locals beside; a node opens a block and a loop at most
 pub record Ready (t w : List ℕ) (p : Scope) (s : Step) (k a b : ℕ) : Type 0 where
   pub lawful : Lawful t w (nodes-of p)
-  pub width : Width t p
+  pub width : Width t (wide-of p)
   pub fine : Fine w p s
   pub room : Room w p s k a b
   pub blocks : block-of p + k ≤ nodes-of p + 1 + depth-of p
@@ -178,42 +168,3 @@ LowersMinus t i w o p s w' o' r =
 -- neither
 abbrev pub LowersBoth : (t : List ℕ) (i : ℕ) (w o : List ℕ) → Scope → Step → (w' o' : List ℕ) → Step → Type 0
 LowersBoth t i w o p s w' o' r = LowersBinary t i (seen t i 2 + seen t i 3) w o p s w' o' r (visit-both i (word-of (fields t) i 0) (word-of (fields t) i 1) (operand p t i 2) (operand p t i 3))
-
--- ---- the words of a node
-
--- word k of the file's words vs, where word m is the mark
-abbrev pub head-word : Scope → (vs : List ℕ) (m k : ℕ) → ℕ
-head-word p vs m k = cond (ltb k m) (at vs k) (cond (eqb k m) (mark-at (is-wide p) vs k) (at vs (k + wide-of p)))
-
--- node i of a tree, whose word m is its mark, and the scope
-abbrev pub Headed : (t : List ℕ) → Scope → (i m : ℕ) → Type 0
-Headed t p i m = Heads (fields t) i m × Width t p
-
--- the words but the mark are words of two bytes
-abbrev pub Below : (m : ℕ) → Words → Type 0
-Below m x = ((m ≡ 0 → ⊥) → x .child0 < 65536) × ((m ≡ 1 → ⊥) → x .child1 < 65536) × ((m ≡ 2 → ⊥) → x .child2 < 65536) × ((m ≡ 3 → ⊥) → x .child3 < 65536)
-
--- the first words of node i, and the same as children; the fifth behind a mark
-abbrev pub first-words : Scope → List Field → ℕ → Words
-first-words p fs i =
-    record {
-      a = word-of fs i 0;
-      b = word-of fs i 1;
-      c = word-of fs i 2;
-      child0 = word-of fs i 0;
-      child1 = word-of fs i 1;
-      child2 = word-of fs i 2;
-      child3 = word-of fs i 3;
-      child4 = at (file-words fs i) (4 + wide-of p);
-    }
-
--- the first three of them
-abbrev pub BelowThree : (m : ℕ) → Three → Type 0
-BelowThree m x = ((m ≡ 0 → ⊥) → x .child0 < 65536) × ((m ≡ 1 → ⊥) → x .child1 < 65536) × ((m ≡ 2 → ⊥) → x .child2 < 65536)
-
-abbrev pub first-three : List Field → ℕ → Three
-first-three fs i = record { a = word-of fs i 0; b = word-of fs i 1; child0 = word-of fs i 0; child1 = word-of fs i 1; child2 = word-of fs i 2 }
-
--- where the parts of an if end: its statements, its elifs, its else
-abbrev pub branches-of : List Field → ℕ → Branches
-branches-of fs i = record { thens = 3 + word-of fs i 2; elifs = 4 + word-of fs i 2 + word-of fs i (3 + word-of fs i 2); all = count-of fs i }

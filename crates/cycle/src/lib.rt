@@ -2,7 +2,6 @@
 // A function is the straight line of its calls. Each passes a refused step on; the two dispatchers return it at once, and count a visit of any other;
 // the loops count those of elifs and methods.
 mod operators;
-mod reading;
 mod scopes;
 
 ghost use mathlib.Core.Path.{_≡_};
@@ -15,51 +14,13 @@ use crate::operators::binary_opcode;
 use crate::operators::immediate;
 use crate::operators::or_flag;
 use crate::operators::unary_opcode;
-use crate::reading::arguments_in;
-use crate::reading::branches_of;
-use crate::reading::count_of;
-use crate::reading::first_mark;
-use crate::reading::initializer_end;
-use crate::reading::names_in;
-use crate::reading::params_of;
-use crate::reading::payload_of;
-use crate::reading::tag_of;
-use crate::reading::three_of;
-use crate::reading::words_of;
 use crate::scopes::in_loop;
 use instruction::OpCode;
 use meaning::NO_MARK;
 use meaning::Outcome;
+use nodes::ABSENT;
 use store::Scope;
 use store::Step;
-
-// The first words of a node, and the same as children.
-pub struct Words {
-    pub a: u32,
-    pub b: u32,
-    pub c: u32,
-    pub child0: usize,
-    pub child1: usize,
-    pub child2: usize,
-    pub child3: usize,
-    pub child4: usize,
-}
-
-// The first three of them, for the nodes of which no more is read.
-pub struct Three {
-    pub a: u32,
-    pub b: u32,
-    pub child0: usize,
-    pub child1: usize,
-    pub child2: usize,
-}
-
-// Where the parts of an if end: its statements, its elifs, its else.
-pub struct Branches {
-    pub thens: usize,
-    pub elifs: usize,
-    pub all: usize,
-}
 
 // Operators, as 01 numbers them, that have an immediate form.
 const PLUS: u32 = 1;
@@ -95,7 +56,7 @@ pub fn row(
     requires { ⌜ AskRow (now tree) (now work) scope step node from to skew ⌝ }
     ensures { λ r. ⌜ LowersRow (now (tree .entry)) node from to (now (work .entry)) (now (out .entry)) scope step (now (work .exit)) (now (out .exit)) r ⌝ }
 {
-    let payload = payload_of(tree, work, scope, node);
+    let payload = nodes::payload_of(tree, work, node);
     let mut last = step;
     let mut k = from;
     while k < to {
@@ -120,8 +81,8 @@ fn expr_stmt(
     requires { ⌜ GivenStmt (now tree) (now work) scope step node × (tag-of (fields (now tree)) node ≡ 16) ⌝ }
     ensures { λ r. ⌜ UnderStmt (now (tree .entry)) node (now (work .entry)) (now (out .entry)) scope step (now (work .exit)) (now (out .exit)) r ⌝ }
 {
-    let x = three_of(tree, work, scope, node, 4);
-    expression(tree, work, out, step, scope, x.child0)
+    let value = nodes::expr_stmt_of(tree, work, node);
+    expression(tree, work, out, step, scope, value)
 }
 
 // fn visit_try_catch_stmt
@@ -136,13 +97,13 @@ fn try_catch(
     requires { ⌜ GivenStmt (now tree) (now work) scope step node × (tag-of (fields (now tree)) node ≡ 27) ⌝ }
     ensures { λ r. ⌜ UnderStmt (now (tree .entry)) node (now (work .entry)) (now (out .entry)) scope step (now (work .exit)) (now (out .exit)) r ⌝ }
 {
-    let x = words_of(tree, work, scope, node, 2);
+    let x = nodes::try_of(tree, work, node, scope.wide);
     let opened = routines::open_try_body(work, step, scope);
-    let body = statement(tree, work, out, opened, scope, x.child0);
+    let body = statement(tree, work, out, opened, scope, x.body);
     let ended = routines::end_try_body(work, body, scope);
     let inside = store::enter_block(work, scope);
-    let caught = routines::open_catch(work, ended, inside, node, x.child1, x.c);
-    let last = statement(tree, work, out, caught, inside, x.child3);
+    let caught = routines::open_catch(work, ended, inside, node, x.name, x.mark);
+    let last = statement(tree, work, out, caught, inside, x.catch);
     store::leave_block(work, scope);
     routines::end_try(work, last, scope, step.pc, body.pc)
 }
@@ -160,7 +121,7 @@ fn for_loop(
     ensures { λ r. ⌜ UnderStmt (now (tree .entry)) node (now (work .entry)) (now (out .entry)) scope step (now (work .exit)) (now (out .exit)) r ⌝ }
 {
     let wide = scope.wide;
-    let x = words_of(tree, work, scope, node, 0);
+    let x = nodes::for_of(tree, work, node, wide);
     let first = row(
         tree,
         work,
@@ -169,13 +130,13 @@ fn for_loop(
         scope,
         node,
         1,
-        initializer_end(x.child1),
+        nodes::initializer_end(x.initializer),
         wide,
     );
-    let condition = expression(tree, work, out, first, scope, x.child2);
-    let tested = code::test_and_jump(work, condition, scope, 0, x.a);
-    let body = statement(tree, work, out, tested, in_loop(scope), x.child4);
-    let last = expression(tree, work, out, body, scope, x.child3);
+    let condition = expression(tree, work, out, first, scope, x.condition);
+    let tested = code::test_and_jump(work, condition, scope, 0, x.mark);
+    let body = statement(tree, work, out, tested, in_loop(scope), x.body);
+    let last = expression(tree, work, out, body, scope, x.increment);
     routines::end_loop(
         work,
         last,
@@ -185,7 +146,7 @@ fn for_loop(
         first.pc,
         condition.pc,
         0,
-        x.a,
+        x.mark,
     )
 }
 
@@ -202,11 +163,10 @@ fn for_in(
     ensures { λ r. ⌜ UnderStmt (now (tree .entry)) node (now (work .entry)) (now (out .entry)) scope step (now (work .exit)) (now (out .exit)) r ⌝ }
 {
     let wide = scope.wide;
-    let x = three_of(tree, work, scope, node, 0);
-    let payload = payload_of(tree, work, scope, node);
-    let counter = routines::open_for_in(work, step, scope, node, x.a);
-    let collection = expression(tree, work, out, counter, scope, x.child1);
-    let names = names_in(payload, scope);
+    let x = nodes::for_in_of(tree, work, node, wide);
+    let payload = nodes::payload_of(tree, work, node);
+    let counter = routines::open_for_in(work, step, scope, node, x.mark);
+    let collection = expression(tree, work, out, counter, scope, x.collection);
     let head = routines::head_for_in(
         payload,
         work,
@@ -214,11 +174,11 @@ fn for_in(
         scope,
         node,
         3 + wide,
-        names,
+        x.names,
         counter.result,
-        x.a,
+        x.mark,
     );
-    let body = statement(tree, work, out, head, in_loop(scope), x.child2);
+    let body = statement(tree, work, out, head, in_loop(scope), x.body);
     routines::end_for_in(
         work,
         body,
@@ -226,7 +186,7 @@ fn for_in(
         step.pc,
         collection.pc,
         counter.result,
-        x.a,
+        x.mark,
     )
 }
 
@@ -242,15 +202,13 @@ fn let_stmt(
     requires { ⌜ GivenStmt (now tree) (now work) scope step node × (tag-of (fields (now tree)) node ≡ 17) ⌝ }
     ensures { λ r. ⌜ UnderStmt (now (tree .entry)) node (now (work .entry)) (now (out .entry)) scope step (now (work .exit)) (now (out .exit)) r ⌝ }
 {
-    let wide = scope.wide;
-    let n = count_of(tree, work, scope, node, wide);
-    if n == 2 {
+    let x = nodes::let_of(tree, work, node, scope.wide);
+    if x.value == ABSENT {
         return routines::let_only(tree, work, step, scope, node);
     }
-    let x = three_of(tree, work, scope, node, 1);
     if store::is_global_context(scope) {
-        let name = routines::new_global(work, step, scope, node, x.child0);
-        let value = expression(tree, work, out, name, scope, x.child2);
+        let name = routines::new_global(work, step, scope, node, x.name);
+        let value = expression(tree, work, out, name, scope, x.value);
         return code::emit_wide(
             work,
             value,
@@ -258,11 +216,11 @@ fn let_stmt(
             SET_GLOBAL,
             value.result,
             name.result,
-            x.b,
+            x.mark,
         );
     }
-    let value = expression(tree, work, out, step, scope, x.child2);
-    store::allocate_register(work, value, scope, x.child0, value.result);
+    let value = expression(tree, work, out, step, scope, x.value);
+    store::allocate_register(work, value, scope, x.name, value.result);
     value
 }
 
@@ -278,7 +236,7 @@ fn block(
     requires { ⌜ GivenStmt (now tree) (now work) scope step node × (tag-of (fields (now tree)) node ≡ 18) ⌝ }
     ensures { λ r. ⌜ UnderStmt (now (tree .entry)) node (now (work .entry)) (now (out .entry)) scope step (now (work .exit)) (now (out .exit)) r ⌝ }
 {
-    let n = count_of(tree, work, scope, node, 0);
+    let n = nodes::count_of(tree, work, node, 0);
     let inside = store::enter_block(work, scope);
     let last = row(tree, work, out, step, inside, node, 0, n, 0);
     store::leave_block(work, scope);
@@ -297,10 +255,10 @@ fn while_loop(
     requires { ⌜ GivenStmt (now tree) (now work) scope step node × (tag-of (fields (now tree)) node ≡ 19) ⌝ }
     ensures { λ r. ⌜ UnderStmt (now (tree .entry)) node (now (work .entry)) (now (out .entry)) scope step (now (work .exit)) (now (out .exit)) r ⌝ }
 {
-    let x = three_of(tree, work, scope, node, 0);
-    let condition = expression(tree, work, out, step, scope, x.child1);
-    let tested = code::test_and_jump(work, condition, scope, 0, x.a);
-    let body = statement(tree, work, out, tested, in_loop(scope), x.child2);
+    let x = nodes::while_of(tree, work, node, scope.wide);
+    let condition = expression(tree, work, out, step, scope, x.condition);
+    let tested = code::test_and_jump(work, condition, scope, 0, x.mark);
+    let body = statement(tree, work, out, tested, in_loop(scope), x.body);
     routines::end_loop(
         work,
         body,
@@ -310,7 +268,7 @@ fn while_loop(
         step.pc,
         condition.pc,
         condition.result,
-        x.a,
+        x.mark,
     )
 }
 
@@ -326,14 +284,12 @@ fn return_stmt(
     requires { ⌜ GivenStmt (now tree) (now work) scope step node × (tag-of (fields (now tree)) node ≡ 24) ⌝ }
     ensures { λ r. ⌜ UnderStmt (now (tree .entry)) node (now (work .entry)) (now (out .entry)) scope step (now (work .exit)) (now (out .exit)) r ⌝ }
 {
-    let wide = scope.wide;
-    let n = count_of(tree, work, scope, node, wide);
-    if n == 1 {
+    let x = nodes::return_of(tree, work, node, scope.wide);
+    if x.value == ABSENT {
         return routines::return_none(tree, work, step, scope, node);
     }
-    let x = three_of(tree, work, scope, node, 0);
-    let value = expression(tree, work, out, step, scope, x.child1);
-    routines::end_return(work, value, scope, node, x.a)
+    let value = expression(tree, work, out, step, scope, x.value);
+    routines::end_return(work, value, scope, node, x.mark)
 }
 
 // fn visit_if_stmt: "if branches .. open no block"
@@ -349,12 +305,11 @@ fn if_stmt(
     ensures { λ r. ⌜ UnderStmt (now (tree .entry)) node (now (work .entry)) (now (out .entry)) scope step (now (work .exit)) (now (out .exit)) r ⌝ }
 {
     let wide = scope.wide;
-    let x = three_of(tree, work, scope, node, 0);
-    let ends = branches_of(tree, work, scope, node, wide);
-    let condition = expression(tree, work, out, step, scope, x.child1);
-    let tested = code::test_and_jump(work, condition, scope, 0, x.a);
-    let then = row(tree, work, out, tested, scope, node, 3, ends.thens, wide);
-    let branch = routines::end_branch(work, then, scope, condition.pc, x.a);
+    let x = nodes::if_of(tree, work, node, wide);
+    let condition = expression(tree, work, out, step, scope, x.condition);
+    let tested = code::test_and_jump(work, condition, scope, 0, x.mark);
+    let then = row(tree, work, out, tested, scope, node, 3, x.thens, wide);
+    let branch = routines::end_branch(work, then, scope, condition.pc, x.mark);
     let others = elifs(
         tree,
         work,
@@ -362,8 +317,8 @@ fn if_stmt(
         branch,
         scope,
         node,
-        ends.thens + 1,
-        ends.elifs,
+        x.thens + 1,
+        x.elifs,
         wide,
     );
     let last = row(
@@ -373,8 +328,8 @@ fn if_stmt(
         others,
         scope,
         node,
-        ends.elifs,
-        ends.all,
+        x.elifs,
+        x.end,
         wide,
     );
     routines::end_if(work, last, scope, step.pc)
@@ -395,16 +350,15 @@ fn elifs(
     requires { ⌜ AskElifs (now tree) (now work) scope step node from to skew ⌝ }
     ensures { λ r. ⌜ LowersElifs (now (tree .entry)) node from to (now (work .entry)) (now (out .entry)) scope step (now (work .exit)) (now (out .exit)) r ⌝ }
 {
-    let payload = payload_of(tree, work, scope, node);
+    let payload = nodes::payload_of(tree, work, node);
     let mut last = step;
     let mut k = from;
     while k < to {
         let child = nodes::child(payload, k + skew);
-        let x = three_of(tree, work, scope, child, 4);
-        let n = count_of(tree, work, scope, child, 0);
-        let condition = expression(tree, work, out, last, scope, x.child0);
+        let x = nodes::elif_of(tree, work, child);
+        let condition = expression(tree, work, out, last, scope, x.condition);
         let tested = code::test_and_jump(work, condition, scope, 0, NO_MARK);
-        let then = row(tree, work, out, tested, scope, child, 1, n, 0);
+        let then = row(tree, work, out, tested, scope, child, 1, x.end, 0);
         last = routines::end_branch(work, then, scope, condition.pc, NO_MARK);
         store::visit(work);
         k += 1;
@@ -425,20 +379,20 @@ fn fn_stmt(
     ensures { λ r. ⌜ LowersFun (now (tree .entry)) node (now (work .entry)) (now (out .entry)) scope step (now (work .exit)) (now (out .exit)) r ⌝ }
 {
     let wide = scope.wide;
-    let x = three_of(tree, work, scope, node, 1);
-    let payload = payload_of(tree, work, scope, node);
-    let own = routines::declare(work, step, scope, node, x.child0);
-    let entered = store::enter_function(work, own, scope, node, x.child0);
+    let x = nodes::define_of(tree, work, node, wide);
+    let payload = nodes::payload_of(tree, work, node);
+    let own = routines::declare(work, step, scope, node, x.name);
+    let entered = store::enter_function(work, own, scope, node, x.name);
     let opened = routines::open_fun(
         payload,
         work,
         entered.step,
         entered.scope,
         node,
-        x.child0,
-        x.b,
+        x.name,
+        x.mark,
         3 + wide,
-        x.child2,
+        x.params,
     );
     let last = body(
         tree,
@@ -447,8 +401,8 @@ fn fn_stmt(
         opened,
         entered.scope,
         node,
-        3 + 2 * x.child2,
-        wide + x.child2 * wide,
+        3 + 2 * x.params,
+        wide + x.params * wide,
     );
     routines::end_fun(
         work,
@@ -457,9 +411,9 @@ fn fn_stmt(
         scope,
         own.pc,
         node,
-        x.child0,
-        x.b,
-        x.child2,
+        x.name,
+        x.mark,
+        x.params,
         own.result,
     )
 }
@@ -477,13 +431,12 @@ fn class(
     ensures { λ r. ⌜ UnderStmt (now (tree .entry)) node (now (work .entry)) (now (out .entry)) scope step (now (work .exit)) (now (out .exit)) r ⌝ }
 {
     let wide = scope.wide;
-    let x = words_of(tree, work, scope, node, 1);
-    let n = count_of(tree, work, scope, node, wide);
-    let own = routines::open_class(work, step, scope, node, x.child0, x.b);
+    let x = nodes::class_of(tree, work, node, wide);
+    let own = routines::open_class(work, step, scope, node, x.name, x.mark);
     let above = routines::superclass(tree, work, own, scope, node);
-    let made = routines::make_class(work, above, scope, own.result, x.b);
+    let made = routines::make_class(work, above, scope, own.result, x.mark);
     let inside = store::enter_block(work, scope);
-    let statics = 4 + x.child3;
+    let statics = 4 + x.methods;
     let plain = methods(
         tree,
         work,
@@ -494,7 +447,7 @@ fn class(
         4,
         statics,
         wide,
-        x.b,
+        x.mark,
         CLASS_METH,
         own.result,
     );
@@ -506,14 +459,14 @@ fn class(
         inside,
         node,
         statics,
-        n,
+        x.end,
         wide,
-        x.b,
+        x.mark,
         CLASS_ST_METH,
         own.result,
     );
     store::leave_block(work, scope);
-    routines::end_class(work, last, scope, node, x.child0, x.b, own.result)
+    routines::end_class(work, last, scope, node, x.name, x.mark, own.result)
 }
 
 // fn visit_class_stmt, `for method in &stmt.methods` and `&stmt.static_methods`
@@ -534,12 +487,12 @@ fn methods(
     requires { ⌜ AskMethods (now tree) (now work) scope step node from to skew op class ⌝ }
     ensures { λ r. ⌜ LowersMethods (now (tree .entry)) node from to mark op class (now (work .entry)) (now (out .entry)) scope step (now (work .exit)) (now (out .exit)) r ⌝ }
 {
-    let payload = payload_of(tree, work, scope, node);
+    let payload = nodes::payload_of(tree, work, node);
     let mut last = step;
     let mut k = from;
     while k < to {
         let child = nodes::child(payload, k + skew);
-        let x = words_of(tree, work, scope, child, 1);
+        let x = nodes::define_of(tree, work, child, scope.wide);
         let method = fn_stmt(tree, work, out, last, scope, child);
         last = routines::add_method(
             work,
@@ -550,7 +503,7 @@ fn methods(
             op,
             class,
             class + 1,
-            x.child0,
+            x.name,
         );
         store::visit(work);
         k += 1;
@@ -573,11 +526,11 @@ fn function(
     ensures { λ r. ⌜ UnderExpr (now (tree .entry)) node (now (work .entry)) (now (out .entry)) scope step (now (work .exit)) (now (out .exit)) r ⌝ }
 {
     let wide = scope.wide;
-    let n = params_of(tree, work, scope, node);
-    let payload = payload_of(tree, work, scope, node);
+    let x = nodes::function_of(tree, work, node, wide);
+    let payload = nodes::payload_of(tree, work, node);
     let own = store::next_register(work, step, scope, node);
     let entered = store::enter_function(work, own, scope, node, NO_NAME);
-    let opened = routines::open_function(payload, work, entered.step, entered.scope, node, 1, n);
+    let opened = routines::open_function(payload, work, entered.step, entered.scope, node, 1, x.params);
     let last = body(
         tree,
         work,
@@ -585,8 +538,8 @@ fn function(
         opened,
         entered.scope,
         node,
-        1 + 2 * n,
-        n * wide,
+        1 + 2 * x.params,
+        x.params * wide,
     );
     routines::end_function(
         work,
@@ -595,9 +548,9 @@ fn function(
         scope,
         own.pc,
         node,
-        n,
+        x.params,
         own.result,
-        first_mark(payload, scope, n),
+        x.mark,
     )
 }
 
@@ -615,7 +568,7 @@ fn body(
     requires { ⌜ AskBody (now tree) (now work) scope step node from skew ⌝ }
     ensures { λ r. ⌜ LowersBody (now (tree .entry)) node from (now (work .entry)) (now (out .entry)) scope step (now (work .exit)) (now (out .exit)) r ⌝ }
 {
-    let n = count_of(tree, work, scope, node, skew);
+    let n = nodes::count_of(tree, work, node, skew);
     let inside = store::enter_block(work, scope);
     let last = row(tree, work, out, step, inside, node, from, n, skew);
     let ended = routines::end_body(work, last, inside, n - from, step.pc, node);
@@ -635,12 +588,12 @@ fn binary(
     requires { ⌜ GivenExpr (now tree) (now work) scope step node × (tag-of (fields (now tree)) node ≡ 6) ⌝ }
     ensures { λ r. ⌜ UnderExpr (now (tree .entry)) node (now (work .entry)) (now (out .entry)) scope step (now (work .exit)) (now (out .exit)) r ⌝ }
 {
-    let x = words_of(tree, work, scope, node, 1);
-    let k = immediate(tree, work, scope, x.a, PLUS, x.child3);
+    let x = nodes::binary_of(tree, work, node, scope.wide);
+    let k = immediate(tree, work, scope, x.op, PLUS, x.right);
     if k < 256 {
         return addi(tree, work, out, step, scope, node, k);
     }
-    let j = immediate(tree, work, scope, x.a, MINUS, x.child2);
+    let j = immediate(tree, work, scope, x.op, MINUS, x.left);
     if j < 256 {
         return minus(tree, work, out, step, scope, node);
     }
@@ -660,10 +613,10 @@ fn addi(
     requires { ⌜ GivenExpr (now tree) (now work) scope step node × (tag-of (fields (now tree)) node ≡ 6) × (k < 256) ⌝ }
     ensures { λ r. ⌜ LowersAddi (now (tree .entry)) node k (now (work .entry)) (now (out .entry)) scope step (now (work .exit)) (now (out .exit)) r ⌝ }
 {
-    let x = words_of(tree, work, scope, node, 1);
-    let left = expression(tree, work, out, step, scope, x.child2);
+    let x = nodes::binary_of(tree, work, node, scope.wide);
+    let left = expression(tree, work, out, step, scope, x.left);
     let last = store::next_register(work, left, scope, node);
-    code::emit(work, last, scope, ADDI, last.result, left.result, k, x.b)
+    code::emit(work, last, scope, ADDI, last.result, left.result, k, x.mark)
 }
 
 // fn binary_literal at Minus: the right side is lowered and dropped, then all is lowered
@@ -678,8 +631,8 @@ fn minus(
     requires { ⌜ GivenExpr (now tree) (now work) scope step node × (tag-of (fields (now tree)) node ≡ 6) ⌝ }
     ensures { λ r. ⌜ LowersMinus (now (tree .entry)) node (now (work .entry)) (now (out .entry)) scope step (now (work .exit)) (now (out .exit)) r ⌝ }
 {
-    let x = words_of(tree, work, scope, node, 1);
-    let right = expression(tree, work, out, step, scope, x.child3);
+    let x = nodes::binary_of(tree, work, node, scope.wide);
+    let right = expression(tree, work, out, step, scope, x.right);
     let last = store::next_register(work, right, scope, node);
     let again = code::roll_back(last, step.pc);
     both(tree, work, out, again, scope, node)
@@ -697,19 +650,19 @@ fn both(
     requires { ⌜ GivenExpr (now tree) (now work) scope step node × (tag-of (fields (now tree)) node ≡ 6) ⌝ }
     ensures { λ r. ⌜ LowersBoth (now (tree .entry)) node (now (work .entry)) (now (out .entry)) scope step (now (work .exit)) (now (out .exit)) r ⌝ }
 {
-    let x = words_of(tree, work, scope, node, 1);
-    let left = expression(tree, work, out, step, scope, x.child2);
-    let right = expression(tree, work, out, left, scope, x.child3);
+    let x = nodes::binary_of(tree, work, node, scope.wide);
+    let left = expression(tree, work, out, step, scope, x.left);
+    let right = expression(tree, work, out, left, scope, x.right);
     let last = store::next_register(work, right, scope, node);
     code::emit(
         work,
         last,
         scope,
-        binary_opcode(x.a),
+        binary_opcode(x.op),
         last.result,
         left.result,
         right.result,
-        x.b,
+        x.mark,
     )
 }
 
@@ -725,12 +678,11 @@ fn call(
     requires { ⌜ GivenExpr (now tree) (now work) scope step node × (tag-of (fields (now tree)) node ≡ 8) ⌝ }
     ensures { λ r. ⌜ UnderExpr (now (tree .entry)) node (now (work .entry)) (now (out .entry)) scope step (now (work .exit)) (now (out .exit)) r ⌝ }
 {
-    let x = three_of(tree, work, scope, node, 1);
-    let n = arguments_in(tree, work, scope, node);
-    let callee = expression(tree, work, out, step, scope, x.child0);
-    let opened = routines::open_call(work, callee, scope, node, n, x.b);
+    let x = nodes::call_of(tree, work, node, scope.wide);
+    let callee = expression(tree, work, out, step, scope, x.callee);
+    let opened = routines::open_call(work, callee, scope, node, x.arguments, x.mark);
     let last = arguments(tree, work, out, opened, scope, node, opened.result + 1);
-    routines::end_call(work, last, scope, node, n, opened.result, x.b)
+    routines::end_call(work, last, scope, node, x.arguments, opened.result, x.mark)
 }
 
 // fn visit_call_expr, `for (i, expr) in (&expr.arguments).iter().enumerate()`
@@ -747,8 +699,8 @@ fn arguments(
     ensures { λ r. ⌜ LowersArguments (now (tree .entry)) node register (now (work .entry)) (now (out .entry)) scope step (now (work .exit)) (now (out .exit)) r ⌝ }
 {
     let wide = scope.wide;
-    let payload = payload_of(tree, work, scope, node);
-    let n = count_of(tree, work, scope, node, wide);
+    let payload = nodes::payload_of(tree, work, node);
+    let n = nodes::count_of(tree, work, node, wide);
     let mut last = step;
     let mut to = register;
     let mut k: usize = 2;
@@ -774,11 +726,11 @@ fn logical(
     requires { ⌜ GivenExpr (now tree) (now work) scope step node × (tag-of (fields (now tree)) node ≡ 7) ⌝ }
     ensures { λ r. ⌜ UnderExpr (now (tree .entry)) node (now (work .entry)) (now (out .entry)) scope step (now (work .exit)) (now (out .exit)) r ⌝ }
 {
-    let x = words_of(tree, work, scope, node, 1);
-    let left = expression(tree, work, out, step, scope, x.child2);
-    let tested = code::test_and_jump(work, left, scope, or_flag(x.a), x.b);
-    let right = expression(tree, work, out, tested, scope, x.child3);
-    routines::end_logical(work, right, scope, left.pc, left.result, x.b)
+    let x = nodes::logical_of(tree, work, node, scope.wide);
+    let left = expression(tree, work, out, step, scope, x.left);
+    let tested = code::test_and_jump(work, left, scope, or_flag(x.op), x.mark);
+    let right = expression(tree, work, out, tested, scope, x.right);
+    routines::end_logical(work, right, scope, left.pc, left.result, x.mark)
 }
 
 // fn visit_unary_expr
@@ -793,17 +745,17 @@ fn unary(
     requires { ⌜ GivenExpr (now tree) (now work) scope step node × (tag-of (fields (now tree)) node ≡ 5) ⌝ }
     ensures { λ r. ⌜ UnderExpr (now (tree .entry)) node (now (work .entry)) (now (out .entry)) scope step (now (work .exit)) (now (out .exit)) r ⌝ }
 {
-    let x = three_of(tree, work, scope, node, 1);
-    let operand = expression(tree, work, out, step, scope, x.child2);
+    let x = nodes::unary_of(tree, work, node, scope.wide);
+    let operand = expression(tree, work, out, step, scope, x.operand);
     code::emit(
         work,
         operand,
         scope,
-        unary_opcode(x.a),
+        unary_opcode(x.op),
         operand.result,
         operand.result,
         0,
-        x.b,
+        x.mark,
     )
 }
 
@@ -823,7 +775,7 @@ fn statement(
     let Outcome::Accepted(_) = o else {
         return step;
     };
-    let tag = tag_of(tree, work, scope, node);
+    let tag = nodes::tag_of(tree, work, node);
     store::visit(work);
     match tag {
         0x10 => expr_stmt(tree, work, out, step, scope, node),
@@ -857,7 +809,7 @@ fn expression(
     let Outcome::Accepted(_) = o else {
         return step;
     };
-    let tag = tag_of(tree, work, scope, node);
+    let tag = nodes::tag_of(tree, work, node);
     store::visit(work);
     match tag {
         0x04 => routines::variable(tree, work, step, scope, node),

@@ -25,9 +25,9 @@ use Rattle.lower.specs.Open.{Opened}
 use Rattle.cycle.specs.Cycle.{AskRow}
 
 -- the store is begun beside the table of offsets, which stays
-pub opened : {t w0 w1 w2 : List ℕ} {n : ℕ} → Filled t w0 w1 (12288 + 15 * n) → Begun w1 n w2 → Opened t n w2
-opened f b =
-    record { offsets = offsets-kept (f .offsets) (b .same) (λ i h l. b .offsets i h); fine = b .fine; room = b .room; runs = b .runs; image = b .image; counts = b .counts }
+pub opened : {t w0 w1 w2 : List ℕ} {n : ℕ} → Filled t w0 w1 → n ≡ length (fields t) → 12288 + 16 * n ≤ length w1 → Begun w1 n w2 → Opened t n w2
+opened f e l b =
+    record { offsets = offsets-kept (f .offsets) (b .same) (λ i h. b .offsets i (omega arith)); fine = b .fine; room = b .room; runs = b .runs; image = b .image; counts = b .counts }
 
 module _ (mode : ℕ) (t : List ℕ) (work n : ℕ) (e : checked mode t work ≡ Accepted n) where
   pub some-nodes : 1 ≤ n
@@ -45,7 +45,7 @@ module _ (mode : ℕ) (t : List ℕ) (work n : ℕ) (e : checked mode t work ≡
   row-size = rw program-is at (accepted-size mode t work n e)
 
   module _ {w : List ℕ} (o : Opened t n w) where
-    pub last-readable : Readable t w (12288 + 15 * n) (n - 1)
+    pub last-readable : Readable t w (n - 1)
     last-readable = let a = accepted mode t work n e in record { offsets = o .offsets; known = omega (arith, a .nodes, a .some) }
 
     -- the program has no mark, so its words are those of the file
@@ -56,15 +56,15 @@ module _ (mode : ℕ) (t : List ℕ) (work n : ℕ) (e : checked mode t work ≡
         let k : n - 1 ≡ length (fields t) - 1 = omega (arith, a .nodes) in
         rw k (heads-none (fields t) (length (fields t) - 1) (a .shapes (length (fields t) - 1) (omega (arith, a .some))) _ (last-items (fields t) (a .shapes) (a .some)) refl .1)
 
-    pub program-size : length (file-words (fields t) (n - 1)) ≡ count-of (fields t) (n - 1)
-    program-size = let b = program-stands .size in omega (arith, b)
+    pub program-counted : Readable t w (n - 1) × (length (file-words (fields t) (n - 1)) ≡ count-of (fields t) (n - 1) + 0)
+    program-counted = (last-readable, program-stands .size)
 
     pub row-asked : {v : ℕ} → v ≡ extra (wide-marks (fields t)) → AskRow t w (main-scope mode v n) first-step (n - 1) 0 (count-of (fields t) (n - 1)) 0
     row-asked {v} width =
         let a = accepted mode t work n e in
         record {
           ready = record {
-            lawful = record { nodes = a .nodes; shapes = a .shapes; offsets = o .offsets };
+            lawful = record { nodes = a .nodes; shapes = a .shapes; long = o .fine mode v .sound .long; offsets = o .offsets };
             width = width;
             fine = o .fine mode v;
             room = room-by (size-stmts (stmts-at (fields t) (n - 1) 0 (count-of (fields t) (n - 1)))) 0 0 (omega (arith, row-size)) (omega (arith, row-size)) (o .room mode v);

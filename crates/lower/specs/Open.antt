@@ -11,7 +11,7 @@ use Rattle.store.specs.Promise.{Room}
 
 -- the table of offsets is filled, and the words stand for what the definition starts from, with room for every node
 pub record Opened (t : List ℕ) (n : ℕ) (w : List ℕ) : Type 0 where
-  pub offsets : Offsets t w (12288 + 15 * n)
+  pub offsets : Offsets t w
   pub fine : (mode wide : ℕ) → Fine w (main-scope mode wide n) first-step
   pub room : (mode wide : ℕ) → Room w (main-scope mode wide n) first-step n 0 0
   pub runs : (mode wide : ℕ) → run w (main-scope mode wide n) first-step [] ≡ going (config [] 0 start)

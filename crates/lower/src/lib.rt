@@ -1,11 +1,10 @@
 // The public call: a tree is checked, lowered and written as an image; afterwards the work area is zero, and so is the output behind the image.
 use meaning::Outcome;
 use meaning::Reply;
-use store::OFFSETS;
 use store::Step;
 ghost use mathlib.Core.Path.{_≡_};
 ghost use mathlib.Core.List.{_++_};
-ghost use Prim.Native.Nat.{ℕ, _+_, _-_, _*_, _≤_};
+ghost use Prim.Native.Nat.{ℕ, _-_, _≤_};
 ghost use lib.ListN.{length, take, replicate};
 ghost use Rattle.meaning.specs.Fields.{fields};
 ghost use Rattle.meaning.specs.Grammar.{wide-marks};
@@ -47,16 +46,16 @@ fn set_up(tree: &[u8], work: &mut [u32], n: usize) -> Step
     requires { ⌜ ((mode : ℕ) × (checked mode (now tree) (length (now work)) ≡ Accepted n)) ⌝ }
     ensures { λ r. ⌜ (r ≡ first-step) × Opened (now (tree .entry)) n (now (work .exit)) ⌝ }
 {
-    nodes::fill_offsets(tree, work, OFFSETS + 15 * n, n);
+    nodes::fill_offsets(tree, work, n);
     store::begin(work, n)
 }
 
 // 1 where the last node says that marks have four bytes, else 0.
 fn width_of(tree: &[u8], work: &[u32], n: usize) -> usize
-    requires { ⌜ Readable (now tree) (now work) (12288 + 15 * n) (n - 1) × (n ≡ length (fields (now tree))) × (1 ≤ n) × (n ≤ 32768) ⌝ }
+    requires { ⌜ Readable (now tree) (now work) (n - 1) × (n ≡ length (fields (now tree))) × (1 ≤ n) ⌝ }
     ensures { λ r. ⌜ r ≡ extra (wide-marks (fields (now (tree .entry)))) ⌝ }
 {
-    if nodes::tag_of(tree, work, OFFSETS + 15 * n, n - 1) == 0x3E {
+    if nodes::tag_of(tree, work, n - 1) == 0x3E {
         return 1;
     }
     0
@@ -71,7 +70,7 @@ fn lower_checked(tree: &[u8], work: &mut [u32], out: &mut [u8], n: usize, mode: 
     let wide = width_of(tree, work, n);
     let main = store::main_scope(mode as usize, wide, n);
     let last = n - 1;
-    let count = nodes::count_of(tree, work, OFFSETS + 15 * n, last);
+    let count = nodes::count_of(tree, work, last, 0);
     let rowed = cycle::row(tree, work, out, first, main, last, 0, count, 0);
     let ended = code::end_program(work, out, rowed, main, last);
     image::finish(work, out, ended, last)

@@ -15,32 +15,30 @@ use Rattle.meaning.proofs.Accepted.{accepted}
 use Rattle.nodes.specs.Offsets.{Offsets, Readable, Filled}
 use Rattle.nodes.proofs.Headers.{offsets-kept}
 
--- the table in the work area's last n of 12,288 + 16 n words
-pub fill-allowed : (mode : ℕ) (tree work : List ℕ) (n : ℕ) → checked mode tree (length work) ≡ Accepted n → (n ≡ length (fields tree)) × (n ≤ 32768) × (12288 + 15 * n + n ≤ length work)
+-- the table in the last n of at least 12,288 + 16 n words
+pub fill-allowed : (mode : ℕ) (tree work : List ℕ) (n : ℕ) → checked mode tree (length work) ≡ Accepted n → (n ≡ length (fields tree)) × (n ≤ 32768) × (n ≤ length work)
 fill-allowed mode tree work n e = let a = accepted mode tree (length work) n e in (a .nodes, omega (arith, a .nodes, a .few), omega (arith, a .nodes, a .room))
 
-module _ {tree work : List ℕ} {base : ℕ} where
-  pub node-readable : Offsets tree work base → (node : ℕ) → node < length (fields tree) → Readable tree work base node
+module _ {tree work : List ℕ} where
+  pub node-readable : Offsets tree work → (node : ℕ) → node < length (fields tree) → Readable tree work node
   node-readable o node h = record { offsets = o; known = h }
 
-  pub child-readable : {node : ℕ} → Readable tree work base node → (c : ℕ) → c < node → Readable tree work base c
+  pub child-readable : {node : ℕ} → Readable tree work node → (c : ℕ) → c < node → Readable tree work c
   child-readable r c h = record { offsets = r .offsets; known = omega (arith, r .known) }
 
-  pub readable-kept : {work' : List ℕ} {node : ℕ} → Readable tree work base node → length work' ≡ length work
-      → ((i : ℕ) → base ≤ i → i < base + length (fields tree) → getD work' i 0 ≡ getD work i 0) → Readable tree work' base node
+  pub readable-kept : {work' : List ℕ} {node : ℕ} → Readable tree work node → length work' ≡ length work
+      → ((i : ℕ) → length work ≤ i + length (fields tree) → getD work' i 0 ≡ getD work i 0) → Readable tree work' node
   readable-kept r l same = record { offsets = offsets-kept (r .offsets) l same; known = r .known }
 
 -- any two work areas that `fill_offsets` may leave are equal
-pub filled-determined : (tree work w v : List ℕ) (base : ℕ) → Filled tree work w base → Filled tree work v base → length w ≡ length work → length v ≡ length work → w ≡ v
-filled-determined tree work w v base f g a b = ext-getD 0 w v (a ∙ sym b) (λ i h. at-word i)
+pub filled-determined : (tree work w v : List ℕ) → Filled tree work w → Filled tree work v → length w ≡ length work → length v ≡ length work → w ≡ v
+filled-determined tree work w v f g a b = ext-getD 0 w v (a ∙ sym b) at-word
   where
-    at-word : (i : ℕ) → getD w i 0 ≡ getD v i 0
-    at-word i =
-        ⊎-elim (λ (p : i < base). f .under i p ∙ sym (g .under i p))
-        (λ (p : base ≤ i). ⊎-elim
-        (λ (q : i < base + length (fields tree)).
-        let z : base + (i - base) ≡ i = omega arith in
-        rw z at (f .offsets .each (i - base) (omega arith) ∙ sym (g .offsets .each (i - base) (omega arith))))
-        (λ (q : base + length (fields tree) ≤ i). f .over i q ∙ sym (g .over i q))
-        (lt-or-le i (base + length (fields tree))))
-        (lt-or-le i base)
+    at-word : (i : ℕ) → i < length w → getD w i 0 ≡ getD v i 0
+    at-word i h =
+        ⊎-elim (λ (p : i + length (fields tree) < length work). f .before i p ∙ sym (g .before i p))
+        (λ (p : length work ≤ i + length (fields tree)).
+        let z : length work - 1 - (length work - 1 - i) ≡ i = omega arith in
+        let m : length work - 1 - i < length (fields tree) = omega arith in
+        rw z at ((rw a at (f .offsets .each (length work - 1 - i) m)) ∙ sym (rw b at (g .offsets .each (length work - 1 - i) m))))
+        (lt-or-le (i + length (fields tree)) (length work))

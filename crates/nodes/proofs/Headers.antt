@@ -13,7 +13,7 @@ use Rattle.meaning.specs.Fields.{word-at, span, whole, Field, front, rest, fiel
 use Rattle.meaning.specs.At.{tag-of, file-words}
 use Rattle.meaning.proofs.Lists.{tail-part}
 use Rattle.meaning.proofs.FieldLaws.{whole-true, fields-whole, fields-cut}
-use Rattle.nodes.proofs.Words.{words-count}
+use Rattle.nodes.proofs.Bytes.{words-count}
 use Rattle.nodes.specs.Offsets.{Offsets, Readable, Filled}
 
 -- where there is a field, a whole one stands at the front
@@ -54,14 +54,23 @@ size-drop s n =
     let z : n + 1 + 1 ≡ n + 2 = omega arith in
     rw (getD-drop n s 1 0, getD-drop n s 2 0, z)
 
+-- a node has fewer than 65,536 words: its length stands in two bytes
+pub few-words : (tree : List ℕ) (i : ℕ) → ((j : ℕ) → getD tree j 0 < 256) → i < length (fields tree) → length (file-words (fields tree) i) < 65536
+few-words tree i bytes h =
+    let s = drop (header tree i) tree in
+    let e = ap (λ (f : Field). length (f .payload)) (stands tree i h .same) in
+    let n = words-count (take (word-at s 1) (drop 3 s)) in
+    let z = size-drop tree (header tree i) in
+    rw (stands tree i h .same) (omega (arith, n, length-take (word-at s 1) (drop 3 s), z, bytes (header tree i + 1), bytes (header tree i + 1 + 1)))
+
 -- ---- a reader's view: the bytes at the offset that the table has
 
-module _ {tree work : List ℕ} {base node : ℕ} (h : Readable tree work base node) where
+module _ {tree work : List ℕ} {node : ℕ} (h : Readable tree work node) where
   -- the offset's word is in the table
-  pub entry-inside : base + node < length work
+  pub entry-inside : node < length work
   entry-inside = omega (arith, h .offsets .inside, h .known)
 
-  module _ (start : ℕ) (e : start ≡ getD work (base + node) 0) where
+  module _ (start : ℕ) (e : start ≡ getD work (length work - 1 - node) 0) where
     here : (whole (drop start tree) ≡ true) × (field-at (fields tree) node ≡ front (drop start tree))
     here = let r = stands tree node (h .known) in rw (e ∙ h .offsets .each node (h .known)) (r .entire, r .same)
 
@@ -83,60 +92,56 @@ module _ {tree work : List ℕ} {base node : ℕ} (h : Readable tree work base n
 -- ---- the table
 
 -- what changes no word of the table keeps it
-pub offsets-kept : {tree work work' : List ℕ} {base : ℕ} → Offsets tree work base → length work' ≡ length work
-    → ((i : ℕ) → base ≤ i → i < base + length (fields tree) → getD work' i 0 ≡ getD work i 0) → Offsets tree work' base
-offsets-kept {base = base} o l same = record {
+pub offsets-kept : {tree work work' : List ℕ} → Offsets tree work → length work' ≡ length work
+    → ((i : ℕ) → length work ≤ i + length (fields tree) → getD work' i 0 ≡ getD work i 0) → Offsets tree work'
+offsets-kept {work = work} o l same = record {
   inside = omega (arith, o .inside);
-  each = λ i h. same (base + i) (omega arith) (omega arith) ∙ o .each i h;
+  each = λ i h. rw l (same (length work - 1 - i) (omega (arith, o .inside)) ∙ o .each i h);
 }
 
 -- the work area while the table is filled: i offsets are there, and t is the tree from the next header on
-pub record Filling (tree work work' : List ℕ) (base n i at : ℕ) (t : List ℕ) : Type 0 where
+pub record Filling (tree work work' : List ℕ) (n i at : ℕ) (t : List ℕ) : Type 0 where
   pub few : i ≤ n
   pub start : at ≡ header tree i
   pub left : t ≡ drop at tree
   pub low : at ≤ 65538 * i
   pub length-same : length work' ≡ length work
-  pub each : (j : ℕ) → j < i → getD work' (base + j) 0 ≡ header tree j
-  pub under : (j : ℕ) → j < base → getD work' j 0 ≡ getD work j 0
-  pub over : (j : ℕ) → base + i ≤ j → getD work' j 0 ≡ getD work j 0
+  pub each : (j : ℕ) → j < i → getD work' (length work - 1 - j) 0 ≡ header tree j
+  pub before : (j : ℕ) → j + i < length work → getD work' j 0 ≡ getD work j 0
 
-pub filling-start : (tree work : List ℕ) (base n : ℕ) → Filling tree work work base n 0 0 tree
+pub filling-start : (tree work : List ℕ) (n : ℕ) → Filling tree work work n 0 0 tree
 unfolding header
-filling-start tree work base n = record {
+filling-start tree work n = record {
   few = omega arith;
   start = refl;
   left = refl;
   low = omega arith;
   length-same = refl;
   each = λ j h. absurd (omega arith);
-  under = λ j h. refl;
-  over = λ j h. refl;
+  before = λ j h. refl;
 }
 
 -- a whole field stands at the next header
-pub filling-whole : {tree work work' : List ℕ} {base n i at : ℕ} {t : List ℕ} → Filling tree work work' base n i at t → n ≡ length (fields tree) → i < n → span t ≤ length t
+pub filling-whole : {tree work work' : List ℕ} {n i at : ℕ} {t : List ℕ} → Filling tree work work' n i at t → n ≡ length (fields tree) → i < n → span t ≤ length t
 filling-whole {tree} {i = i} {t = t} f e h = whole-true t (rw (f .left, f .start) (stands tree i (omega arith) .entire))
 
-pub filling-more : {tree work work' : List ℕ} {base n i at : ℕ} {t : List ℕ} → Filling tree work work' base n i at t → base + n ≤ length work → i < n
-    → (k : ℕ) → k ≡ span t → k ≤ 65538 → Filling tree work (set work' (base + i) at) base n (i + 1) (at + k) (take (length t - k) (drop k t))
-filling-more {tree} {work} {work'} {base} {n} {i} {at} {t} f room h k e s = record {
+pub filling-more : {tree work work' : List ℕ} {n i at : ℕ} {t : List ℕ} → Filling tree work work' n i at t → n ≤ length work → i < n
+    → (place : ℕ) → place ≡ length work - 1 - i → (k : ℕ) → k ≡ span t → k ≤ 65538 → Filling tree work (set work' place at) n (i + 1) (at + k) (take (length t - k) (drop k t))
+filling-more {tree} {work} {work'} {n} {i} {at} {t} f room h place p k e s = record {
   few = omega arith;
   start = rw add-one (omega (arith, header-next tree i, rw (f .left, f .start) at e, f .start));
   left = tail-part k t ∙ (rw (f .left) (drop-drop k at tree));
   low = omega (arith, f .low);
-  length-same = length-set work' (base + i) at ∙ f .length-same;
-  each = below-more (λ j. getD (set work' (base + i) at) (base + j) 0 ≡ header tree j) i (λ j b. getD-set-other work' (base + i) (base + j) at 0 (λ q. omega arith) ∙ f .each j b)
-      (getD-set-same work' (base + i) at 0 (omega (arith, f .length-same)) ∙ f .start);
-  under = λ j b. getD-set-other work' (base + i) j at 0 (λ q. omega arith) ∙ f .under j b;
-  over = λ j b. getD-set-other work' (base + i) j at 0 (λ q. omega arith) ∙ f .over j (omega arith);
+  length-same = length-set work' place at ∙ f .length-same;
+  each = below-more (λ j. getD (set work' place at) (length work - 1 - j) 0 ≡ header tree j) i (λ j b. getD-set-other work' place (length work - 1 - j) at 0 (λ q. omega arith) ∙ f .each j b)
+      (rw (← p) (getD-set-same work' place at 0 (omega (arith, f .length-same)) ∙ f .start));
+  before = λ j b. getD-set-other work' place j at 0 (λ q. omega arith) ∙ f .before j (omega arith);
 }
 
 -- the table is full
-pub filling-end : {tree work work' : List ℕ} {base n i at : ℕ} {t : List ℕ} → Filling tree work work' base n i at t → n ≡ length (fields tree) → base + n ≤ length work → n ≤ i
-    → Filled tree work work' base
+pub filling-end : {tree work work' : List ℕ} {n i at : ℕ} {t : List ℕ} → Filling tree work work' n i at t → n ≡ length (fields tree) → n ≤ length work → n ≤ i
+    → Filled tree work work'
 filling-end f e room h = record {
-  offsets = record { inside = omega (arith, f .length-same); each = λ i b. f .each i (omega (arith, f .few)) };
-  under = f .under;
-  over = λ j b. f .over j (omega (arith, f .few));
+  offsets = record { inside = omega (arith, f .length-same); each = λ i b. rw (f .length-same) (f .each i (omega (arith, f .few))) };
+  before = λ j b. f .before j (omega (arith, f .few));
 }

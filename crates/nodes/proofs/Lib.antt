@@ -1,5 +1,6 @@
 -- Theorems about where nodes stand and what their words are.
-pub mod Words
+pub mod Bytes
 pub mod Headers
 pub mod Allowed
+pub mod Held
 pub mod Determined

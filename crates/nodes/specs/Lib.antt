@@ -1,2 +1,3 @@
--- Where the nodes of a tree file stand.
+-- Where the nodes of a tree file stand, and what a node of each kind holds.
 pub mod Offsets
+pub mod Nodes

@@ -11,7 +11,7 @@ use Rattle.meaning.specs.At.{mark-at, extra, mark-words, pair-place, pairs-in}
 use Rattle.meaning.specs.Syntax.{Token}
 use Rattle.store.specs.declared.Scope.{Scope}
 use Rattle.store.specs.Store.{is-wide}
-use Rattle.routines.specs.Pieces.{tokens-from}
+use Rattle.routines.specs.Pieces.{tokens-from, HasPairs}
 
 -- the pairs from the k-th on
 abbrev pub left : Scope → List ℕ → (from n k : ℕ) → List Token
@@ -55,3 +55,17 @@ one-token p l from n one = first-token p l from n (omega arith) ∙ ap (λ ts. t
 
 pub two-tokens : (p : Scope) (l : List ℕ) (from n : ℕ) → 2 ≤ n → 2 ≤ length (tokens-from p l from n)
 two-tokens p l from n two = rw (first-token p l from n (omega arith), first-token p l (from + 1 + mark-words (is-wide p)) (n - 1) (omega arith)) (omega arith)
+
+-- ---- where a pair stands
+
+before : (b : Bool) (from k n len : ℕ) → k < n → from + pair-place b n ≤ len → from + pair-place b k < len
+before true from k n len l h = omega arith
+before false from k n len l h = omega arith
+
+-- each of the n pairs is in the payload
+pub pair-there : {p : Scope} {l : List ℕ} {from n : ℕ} (k : ℕ) → HasPairs p l from n → k < n → from + pair-place (is-wide p) k < length (words l)
+pair-there {p} {l} {from} {n} k h b = before (is-wide p) from k n (length (words l)) b (h .inside)
+
+-- its first word is the name of the first
+pub first-there : {p : Scope} {l : List ℕ} {from n : ℕ} → HasPairs p l from n → 1 ≤ n → from < length (words l)
+first-there {p} {l} {from} h b = let z = none-before (is-wide p) in omega (arith, z, pair-there 0 h b)

@@ -1,5 +1,5 @@
 -- A node that has no child to lower: what its function is given, and what it promises.
-use Prim.Native.Nat.{ℕ, _+_, _*_, _<_}
+use Prim.Native.Nat.{ℕ, _+_, _*_, _<_, _≤_}
 use mathlib.Core.Path.{_≡_}
 use mathlib.Core.Bool.{true, cond}
 use mathlib.Core.List.{List}
@@ -7,7 +7,7 @@ use mathlib.Core.Option.{Option, none, some}
 use lib.ListN.{length}
 use lib.Dec.{ltb}
 use Rattle.meaning.specs.Fields.{fields}
-use Rattle.meaning.specs.Grammar.{shape-at, wide-marks}
+use Rattle.meaning.specs.Grammar.{shape-at}
 use Rattle.meaning.specs.Syntax.{Super}
 use Rattle.meaning.specs.Read.{token}
 use Rattle.meaning.specs.At.{word-of, expr-at, stmt-at, super-at}
@@ -16,20 +16,22 @@ use Rattle.meaning.specs.Weight.{size-super}
 use Rattle.meaning.specs.Visits.{visits-super}
 use Rattle.meaning.specs.Lower.{lower-expr, lower-stmt}
 use Rattle.nodes.specs.Offsets.{Offsets}
+use Rattle.nodes.specs.Nodes.{Width}
 use Rattle.forward.specs.Forward.{Config, Run, fwd}
 use Rattle.store.specs.declared.Step.{Step}
 use Rattle.store.specs.declared.Scope.{Scope}
-use Rattle.store.specs.Store.{nodes-of, mode-of, is-wide, Fine}
+use Rattle.store.specs.Store.{nodes-of, mode-of, wide-of, Fine}
 use Rattle.store.specs.Promise.{Cost, uses, takes, Room, Leaf}
 use Rattle.routines.specs.Pieces.{Small}
 
 -- ---- what is given
 
--- a tree of n nodes that the check accepted, with the table of its nodes' offsets
+-- a tree of n nodes that the check accepted, in a work area that is long enough, with the table of its nodes' offsets
 pub record Lawful (t w : List ℕ) (n : ℕ) : Type 0 where
   pub nodes : n ≡ length (fields t)
   pub shapes : (j : ℕ) → j < length (fields t) → shape-at (fields t) j ≡ true
-  pub offsets : Offsets t w (12288 + 15 * n)
+  pub long : 12288 + 16 * n ≤ length w
+  pub offsets : Offsets t w
 
 -- a node of it, room for k nodes, and the width of its marks in the scope
 pub record OnNode (t w : List ℕ) (p : Scope) (s : Step) (k node : ℕ) : Type 0 where
@@ -37,7 +39,7 @@ pub record OnNode (t w : List ℕ) (p : Scope) (s : Step) (k node : ℕ) : Type 
   pub fine : Fine w p s
   pub room : Room w p s k 0 0
   pub known : node < nodes-of p
-  pub width : is-wide p ≡ wide-marks (fields t)
+  pub width : Width t (wide-of p)
 
 -- ---- what is promised
 

@@ -3,7 +3,7 @@ use Prim.Native.Nat.{ℕ, _+_, _-_, _*_, _<_, _≤_, min}
 use mathlib.Core.List.{List, [], _∷_, _++_}
 use lib.ListN.{length, set}
 use Rattle.meaning.specs.Fields.{words}
-use Rattle.meaning.specs.At.{pairs-in}
+use Rattle.meaning.specs.At.{pair-place, pairs-in}
 use Rattle.meaning.specs.Syntax.{Token}
 use Rattle.meaning.specs.Opcode.{wide, back, Jmp}
 use Rattle.meaning.specs.Chunk.{patch-loop}
@@ -11,7 +11,7 @@ use Rattle.meaning.specs.declared.Instruction.{Instruction}
 use Rattle.store.specs.declared.Step.{Step}
 use Rattle.store.specs.declared.Scope.{Scope}
 use Rattle.store.specs.Layout.{first-local, edge, top}
-use Rattle.store.specs.Store.{nodes-of, depth-of, block-of, outcome-of, constants-of, globals-of, result-of, is-wide, while-going}
+use Rattle.store.specs.Store.{nodes-of, depth-of, block-of, wide-of, outcome-of, constants-of, globals-of, result-of, is-wide, while-going}
 use Rattle.store.specs.Promise.{Cost, uses, gives, live, taken}
 use Rattle.code.specs.Words.{mended}
 
@@ -22,6 +22,11 @@ Small s = while-going (outcome-of s) (result-of s < 255)
 -- the n pairs from word `from` of a payload on, with marks of the scope's width
 unfoldable pub tokens-from : Scope → (payload : List ℕ) (from n : ℕ) → List Token
 tokens-from p payload from n = pairs-in (is-wide p) (words payload) from n
+
+-- those n pairs are there, whole
+pub record HasPairs (p : Scope) (payload : List ℕ) (from n : ℕ) : Type 0 where
+  pub inside : from + pair-place (is-wide p) n ≤ length (words payload)
+  pub width : wide-of p ≤ 1
 
 -- the code of a loop, at its end: the jump back, the jump out, breaks and continues
 abbrev pub closed-loop : (goal first condition test mark : ℕ) → List Instruction → List Instruction

@@ -6,7 +6,6 @@ ghost use Rattle.meaning.specs.At.{expr-at};
 ghost use Rattle.meaning.specs.Syntax.{small-operand};
 ghost use Rattle.routines.specs.Node.{Lawful, small-of};
 ghost use Rattle.store.specs.Store.{nodes-of};
-use store::OFFSETS;
 use store::Scope;
 use values::Immediate;
 
@@ -15,11 +14,10 @@ pub fn small_operand(tree: &[u8], work: &[u32], scope: Scope, node: usize) -> u3
     requires { ⌜ Lawful (now tree) (now work) (nodes-of scope) × (node < nodes-of scope) × (nodes-of scope ≤ 32768) ⌝ }
     ensures { λ r. ⌜ small-operand (expr-at (fields (now (tree .entry))) node) ≡ small-of r ⌝ }
 {
-    let base = OFFSETS + 15 * scope.nodes;
-    if nodes::tag_of(tree, work, base, node) != 0x01 {
+    if nodes::tag_of(tree, work, node) != 0x01 {
         return 256;
     }
-    let payload = nodes::payload_of(tree, work, base, node);
+    let payload = nodes::payload_of(tree, work, node);
     let number = values::number_of(values::bits_at(payload));
     let found = values::small(number);
     let Immediate::Is(k) = found else {

@@ -1,11 +1,12 @@
 // A function's parameters, the end of its body and its Closure, which visit_fn_stmt and visit_function_expr share (`body` of `cycle`).
+ghost use mathlib.Core.Path.{_≡_};
 ghost use Prim.Native.Nat.{_+_, _<_, _≤_};
 ghost use Rattle.meaning.specs.Functions.{parameters};
 ghost use Rattle.forward.specs.Forward.{fwd-zero, sure, closure, end-body};
 ghost use Rattle.store.specs.Layout.{first-local, top};
-ghost use Rattle.store.specs.Store.{nodes-of, outcome-of, pc-of, result-of, while-going, Fine};
+ghost use Rattle.store.specs.Store.{nodes-of, wide-of, outcome-of, pc-of, result-of, while-going, Fine};
 ghost use Rattle.store.specs.Promise.{uses, some-registers, both, Room, Leaf, live};
-ghost use Rattle.routines.specs.Pieces.{tokens-from};
+ghost use Rattle.routines.specs.Pieces.{tokens-from, HasPairs};
 use crate::RETURN;
 use instruction::OpCode;
 use meaning::Cause;
@@ -15,7 +16,7 @@ use store::Step;
 
 const CLOSURE: u32 = OpCode::Closure as u32;
 
-// A register and a local for each of the n parameters from word `from` of the payload on.
+// A register and a local for each of the n parameters from word `from` of the payload on. `wide` is the scope's: asked for once, so that no turn takes the scope apart.
 pub(crate) fn parameters(
     payload: &[u8],
     work: &mut [u32],
@@ -24,14 +25,15 @@ pub(crate) fn parameters(
     node: usize,
     from: usize,
     n: usize,
+    wide: usize,
 ) -> Step
-    requires { ⌜ Fine (now work) scope step × Room (now work) scope step 0 0 0 × ((from < 65536) × (n < 65536)) ⌝ }
+    requires { ⌜ Fine (now work) scope step × Room (now work) scope step 0 0 0 × HasPairs scope (now payload) from n × (wide ≡ wide-of scope) ⌝ }
     ensures { λ r. ⌜ Leaf (now (work .entry)) scope step (now (work .exit)) scope r (both (some-registers n) (uses n n 0)) (fwd-zero (parameters node (tokens-from scope (now (payload .entry)) from n))) × (result-of r < 255) ⌝ }
 {
     let mut last = step;
     let mut k: usize = 0;
     while k < n {
-        let name = nodes::pair(payload, from, k, scope.wide);
+        let name = nodes::pair(payload, from, k, wide);
         last = store::declare_parameter(work, last, scope, name, node);
         k += 1;
     }

@@ -9,7 +9,6 @@ ghost use Rattle.store.specs.Promise.{uses, Room};
 ghost use Rattle.routines.specs.Node.{OnNode, Gives, GivesStmt};
 use crate::JMP;
 use meaning::Cause;
-use store::OFFSETS;
 use store::Scope;
 use store::Step;
 
@@ -34,9 +33,8 @@ pub fn jump(tree: &[u8], work: &mut [u32], step: Step, scope: Scope, node: usize
     requires { ⌜ OnNode (now tree) (now work) scope step 1 node × (0x16 ≤ tag-of (fields (now tree)) node) × (tag-of (fields (now tree)) node ≤ 0x17) ⌝ }
     ensures { λ r. ⌜ GivesStmt (now (tree .entry)) (now (work .entry)) scope step (now (work .exit)) r node ⌝ }
 {
-    let base = OFFSETS + 15 * scope.nodes;
-    let mark = nodes::mark_of(tree, work, base, node, scope.wide);
-    if nodes::tag_of(tree, work, base, node) == 0x16 {
+    let mark = nodes::jump_of(tree, work, node, scope.wide);
+    if nodes::tag_of(tree, work, node) == 0x16 {
         return visit_jump(work, step, scope, node, JMP_BREAK, mark);
     }
     visit_jump(work, step, scope, node, JMP_CONTINUE, mark)

@@ -3,10 +3,10 @@ ghost use mathlib.Core.Path.{_≡_};
 ghost use Prim.Native.Nat.{_+_, _<_};
 ghost use Rattle.meaning.specs.Read.{token};
 ghost use Rattle.meaning.specs.Fields.{fields};
-ghost use Rattle.meaning.specs.At.{tag-of, extra};
+ghost use Rattle.meaning.specs.At.{tag-of};
 ghost use Rattle.meaning.specs.Weight.{size-super};
 ghost use Rattle.forward.specs.Forward.{open-class, add-method, end-class, sure, make-class};
-ghost use Rattle.store.specs.Store.{outcome-of, result-of, while-going, Fine, is-wide};
+ghost use Rattle.store.specs.Store.{outcome-of, result-of, while-going, Fine};
 ghost use Rattle.store.specs.Promise.{uses, some-registers, both, Room, Leaf};
 ghost use Rattle.routines.specs.Pieces.{Small};
 ghost use Rattle.routines.specs.Node.{OnNode, super-of, GivesSuper};
@@ -17,7 +17,7 @@ use crate::names::name_result;
 use crate::variable_expr::variable;
 use instruction::OpCode;
 use meaning::Outcome;
-use store::OFFSETS;
+use nodes::ABSENT;
 use store::Scope;
 use store::Step;
 
@@ -50,27 +50,18 @@ pub fn open_class(
     )
 }
 
-// Where the word behind a name and its mark stands in the file.
-fn third_place(scope: Scope) -> usize
-    ensures { λ r. ⌜ r ≡ 2 + extra (is-wide scope) ⌝ }
-{
-    if scope.wide == 0 { 2 } else { 3 }
-}
-
 // The superclass of a class: a variable, which is visited here, or nil.
 pub fn superclass(tree: &[u8], work: &mut [u32], step: Step, scope: Scope, node: usize) -> Step
     requires { ⌜ OnNode (now tree) (now work) scope step (size-super (super-of (now tree) node)) node × (tag-of (fields (now tree)) node ≡ 0x1D) ⌝ }
     ensures { λ r. ⌜ GivesSuper (now (tree .entry)) (now (work .entry)) scope step (now (work .exit)) r node ⌝ }
 {
-    let payload = nodes::payload_of(tree, work, OFFSETS + 15 * scope.nodes, node);
-    let mark = nodes::mark(payload, 1, scope.wide);
-    let parent = nodes::word(payload, third_place(scope));
-    if parent != 65535 {
+    let x = nodes::class_of(tree, work, node, scope.wide);
+    if x.superclass != ABSENT {
         store::visit(work);
-        return variable(tree, work, step, scope, parent);
+        return variable(tree, work, step, scope, x.superclass);
     }
     let register = store::next_register(work, step, scope, node);
-    code::emit(work, register, scope, LOAD_NIL, register.result, 0, 0, mark)
+    code::emit(work, register, scope, LOAD_NIL, register.result, 0, 0, x.mark)
 }
 
 // Class, of the superclass that is the result.

@@ -6,7 +6,7 @@ ghost use Rattle.meaning.specs.Statements.{iterate-each, iterate};
 ghost use Rattle.forward.specs.Forward.{fwd-code, open-for-in, head-for-in, sure, end-for-in};
 ghost use Rattle.store.specs.Store.{mode-of, outcome-of, pc-of, result-of, while-going, Fine};
 ghost use Rattle.store.specs.Promise.{uses, some-registers, both, Room, Leaf};
-ghost use Rattle.routines.specs.Pieces.{tokens-from};
+ghost use Rattle.routines.specs.Pieces.{tokens-from, HasPairs};
 use crate::LOAD_K;
 use crate::loops::close_loop;
 use crate::loops::continue_goal;
@@ -89,7 +89,7 @@ fn iterate_each(
     element: u32,
     mark: u32,
 ) -> Step
-    requires { ⌜ Fine (now work) scope step × Room (now work) scope step 0 0 0 × (from < 65536) × (n < 65536) × while-going (outcome-of step) (element < 256) ⌝ }
+    requires { ⌜ Fine (now work) scope step × Room (now work) scope step 0 0 0 × HasPairs scope (now payload) from n × (n < 65536) × while-going (outcome-of step) (element < 256) ⌝ }
     ensures { λ r. ⌜ Leaf (now (work .entry)) scope step (now (work .exit)) scope r (both (some-registers n) (uses (3 * n) n 0)) (fwd-code (iterate-each node mark element 0 (tokens-from scope (now (payload .entry)) from n))) ⌝ }
 {
     let mut last = step;
@@ -125,11 +125,11 @@ fn iterate(
     counter: u32,
     mark: u32,
 ) -> Step
-    requires { ⌜ Fine (now work) scope step × Room (now work) scope step 0 3 1 × (1 ≤ n) × (from < 65536) × (n < 65536) × (counter + 3 < 255) × (collection < 256) ⌝ }
+    requires { ⌜ Fine (now work) scope step × Room (now work) scope step 0 3 1 × (1 ≤ n) × HasPairs scope (now payload) from n × (n < 65536) × (counter + 3 < 255) × (collection < 256) ⌝ }
     ensures { λ r. ⌜ Leaf (now (work .entry)) scope step (now (work .exit)) scope r (uses 3 1 0) (fwd-code (iterate node mark (counter + 3) collection counter (tokens-from scope (now (payload .entry)) from n))) ⌝ }
 {
     if n == 1 {
-        let name = nodes::word(payload, from);
+        let name = nodes::child(payload, from);
         return iterate_one(work, step, scope, name, collection, counter, mark);
     }
     let gotten = code::emit(
@@ -167,7 +167,7 @@ pub fn head_for_in(
     counter: u32,
     mark: u32,
 ) -> Step
-    requires { ⌜ Fine (now work) scope step × Room (now work) scope step 0 11 1 × (1 ≤ n) × (from < 65536) × (n < 65536) × while-going (outcome-of step) ((counter + 3 < 255) × (result-of step < 256)) ⌝ }
+    requires { ⌜ Fine (now work) scope step × Room (now work) scope step 0 11 1 × (1 ≤ n) × HasPairs scope (now payload) from n × (n < 65536) × while-going (outcome-of step) ((counter + 3 < 255) × (result-of step < 256)) ⌝ }
     ensures { λ r. ⌜ Leaf (now (work .entry)) scope step (now (work .exit)) scope r (uses 11 1 0) (head-for-in node (tokens-from scope (now (payload .entry)) from n) counter mark) ⌝ }
 {
     let o = step.outcome;

@@ -6,7 +6,7 @@ ghost use Rattle.store.specs.Store.{depth-of, block-of, outcome-of, pc-of, whil
 ghost use Rattle.store.specs.Promise.{uses, some-registers, both, Room, Leaf};
 ghost use Rattle.store.specs.Opening.{Leavable};
 ghost use Rattle.code.specs.Cuts.{cut-step, Ends};
-ghost use Rattle.routines.specs.Pieces.{Small, tokens-from, a-name-back, Owing};
+ghost use Rattle.routines.specs.Pieces.{Small, tokens-from, HasPairs, a-name-back, Owing};
 use crate::bodies::closure;
 use crate::bodies::parameters;
 use crate::names::name_result;
@@ -28,11 +28,11 @@ pub fn open_fun(
     from: usize,
     n: usize,
 ) -> Step
-    requires { ⌜ Fine (now work) scope step × Room (now work) scope step 0 0 0 × (name < 65536) × ((from < 65536) × (n < 65536)) ⌝ }
+    requires { ⌜ Fine (now work) scope step × Room (now work) scope step 0 0 0 × (name < 65536) × HasPairs scope (now payload) from n ⌝ }
     ensures { λ r. ⌜ Leaf (now (work .entry)) scope step (now (work .exit)) scope r (both (some-registers (1 + n)) (uses (3 + n) (1 + n) 0)) (open-fun node (token name mark) (tokens-from scope (now (payload .entry)) from n)) × Small r ⌝ }
 {
     let own = store::declare_parameter(work, step, scope, name, node);
-    let last = parameters(payload, work, own, scope, node, from, n);
+    let last = parameters(payload, work, own, scope, node, from, n, scope.wide);
     code::emit(work, last, scope, GET_CURRENT_FUNC, own.result, 0, 0, mark)
 }
 

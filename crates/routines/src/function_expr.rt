@@ -5,7 +5,7 @@ ghost use Rattle.store.specs.Store.{outcome-of, pc-of, while-going, Fine, inner
 ghost use Rattle.store.specs.Promise.{uses, some-registers, both, Room, Leaf};
 ghost use Rattle.store.specs.Opening.{Leavable};
 ghost use Rattle.code.specs.Cuts.{cut-step, Ends};
-ghost use Rattle.routines.specs.Pieces.{Small, tokens-from};
+ghost use Rattle.routines.specs.Pieces.{Small, tokens-from, HasPairs};
 use crate::bodies::closure;
 use crate::bodies::parameters;
 use store::Scope;
@@ -21,11 +21,11 @@ pub fn open_function(
     from: usize,
     n: usize,
 ) -> Step
-    requires { ⌜ Fine (now work) scope step × Room (now work) scope step 0 0 0 × ((from < 65536) × (n < 65536)) ⌝ }
+    requires { ⌜ Fine (now work) scope step × Room (now work) scope step 0 0 0 × HasPairs scope (now payload) from n ⌝ }
     ensures { λ r. ⌜ Leaf (now (work .entry)) scope step (now (work .exit)) scope r (both (some-registers (1 + n)) (uses n n 0)) (open-function node (tokens-from scope (now (payload .entry)) from n)) × Small r ⌝ }
 {
     let own = store::next_register(work, step, scope, node);
-    parameters(payload, work, own, scope, node, from, n)
+    parameters(payload, work, own, scope, node, from, n, scope.wide)
 }
 
 // visit_function_expr after its body; `scope` is the scope around the function.

@@ -12,7 +12,6 @@ ghost use Rattle.routines.specs.Node.{OnNode, GivesStmt};
 use crate::LOAD_NIL;
 use crate::SET_GLOBAL;
 use meaning::Cause;
-use store::OFFSETS;
 use store::Scope;
 use store::Step;
 
@@ -33,13 +32,11 @@ pub fn let_only(tree: &[u8], work: &mut [u32], step: Step, scope: Scope, node: u
     requires { ⌜ OnNode (now tree) (now work) scope step 1 node × (tag-of (fields (now tree)) node ≡ 0x11) × (count-of (fields (now tree)) node ≡ 2) ⌝ }
     ensures { λ r. ⌜ GivesStmt (now (tree .entry)) (now (work .entry)) scope step (now (work .exit)) r node ⌝ }
 {
-    let payload = nodes::payload_of(tree, work, OFFSETS + 15 * scope.nodes, node);
-    let name = nodes::child(payload, 0);
-    let mark = nodes::mark_there(payload, 1, scope.wide);
+    let x = nodes::let_of(tree, work, node, scope.wide);
     if store::is_global_context(scope) {
-        let constant = new_global(work, step, scope, node, name);
+        let constant = new_global(work, step, scope, node, x.name);
         let register = store::next_register(work, constant, scope, node);
-        let nil = code::emit(work, register, scope, LOAD_NIL, register.result, 0, 0, mark);
+        let nil = code::emit(work, register, scope, LOAD_NIL, register.result, 0, 0, x.mark);
         return code::put_wide(
             work,
             nil,
@@ -47,11 +44,11 @@ pub fn let_only(tree: &[u8], work: &mut [u32], step: Step, scope: Scope, node: u
             SET_GLOBAL,
             register.result,
             constant.result,
-            mark,
+            x.mark,
             0,
         );
     }
     let register = store::next_register(work, step, scope, node);
-    store::allocate_register(work, register, scope, name, register.result);
+    store::allocate_register(work, register, scope, x.name, register.result);
     register
 }

@@ -10,7 +10,6 @@ ghost use Rattle.routines.specs.Node.{OnNode, GivesStmt};
 use crate::RETURN;
 use meaning::Cause;
 use meaning::Outcome;
-use store::OFFSETS;
 use store::Scope;
 use store::Step;
 
@@ -19,8 +18,8 @@ pub fn return_none(tree: &[u8], work: &mut [u32], step: Step, scope: Scope, node
     requires { ⌜ OnNode (now tree) (now work) scope step 1 node × (tag-of (fields (now tree)) node ≡ 0x18) × (count-of (fields (now tree)) node ≡ 1) ⌝ }
     ensures { λ r. ⌜ GivesStmt (now (tree .entry)) (now (work .entry)) scope step (now (work .exit)) r node ⌝ }
 {
-    let mark = nodes::mark_of(tree, work, OFFSETS + 15 * scope.nodes, node, scope.wide);
-    code::put(work, step, scope, RETURN, 0, 0, 0, mark, 0)
+    let x = nodes::return_of(tree, work, node, scope.wide);
+    code::put(work, step, scope, RETURN, 0, 0, 0, x.mark, 0)
 }
 
 // visit_return_stmt after the value: 13 Return.

@@ -13,7 +13,6 @@ ghost use Rattle.routines.specs.Node.{OnNode, Gives, GivesExpr};
 use instruction::OpCode;
 use meaning::Cause;
 use store::Found;
-use store::OFFSETS;
 use store::Scope;
 use store::Step;
 
@@ -118,8 +117,6 @@ pub fn variable(tree: &[u8], work: &mut [u32], step: Step, scope: Scope, node: u
     requires { ⌜ OnNode (now tree) (now work) scope step 1 node × (tag-of (fields (now tree)) node ≡ 0x04) ⌝ }
     ensures { λ r. ⌜ GivesExpr (now (tree .entry)) (now (work .entry)) scope step (now (work .exit)) r node ⌝ }
 {
-    let payload = nodes::payload_of(tree, work, OFFSETS + 15 * scope.nodes, node);
-    let name = nodes::child(payload, 0);
-    let mark = nodes::mark_there(payload, 1, scope.wide);
-    visit_variable_expr(work, step, scope, node, name, mark)
+    let x = nodes::variable_of(tree, work, node, scope.wide);
+    visit_variable_expr(work, step, scope, node, x.name, x.mark)
 }

@@ -5,7 +5,7 @@ use lib.ListN.{length}
 use denote.Ref.{now}
 use Rattle.meaning.proofs.Accepted.{accepted}
 use Rattle.image.proofs.Finishing.{fine-finishable}
-use Rattle.lower.proofs.Start.{last-readable, program-size, row-asked}
+use Rattle.lower.proofs.Start.{last-readable, program-counted, row-asked}
 use Rattle.lower.proofs.Whole.{whole}
 use borrow.Author.Needs.{needs}
 use Rattle.lower.proofs.lower_checked.Statement.{statement}
@@ -17,14 +17,14 @@ width-of-requires c κs =
     let set-up = c .before .before .before .set-up in
     let a = start .args in
     let ok = accepted (a .mode) (now (a .tree)) (length (now (a .work))) (a .n) (start .pre) in
-    (last-readable (a .mode) (now (a .tree)) (length (now (a .work))) (a .n) (start .pre) (set-up .ensures .1), ok .nodes, omega (arith, ok .nodes, ok .some), omega (arith, set-up .ensures .1 .fine 0 0 .sound .few))
+    (last-readable (a .mode) (now (a .tree)) (length (now (a .work))) (a .n) (start .pre) (set-up .ensures .1), ok .nodes, omega (arith, ok .nodes, ok .some))
 
 count-of-requires : tie.Need-count-of-requires
 count-of-requires c κs =
     let start = c .before .before .before .before .before .before .before .before .before .before .before in
     let set-up = c .before .before .before .before .before .before .set-up in
     let a = start .args in
-    last-readable (a .mode) (now (a .tree)) (length (now (a .work))) (a .n) (start .pre) (set-up .ensures .1)
+    program-counted (a .mode) (now (a .tree)) (length (now (a .work))) (a .n) (start .pre) (set-up .ensures .1)
 
 row-requires : tie.Need-row-requires
 row-requires c κs =
@@ -34,8 +34,7 @@ row-requires c κs =
     let main-scope = c .before .before .before .before .main-scope in
     let count-of = c .before .before .count-of in
     let a = start .args in
-    let all = program-size (a .mode) (now (a .tree)) (length (now (a .work))) (a .n) (start .pre) (set-up .ensures .1) in
-    rw (main-scope .ensures, set-up .ensures .0, count-of .ensures .0, all) (row-asked (a .mode) (now (a .tree)) (length (now (a .work))) (a .n) (start .pre) (set-up .ensures .1) (width-of .ensures))
+    rw (main-scope .ensures, set-up .ensures .0, count-of .ensures .0) (row-asked (a .mode) (now (a .tree)) (length (now (a .work))) (a .n) (start .pre) (set-up .ensures .1) (width-of .ensures))
 
 finish-requires : tie.Need-finish-requires
 finish-requires c κs =
@@ -53,8 +52,7 @@ returns c =
     let end-program = c .before .before .before .before .before .before .before .end-program in
     let finish = c .before .before .finish in
     let a = start .args in
-    let all = program-size (a .mode) (now (a .tree)) (length (now (a .work))) (a .n) (start .pre) (set-up .ensures .1) in
-    let rows = rw (main-scope .ensures, set-up .ensures .0, count-of .ensures .0, all) at (row .ensures) in
+    let rows = rw (main-scope .ensures, set-up .ensures .0, count-of .ensures .0) at (row .ensures) in
     whole (a .mode) (now (a .tree)) (length (now (a .work))) (a .n) (start .pre) (width-of .ensures) (set-up .ensures .1) rows (rw (main-scope .ensures) at (end-program .ensures)) (finish .ensures)
 
 same-length : tie.Need-same-length
@@ -71,8 +69,6 @@ lower-checked-spec =
     width-of-requires
     (λ c κs. tt)
     (λ c. omega (arith, (c .before .before .before .before .before .set-up) .ensures .1 .fine 0 0 .sound .some))
-    (λ c. omega (arith, (c .before .before .before .before .before .before .set-up) .ensures .1 .fine 0 0 .sound .few))
-    (λ c. omega (arith, (c .before .before .before .before .before .before .set-up) .ensures .1 .fine 0 0 .sound .few))
     count-of-requires
     row-requires
     (λ c κs. search needs)

@@ -9,18 +9,6 @@ use borrow.Author.Needs.{needs}
 use Rattle.lower.proofs.set_up.Statement.{statement}
 use Rattle.lower.proofs.set_up.Tie as tie
 
-mul-fill-offsets : tie.Need-mul-fill-offsets
-mul-fill-offsets c =
-    let start = c .before .before .before in
-    let a = start .args in
-    omega (arith, fill-allowed (start .pre .0) (now (a .tree)) (now (a .work)) (a .n) (start .pre .1))
-
-add-fill-offsets : tie.Need-add-fill-offsets
-add-fill-offsets c =
-    let start = c .before .before .before in
-    let a = start .args in
-    omega (arith, fill-allowed (start .pre .0) (now (a .tree)) (now (a .work)) (a .n) (start .pre .1))
-
 fill-offsets-requires : tie.Need-fill-offsets-requires
 fill-offsets-requires c κs =
     let start = c .before .before .before in
@@ -34,21 +22,16 @@ begin-requires c κs =
     let a = start .args in
     let f = fill-allowed (start .pre .0) (now (a .tree)) (now (a .work)) (a .n) (start .pre .1) in
     let s = accepted (start .pre .0) (now (a .tree)) (length (now (a .work))) (a .n) (start .pre .1) in
-    (omega (arith, s .nodes, s .some), f .1, omega (arith, f .2, fill-offsets .kept .1 .0))
+    (omega (arith, s .nodes, s .some), f .1, omega (arith, s .nodes, s .room, fill-offsets .kept .1 .0))
 
 returns : tie.Need-returns
 returns c =
+    let start = c .before .before .before .before .before .before .before .before .before .before in
     let fill-offsets = c .before .before .before .before .before .before .fill-offsets in
     let begin = c .before .before .begin in
-    (begin .ensures .0, opened (fill-offsets .ensures) (begin .ensures .1))
+    let a = start .args in
+    let s = accepted (start .pre .0) (now (a .tree)) (length (now (a .work))) (a .n) (start .pre .1) in
+    (begin .ensures .0, opened (fill-offsets .ensures) (s .nodes) (omega (arith, s .nodes, s .room, fill-offsets .kept .1 .0)) (begin .ensures .1))
 
 pub set-up-spec : {M : Type 1} → statement M
-set-up-spec =
-    tie.close
-    (tie.spec
-    mul-fill-offsets
-    add-fill-offsets
-    fill-offsets-requires
-    begin-requires
-    (λ c. search needs)
-    returns)
+set-up-spec = tie.close (tie.spec fill-offsets-requires begin-requires (λ c. search needs) returns)

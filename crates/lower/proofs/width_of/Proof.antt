@@ -37,4 +37,4 @@ returns-2 c =
 
 pub width-of-spec : {M : Type 1} → statement M
 width-of-spec =
-    tie.close (tie.spec (λ c. search needs) (λ c. search needs) (λ c. search needs) (λ c κs. search needs) returns returns-2)
+    tie.close (tie.spec (λ c. search needs) (λ c κs. search needs) returns returns-2)

@@ -4,8 +4,8 @@ use Rattle.cycle.proofs.arguments.Reads as arguments
 use Rattle.cycle.proofs.+addi+arguments+binary+block+body+both+call+class+elifs+expr_stmt+expression+fn_stmt+for_in+for_loop+function+if_stmt+let_stmt+logical+methods+minus+return_stmt+row+statement+try_catch+unary+while_loop.Lts-arguments as lts
 use Rattle.cycle.proofs.expression.Reads as expression
 use Rattle.code.proofs.emit.Reads as emit-reads
-use Rattle.cycle.proofs.reading.count_of.Reads as count-of-reads
-use Rattle.cycle.proofs.reading.payload_of.Reads as payload-of-reads
+use Rattle.nodes.proofs.count_of.Reads as count-of-reads
+use Rattle.nodes.proofs.payload_of.Reads as payload-of-reads
 use Rattle.nodes.proofs.child.Reads as child-reads
 use Rattle.store.proofs.settle.Reads as settle-reads
 use Rattle.cycle.proofs.+addi+arguments+binary+block+body+both+call+class+elifs+expr_stmt+expression+fn_stmt+for_in+for_loop+function+if_stmt+let_stmt+logical+methods+minus+return_stmt+row+statement+try_catch+unary+while_loop.Proof.Order.{arguments-at, expression-below}

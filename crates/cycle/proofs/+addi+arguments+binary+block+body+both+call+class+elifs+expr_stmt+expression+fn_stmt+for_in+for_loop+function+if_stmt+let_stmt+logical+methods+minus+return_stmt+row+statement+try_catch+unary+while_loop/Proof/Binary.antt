@@ -6,11 +6,11 @@ use Rattle.cycle.proofs.+addi+arguments+binary+block+body+both+call+cla
 use Rattle.cycle.proofs.both.Reads as both
 use Rattle.cycle.proofs.minus.Reads as minus
 use Rattle.cycle.proofs.operators.immediate.Reads as immediate-reads
-use Rattle.cycle.proofs.reading.words_of.Reads as words-of-reads
+use Rattle.nodes.proofs.binary_of.Reads as binary-of-reads
 use Rattle.cycle.proofs.+addi+arguments+binary+block+body+both+call+class+elifs+expr_stmt+expression+fn_stmt+for_in+for_loop+function+if_stmt+let_stmt+logical+methods+minus+return_stmt+row+statement+try_catch+unary+while_loop.Proof.Order.{addi-below, binary-at, both-below, minus-below}
 use Rattle.meaning.specs.Opcode.{minus}
-use Rattle.cycle.proofs.Nodes.{a-binary, binary-stands}
-use Rattle.cycle.proofs.Way.{headed, likewise, readable, recounted}
+use Rattle.cycle.proofs.Nodes.{a-binary}
+use Rattle.cycle.proofs.Way.{held, likewise, recounted}
 use Rattle.meaning.specs.Visits.{under-expr, visits-expr}
 use Rattle.routines.specs.Node.{small-of}
 use Rattle.meaning.proofs.Reading.{Binary}
@@ -67,16 +67,16 @@ module _ (mode : ℕ) {fs : List Field} {i : ℕ} (x : Binary fs i) where
 
 -- what each function that is called asks and promises; a member of the cycle at a smaller measure
 abbrev pub claims : ℕ → lts.Claims
-claims t = (words-of-reads.Asked, words-of-reads.Learnt, immediate-reads.Asked, immediate-reads.Learnt, addi-below t, addi.Post, minus-below t, minus.Post, both-below t, both.Post)
+claims t = (binary-of-reads.Asked, binary-of-reads.Learnt, immediate-reads.Asked, immediate-reads.Learnt, addi-below t, addi.Post, minus-below t, minus.Post, both-below t, both.Post)
 
-pub words-of-requires : (t : ℕ) → lts.Need-words-of-requires (claims t) (binary-at t) binary.Post
-words-of-requires t c κs = headed ((c .before .before .before .before) .pre .1 .0 .ready) ((c .before .before .before .before) .pre .1 .0 .known) (binary-stands ((c .before .before .before .before) .pre .1 .0 .ready .lawful) ((c .before .before .before .before) .pre .1 .0 .known) ((c .before .before .before .before) .pre .1 .1) .0)
+pub binary-of-requires : (t : ℕ) → lts.Need-binary-of-requires (claims t) (binary-at t) binary.Post
+binary-of-requires t c κs = held ((c .before .before .before .before) .pre .1 .0 .ready) ((c .before .before .before .before) .pre .1 .0 .known) ((c .before .before .before .before) .pre .1 .1)
 
 pub immediate-requires : (t : ℕ) → lts.Need-immediate-requires (claims t) (binary-at t) binary.Post
 immediate-requires t c κs =
     let g = (c .before .before .before .before .before .before) .pre .1 .0 in
     let x = a-binary (g .ready .lawful) (g .known) ((c .before .before .before .before .before .before) .pre .1 .1) in
-    rw ((c .before .words-of) .ensures .0) (g .ready .lawful, omega (arith, g .known, x .right .below), g .ready .fine .sound .few)
+    rw ((c .before .binary-of) .ensures) (g .ready .lawful, omega (arith, g .known, x .right .below), g .ready .fine .sound .few)
 
 pub addi-requires : (t : ℕ) → lts.Need-addi-requires (claims t) (binary-at t) binary.Post
 addi-requires t c κs = (omega (arith, (c .before .before .before .before .before .before .before .before .before .before) .pre .0), ((c .before .before .before .before .before .before .before .before .before .before) .pre .1 .0, (c .before .before .before .before .before .before .before .before .before .before) .pre .1 .1, (c .before .before .if1) .taken))
@@ -90,14 +90,14 @@ same-length-2 t c = (c .before .before .before .before .addi) .ensures .does .sa
 pub returns : (t : ℕ) → lts.Need-returns (claims t) (binary-at t) binary.Post
 returns t c =
     let g = (c .before .before .before .before .before .before .before .before .before .before .before .before .before .before .before) .pre .1 .0 in
-    likewise (is-addi ((c .before .before .before .before .before .before .before .before .before .before .before .before .before .before .before) .args .scope .mode) (a-binary (g .ready .lawful) (g .known) ((c .before .before .before .before .before .before .before .before .before .before .before .before .before .before .before) .pre .1 .1)) _ ((c .before .before .before .before .before .before .before .if1) .taken) (rw ((c .before .before .before .before .before .before .before .before .before .before .words-of) .ensures .0) at ((c .before .before .before .before .before .before .before .before .immediate) .ensures)))
-    (recounted (addi-visits ((c .before .before .before .before .before .before .before .before .before .before .before .before .before .before .before) .args .scope .mode) (a-binary (g .ready .lawful) (g .known) ((c .before .before .before .before .before .before .before .before .before .before .before .before .before .before .before) .pre .1 .1)) _ ((c .before .before .before .before .before .before .before .if1) .taken) (rw ((c .before .before .before .before .before .before .before .before .before .before .words-of) .ensures .0) at ((c .before .before .before .before .before .before .before .before .immediate) .ensures))) ((c .before .before .before .before .addi) .ensures))
+    likewise (is-addi ((c .before .before .before .before .before .before .before .before .before .before .before .before .before .before .before) .args .scope .mode) (a-binary (g .ready .lawful) (g .known) ((c .before .before .before .before .before .before .before .before .before .before .before .before .before .before .before) .pre .1 .1)) _ ((c .before .before .before .before .before .before .before .if1) .taken) (rw ((c .before .before .before .before .before .before .before .before .before .before .binary-of) .ensures) at ((c .before .before .before .before .before .before .before .before .immediate) .ensures)))
+    (recounted (addi-visits ((c .before .before .before .before .before .before .before .before .before .before .before .before .before .before .before) .args .scope .mode) (a-binary (g .ready .lawful) (g .known) ((c .before .before .before .before .before .before .before .before .before .before .before .before .before .before .before) .pre .1 .1)) _ ((c .before .before .before .before .before .before .before .if1) .taken) (rw ((c .before .before .before .before .before .before .before .before .before .before .binary-of) .ensures) at ((c .before .before .before .before .before .before .before .before .immediate) .ensures))) ((c .before .before .before .before .addi) .ensures))
 
 pub immediate-requires-2 : (t : ℕ) → lts.Need-immediate-requires-2 (claims t) (binary-at t) binary.Post
 immediate-requires-2 t c κs =
     let g = (c .before .before .before .before .before .before .before .before .before) .pre .1 .0 in
     let x = a-binary (g .ready .lawful) (g .known) ((c .before .before .before .before .before .before .before .before .before) .pre .1 .1) in
-    rw ((c .before .before .before .before .words-of) .ensures .0) (g .ready .lawful, omega (arith, g .known, x .left .below), g .ready .fine .sound .few)
+    rw ((c .before .before .before .before .binary-of) .ensures) (g .ready .lawful, omega (arith, g .known, x .left .below), g .ready .fine .sound .few)
 
 pub minus-requires : (t : ℕ) → lts.Need-minus-requires (claims t) (binary-at t) binary.Post
 minus-requires t c κs = (omega (arith, (c .before .before .before .before .before .before .before .before .before .before .before .before .before) .pre .0), ((c .before .before .before .before .before .before .before .before .before .before .before .before .before) .pre .1 .0, (c .before .before .before .before .before .before .before .before .before .before .before .before .before) .pre .1 .1))
@@ -111,7 +111,7 @@ same-length-4 t c = (c .before .before .before .before .minus) .ensures .does .s
 pub returns-2 : (t : ℕ) → lts.Need-returns-2 (claims t) (binary-at t) binary.Post
 returns-2 t c =
     let g = (c .before .before .before .before .before .before .before .before .before .before .before .before .before .before .before .before .before .before) .pre .1 .0 in
-    let e = (c .before .before .before .before .before .before .before .before .before .before .before .before .before .words-of) .ensures .0 in
+    let e = (c .before .before .before .before .before .before .before .before .before .before .before .before .before .binary-of) .ensures in
     likewise (is-minus ((c .before .before .before .before .before .before .before .before .before .before .before .before .before .before .before .before .before .before) .args .scope .mode) (a-binary (g .ready .lawful) (g .known) ((c .before .before .before .before .before .before .before .before .before .before .before .before .before .before .before .before .before .before) .pre .1 .1)) _ ((c .before .before .before .before .before .before .before .before .before .before .if1) .left) (rw e at ((c .before .before .before .before .before .before .before .before .before .before .before .immediate) .ensures)) _ ((c .before .before .before .before .before .before .before .if2) .taken) (rw e at ((c .before .before .before .before .before .before .before .before .immediate2) .ensures)))
     (recounted (minus-visits ((c .before .before .before .before .before .before .before .before .before .before .before .before .before .before .before .before .before .before) .args .scope .mode) (a-binary (g .ready .lawful) (g .known) ((c .before .before .before .before .before .before .before .before .before .before .before .before .before .before .before .before .before .before) .pre .1 .1)) _ ((c .before .before .before .before .before .before .before .before .before .before .if1) .left) (rw e at ((c .before .before .before .before .before .before .before .before .before .before .before .immediate) .ensures)) _ ((c .before .before .before .before .before .before .before .if2) .taken) (rw e at ((c .before .before .before .before .before .before .before .before .immediate2) .ensures))) ((c .before .before .before .before .minus) .ensures))
 
@@ -127,6 +127,6 @@ same-length-6 t c = (c .before .before .before .before .both) .ensures .does .sa
 pub returns-3 : (t : ℕ) → lts.Need-returns-3 (claims t) (binary-at t) binary.Post
 returns-3 t c =
     let g = (c .before .before .before .before .before .before .before .before .before .before .before .before .before .before .before .before .before .before) .pre .1 .0 in
-    let e = (c .before .before .before .before .before .before .before .before .before .before .before .before .before .words-of) .ensures .0 in
+    let e = (c .before .before .before .before .before .before .before .before .before .before .before .before .before .binary-of) .ensures in
     likewise (is-both ((c .before .before .before .before .before .before .before .before .before .before .before .before .before .before .before .before .before .before) .args .scope .mode) (a-binary (g .ready .lawful) (g .known) ((c .before .before .before .before .before .before .before .before .before .before .before .before .before .before .before .before .before .before) .pre .1 .1)) _ ((c .before .before .before .before .before .before .before .before .before .before .if1) .left) (rw e at ((c .before .before .before .before .before .before .before .before .before .before .before .immediate) .ensures)) _ ((c .before .before .before .before .before .before .before .if2) .left) (rw e at ((c .before .before .before .before .before .before .before .before .immediate2) .ensures)))
     (recounted (both-visits ((c .before .before .before .before .before .before .before .before .before .before .before .before .before .before .before .before .before .before) .args .scope .mode) (a-binary (g .ready .lawful) (g .known) ((c .before .before .before .before .before .before .before .before .before .before .before .before .before .before .before .before .before .before) .pre .1 .1)) _ ((c .before .before .before .before .before .before .before .before .before .before .if1) .left) (rw e at ((c .before .before .before .before .before .before .before .before .before .before .before .immediate) .ensures)) _ ((c .before .before .before .before .before .before .before .if2) .left) (rw e at ((c .before .before .before .before .before .before .before .before .immediate2) .ensures))) ((c .before .before .before .before .both) .ensures))

@@ -3,7 +3,7 @@ use Prim.Native.Nat.{ℕ, _+_, _<_}
 use Rattle.cycle.proofs.block.Reads as block
 use Rattle.cycle.proofs.+addi+arguments+binary+block+body+both+call+class+elifs+expr_stmt+expression+fn_stmt+for_in+for_loop+function+if_stmt+let_stmt+logical+methods+minus+return_stmt+row+statement+try_catch+unary+while_loop.Lts-block as lts
 use Rattle.cycle.proofs.row.Reads as row
-use Rattle.cycle.proofs.reading.count_of.Reads as count-of-reads
+use Rattle.nodes.proofs.count_of.Reads as count-of-reads
 use Rattle.store.proofs.enter_block.Reads as enter-block-reads
 use Rattle.store.proofs.leave_block.Reads as leave-block-reads
 use Rattle.store.proofs.settle.Reads as settle-reads
@@ -65,7 +65,7 @@ abbrev pub claims : ℕ → lts.Claims
 claims t = (count-of-reads.Asked, count-of-reads.Learnt, enter-block-reads.Asked, enter-block-reads.Learnt, row-below t, row.Post, leave-block-reads.Asked, leave-block-reads.Learnt, settle-reads.Asked, settle-reads.Learnt)
 
 pub count-of-requires : (t : ℕ) → lts.Need-count-of-requires (claims t) (block-at t) block.Post
-count-of-requires t c κs = counted (readable ((c .before .before .before .before) .pre .1 .0 .ready) ((c .before .before .before .before) .pre .1 .0 .known)) (block-stands ((c .before .before .before .before) .pre .1 .0 .ready .lawful) ((c .before .before .before .before) .pre .1 .0 .known) ((c .before .before .before .before) .pre .1 .1) .1)
+count-of-requires t c κs = counted (readable ((c .before .before .before .before) .pre .1 .0 .ready) ((c .before .before .before .before) .pre .1 .0 .known)) (block-stands ((c .before .before .before .before) .pre .1 .0 .ready .lawful) ((c .before .before .before .before) .pre .1 .0 .known) ((c .before .before .before .before) .pre .1 .1))
 
 pub enter-block-requires : (t : ℕ) → lts.Need-enter-block-requires (claims t) (block-at t) block.Post
 enter-block-requires t c κs =
@@ -77,7 +77,7 @@ row-requires t c κs =
     let g = (c .before .before .before .before .before .before .before .before .before .before .before) .pre .1 .0 in
     let e = (c .before .before .before .before .enter-block) .ensures in
     rw (e .0, (c .before .before .before .before .before .before .count-of) .ensures .0)
-    (omega (arith, (c .before .before .before .before .before .before .before .before .before .before .before) .pre .0), stmts g (a-block (g .ready .lawful) (g .known) ((c .before .before .before .before .before .before .before .before .before .before .before) .pre .1 .1)) (e .1) (e .2 _ (g .ready .fine)) (block-stands (g .ready .lawful) (g .known) ((c .before .before .before .before .before .before .before .before .before .before .before) .pre .1 .1) .1))
+    (omega (arith, (c .before .before .before .before .before .before .before .before .before .before .before) .pre .0), stmts g (a-block (g .ready .lawful) (g .known) ((c .before .before .before .before .before .before .before .before .before .before .before) .pre .1 .1)) (e .1) (e .2 _ (g .ready .fine)) (block-stands (g .ready .lawful) (g .known) ((c .before .before .before .before .before .before .before .before .before .before .before) .pre .1 .1)))
 
 pub leave-block-requires : (t : ℕ) → lts.Need-leave-block-requires (claims t) (block-at t) block.Post
 leave-block-requires t c κs = rw ((c .before .before .before .before .before .before .before .before .before .before .enter-block) .ensures .0) at ((c .before .before .before .before .before .row) .ensures .does .moves .fine .sound)

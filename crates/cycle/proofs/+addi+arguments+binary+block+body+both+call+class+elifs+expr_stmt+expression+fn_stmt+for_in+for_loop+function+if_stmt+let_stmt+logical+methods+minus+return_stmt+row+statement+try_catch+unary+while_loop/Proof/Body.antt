@@ -4,7 +4,7 @@ use Rattle.cycle.proofs.body.Reads as body
 use Rattle.cycle.proofs.+addi+arguments+binary+block+body+both+call+class+elifs+expr_stmt+expression+fn_stmt+for_in+for_loop+function+if_stmt+let_stmt+logical+methods+minus+return_stmt+row+statement+try_catch+unary+while_loop.Lts-body as lts
 use Rattle.cycle.proofs.row.Reads as row
 use Rattle.routines.proofs.end_body.Reads as end-body-reads
-use Rattle.cycle.proofs.reading.count_of.Reads as count-of-reads
+use Rattle.nodes.proofs.count_of.Reads as count-of-reads
 use Rattle.store.proofs.enter_block.Reads as enter-block-reads
 use Rattle.store.proofs.leave_block.Reads as leave-block-reads
 use Rattle.cycle.proofs.+addi+arguments+binary+block+body+both+call+class+elifs+expr_stmt+expression+fn_stmt+for_in+for_loop+function+if_stmt+let_stmt+logical+methods+minus+return_stmt+row+statement+try_catch+unary+while_loop.Proof.Order.{body-at, row-below}

@@ -5,13 +5,13 @@ use Rattle.cycle.proofs.+addi+arguments+binary+block+body+both+call+cla
 use Rattle.cycle.proofs.expression.Reads as expression
 use Rattle.code.proofs.emit.Reads as emit-reads
 use Rattle.cycle.proofs.operators.binary_opcode.Reads as binary-opcode-reads
-use Rattle.cycle.proofs.reading.words_of.Reads as words-of-reads
+use Rattle.nodes.proofs.binary_of.Reads as binary-of-reads
 use Rattle.store.proofs.next_register.Reads as next-register-reads
 use Rattle.cycle.proofs.+addi+arguments+binary+block+body+both+call+class+elifs+expr_stmt+expression+fn_stmt+for_in+for_loop+function+if_stmt+let_stmt+logical+methods+minus+return_stmt+row+statement+try_catch+unary+while_loop.Proof.Order.{both-at, expression-below}
 use Rattle.store.specs.Cell.{Bytes}
-use Rattle.cycle.proofs.Nodes.{a-binary, binary-stands}
+use Rattle.cycle.proofs.Nodes.{a-binary}
 use Rattle.cycle.proofs.Sizes.{binary-size}
-use Rattle.cycle.proofs.Way.{_▹_, arrive, ends, fits, from, give-expr, headed, keeps, next, next-leaf, readable, small, stand}
+use Rattle.cycle.proofs.Way.{_▹_, arrive, ends, fits, from, give-expr, held, keeps, next, next-leaf, small, stand}
 use Rattle.cycle.specs.Cycle.{AskExpr, GivenExpr, LowersBoth, LowersExpr}
 use Rattle.forward.proofs.Chains.{both-chain}
 use Rattle.forward.specs.Forward.{emit, fwd-number, sure}
@@ -66,22 +66,22 @@ module _ {t w : List ℕ} {p : Scope} {s : Step} {i : ℕ} (g : GivenExpr t w p 
 
 -- what each function that is called asks and promises; a member of the cycle at a smaller measure
 abbrev pub claims : ℕ → lts.Claims
-claims t = (words-of-reads.Asked, words-of-reads.Learnt, expression-below t, expression.Post, next-register-reads.Asked, next-register-reads.Learnt, binary-opcode-reads.Asked, binary-opcode-reads.Learnt, emit-reads.Asked, emit-reads.Learnt)
+claims t = (binary-of-reads.Asked, binary-of-reads.Learnt, expression-below t, expression.Post, next-register-reads.Asked, next-register-reads.Learnt, binary-opcode-reads.Asked, binary-opcode-reads.Learnt, emit-reads.Asked, emit-reads.Learnt)
 
-pub words-of-requires : (t : ℕ) → lts.Need-words-of-requires (claims t) (both-at t) both.Post
-words-of-requires t c κs = headed ((c .before .before .before .before) .pre .1 .0 .ready) ((c .before .before .before .before) .pre .1 .0 .known) (binary-stands ((c .before .before .before .before) .pre .1 .0 .ready .lawful) ((c .before .before .before .before) .pre .1 .0 .known) ((c .before .before .before .before) .pre .1 .1) .0)
+pub binary-of-requires : (t : ℕ) → lts.Need-binary-of-requires (claims t) (both-at t) both.Post
+binary-of-requires t c κs = held ((c .before .before .before .before) .pre .1 .0 .ready) ((c .before .before .before .before) .pre .1 .0 .known) ((c .before .before .before .before) .pre .1 .1)
 
 pub expression-requires : (t : ℕ) → lts.Need-expression-requires (claims t) (both-at t) both.Post
 expression-requires t c κs =
     let g = (c .before .before .before .before .before .before .before) .pre .1 .0 in
     let x = a-binary (g .ready .lawful) (g .known) ((c .before .before .before .before .before .before .before) .pre .1 .1) in
-    rw ((c .before .before .words-of) .ensures .0) (omega (arith, (c .before .before .before .before .before .before .before) .pre .0, x .left .below), left g x)
+    rw ((c .before .before .binary-of) .ensures) (omega (arith, (c .before .before .before .before .before .before .before) .pre .0, x .left .below), left g x)
 
 pub expression-requires-2 : (t : ℕ) → lts.Need-expression-requires-2 (claims t) (both-at t) both.Post
 expression-requires-2 t c κs =
     let g = (c .before .before .before .before .before .before .before .before .before .before .before .before .before .before) .pre .1 .0 in
     let x = a-binary (g .ready .lawful) (g .known) ((c .before .before .before .before .before .before .before .before .before .before .before .before .before .before) .pre .1 .1) in
-    let e = (c .before .before .before .before .before .before .before .before .before .words-of) .ensures .0 in
+    let e = (c .before .before .before .before .before .before .before .before .before .binary-of) .ensures in
     rw e (omega (arith, (c .before .before .before .before .before .before .before .before .before .before .before .before .before .before) .pre .0, x .right .below), right g x (rw e at ((c .before .before .before .before .before .before .expression) .ensures)))
 
 pub next-register-requires : (t : ℕ) → lts.Need-next-register-requires (claims t) (both-at t) both.Post
@@ -93,7 +93,7 @@ binary-opcode-requires t c κs = tt
 pub emit-requires : (t : ℕ) → lts.Need-emit-requires (claims t) (both-at t) both.Post
 emit-requires t c κs =
     let g = (c .before .before .before .before .before .before .before .before .before .before .before .before .before .before .before .before .before .before .before .before .before .before .before .before .before) .pre .1 .0 in
-    let e = (c .before .before .before .before .before .before .before .before .before .before .before .before .before .before .before .before .before .before .before .before .words-of) .ensures .0 in
+    let e = (c .before .before .before .before .before .before .before .before .before .before .before .before .before .before .before .before .before .before .before .before .binary-of) .ensures in
     at-emit g (a-binary (g .ready .lawful) (g .known) ((c .before .before .before .before .before .before .before .before .before .before .before .before .before .before .before .before .before .before .before .before .before .before .before .before .before) .pre .1 .1)) (rw e at ((c .before .before .before .before .before .before .before .before .before .before .before .before .before .before .before .before .before .expression) .ensures)) (rw e at ((c .before .before .before .before .before .before .before .before .before .before .expression2) .ensures)) ((c .before .before .before .before .next-register) .ensures) _ ((c .binary-opcode) .ensures .1)
 
 pub same-length : (t : ℕ) → lts.Need-same-length (claims t) (both-at t) both.Post
@@ -105,5 +105,5 @@ same-length-2 t c = (c .before .before .before .before .before .before .before .
 pub returns : (t : ℕ) → lts.Need-returns (claims t) (both-at t) both.Post
 returns t c =
     let g = (c .before .before .before .before .before .before .before .before .before .before .before .before .before .before .before .before .before .before .before .before .before .before .before .before .before .before .before .before) .pre .1 .0 in
-    let e = (c .before .before .before .before .before .before .before .before .before .before .before .before .before .before .before .before .before .before .before .before .before .before .before .words-of) .ensures .0 in
+    let e = (c .before .before .before .before .before .before .before .before .before .before .before .before .before .before .before .before .before .before .before .before .before .before .before .binary-of) .ensures in
     lowers g (a-binary (g .ready .lawful) (g .known) ((c .before .before .before .before .before .before .before .before .before .before .before .before .before .before .before .before .before .before .before .before .before .before .before .before .before .before .before .before) .pre .1 .1)) (rw e at ((c .before .before .before .before .before .before .before .before .before .before .before .before .before .before .before .before .before .before .before .before .expression) .ensures)) (rw e at ((c .before .before .before .before .before .before .before .before .before .before .before .before .before .expression2) .ensures)) ((c .before .before .before .before .before .before .before .next-register) .ensures) (rw ((c .before .before .before .binary-opcode) .ensures .0, e) at ((c .before .before .emit) .ensures))

@@ -4,8 +4,7 @@ use Rattle.cycle.proofs.arguments.Reads as arguments
 use Rattle.cycle.proofs.call.Reads as call
 use Rattle.cycle.proofs.+addi+arguments+binary+block+body+both+call+class+elifs+expr_stmt+expression+fn_stmt+for_in+for_loop+function+if_stmt+let_stmt+logical+methods+minus+return_stmt+row+statement+try_catch+unary+while_loop.Lts-call as lts
 use Rattle.cycle.proofs.expression.Reads as expression
-use Rattle.cycle.proofs.reading.arguments_in.Reads as arguments-in-reads
-use Rattle.cycle.proofs.reading.three_of.Reads as three-of-reads
+use Rattle.nodes.proofs.call_of.Reads as call-of-reads
 use Rattle.routines.proofs.end_call.Reads as end-call-reads
 use Rattle.routines.proofs.open_call.Reads as open-call-reads
 use Rattle.cycle.proofs.+addi+arguments+binary+block+body+both+call+class+elifs+expr_stmt+expression+fn_stmt+for_in+for_loop+function+if_stmt+let_stmt+logical+methods+minus+return_stmt+row+statement+try_catch+unary+while_loop.Proof.Order.{arguments-below, call-at, expression-below}
@@ -13,7 +12,7 @@ use Rattle.meaning.proofs.Reading as reading
 use Rattle.cycle.proofs.Nodes.{a-call, behind-here, call-stands}
 use Rattle.cycle.proofs.Visited.{call-visits}
 use Rattle.cycle.proofs.Sizes.{call-size}
-use Rattle.cycle.proofs.Way.{_▹_, arrive, counted, ends, few-results, from, give-expr, headed, meanwhile, next, next-leaf, readable, stand}
+use Rattle.cycle.proofs.Way.{_▹_, arrive, ends, few-results, from, give-expr, held, meanwhile, next, next-leaf, stand}
 use Rattle.cycle.specs.Cycle.{AskArguments, AskExpr, GivenExpr, LowersArguments, LowersExpr, UnderExpr}
 use Rattle.forward.proofs.Chains.{call-chain}
 use Rattle.forward.specs.Forward.{end-call, open-call}
@@ -87,44 +86,39 @@ module _ {t w : List ℕ} {p : Scope} {s : Step} {i : ℕ} (g : GivenExpr t w p 
 
 -- what each function that is called asks and promises; a member of the cycle at a smaller measure
 abbrev pub claims : ℕ → lts.Claims
-claims t = (three-of-reads.Asked, three-of-reads.Learnt, arguments-in-reads.Asked, arguments-in-reads.Learnt, expression-below t, expression.Post, open-call-reads.Asked, open-call-reads.Learnt, arguments-below t, arguments.Post, end-call-reads.Asked, end-call-reads.Learnt)
+claims t = (call-of-reads.Asked, call-of-reads.Learnt, expression-below t, expression.Post, open-call-reads.Asked, open-call-reads.Learnt, arguments-below t, arguments.Post, end-call-reads.Asked, end-call-reads.Learnt)
 
-pub three-of-requires : (t : ℕ) → lts.Need-three-of-requires (claims t) (call-at t) call.Post
-three-of-requires t c κs = headed ((c .before .before .before .before) .pre .1 .0 .ready) ((c .before .before .before .before) .pre .1 .0 .known) (call-stands ((c .before .before .before .before) .pre .1 .0 .ready .lawful) ((c .before .before .before .before) .pre .1 .0 .known) ((c .before .before .before .before) .pre .1 .1) .0)
-
-pub arguments-in-requires : (t : ℕ) → lts.Need-arguments-in-requires (claims t) (call-at t) call.Post
-arguments-in-requires t c κs = counted (readable ((c .before .before .before .before .before .before) .pre .1 .0 .ready) ((c .before .before .before .before .before .before) .pre .1 .0 .known)) (behind-here ((c .before .before .before .before .before .before) .pre .1 .0 .ready) (call-stands ((c .before .before .before .before .before .before) .pre .1 .0 .ready .lawful) ((c .before .before .before .before .before .before) .pre .1 .0 .known) ((c .before .before .before .before .before .before) .pre .1 .1) .1))
+pub call-of-requires : (t : ℕ) → lts.Need-call-of-requires (claims t) (call-at t) call.Post
+call-of-requires t c κs = held ((c .before .before .before .before) .pre .1 .0 .ready) ((c .before .before .before .before) .pre .1 .0 .known) ((c .before .before .before .before) .pre .1 .1)
 
 pub expression-requires : (t : ℕ) → lts.Need-expression-requires (claims t) (call-at t) call.Post
 expression-requires t c κs =
-    let g = (c .before .before .before .before .before .before .before .before .before) .pre .1 .0 in
-    let x = a-call (g .ready .lawful) (g .known) ((c .before .before .before .before .before .before .before .before .before) .pre .1 .1) in
-    rw ((c .before .before .before .before .three-of) .ensures .0) (omega (arith, (c .before .before .before .before .before .before .before .before .before) .pre .0, x .callee .below), callee g x)
+    let g = (c .before .before .before .before .before .before .before) .pre .1 .0 in
+    let x = a-call (g .ready .lawful) (g .known) ((c .before .before .before .before .before .before .before) .pre .1 .1) in
+    rw ((c .before .before .call-of) .ensures .0) (omega (arith, (c .before .before .before .before .before .before .before) .pre .0, x .callee .below), callee g x)
 
 pub open-call-requires : (t : ℕ) → lts.Need-open-call-requires (claims t) (call-at t) call.Post
 open-call-requires t c κs =
-    let g = (c .before .before .before .before .before .before .before .before .before .before .before .before .before .before .before) .pre .1 .0 in
-    let n = (c .before .before .before .before .before .before .before .before .arguments-in) .ensures in
-    rw (n .0) (at-open g (a-call (g .ready .lawful) (g .known) ((c .before .before .before .before .before .before .before .before .before .before .before .before .before .before .before) .pre .1 .1)) (rw ((c .before .before .before .before .before .before .before .before .before .before .three-of) .ensures .0) at ((c .before .before .before .before .before .expression) .ensures)) (rw (n .0) at (n .1)))
+    let g = (c .before .before .before .before .before .before .before .before .before .before .before .before .before) .pre .1 .0 in
+    let n = (c .before .before .before .before .before .before .before .before .call-of) .ensures in
+    rw (n .0) (at-open g (a-call (g .ready .lawful) (g .known) ((c .before .before .before .before .before .before .before .before .before .before .before .before .before) .pre .1 .1)) (rw (n .0) at ((c .before .before .before .before .before .expression) .ensures)) (rw (n .0) at (n .1)))
 
 pub add-arguments : (t : ℕ) → lts.Need-add-arguments (claims t) (call-at t) call.Post
 add-arguments t c = omega (arith, few-results ((c .before .before .before .before .before .open-call) .ensures .0 .moves .fine))
 
 pub arguments-requires : (t : ℕ) → lts.Need-arguments-requires (claims t) (call-at t) call.Post
 arguments-requires t c κs =
-    let g = (c .before .before .before .before .before .before .before .before .before .before .before .before .before .before .before .before .before .before .before .before .before) .pre .1 .0 in
-    let e = (c .before .before .before .before .before .before .before .before .before .before .before .before .before .before .before .before .three-of) .ensures .0 in
-    let n = (c .before .before .before .before .before .before .before .before .before .before .before .before .before .before .arguments-in) .ensures .0 in
-    let d2 = rw (n, e) at ((c .before .before .before .before .before .open-call) .ensures .0) in
-    (omega (arith, (c .before .before .before .before .before .before .before .before .before .before .before .before .before .before .before .before .before .before .before .before .before) .pre .0), given g (a-call (g .ready .lawful) (g .known) ((c .before .before .before .before .before .before .before .before .before .before .before .before .before .before .before .before .before .before .before .before .before) .pre .1 .1)) (rw e at ((c .before .before .before .before .before .before .before .before .before .before .before .expression) .ensures)) d2 (rw n at ((c .before .before .before .before .before .open-call) .ensures .1)) (behind-here (g .ready) (call-stands (g .ready .lawful) (g .known) ((c .before .before .before .before .before .before .before .before .before .before .before .before .before .before .before .before .before .before .before .before .before) .pre .1 .1) .1)))
+    let g = (c .before .before .before .before .before .before .before .before .before .before .before .before .before .before .before .before .before .before .before) .pre .1 .0 in
+    let e = (c .before .before .before .before .before .before .before .before .before .before .before .before .before .before .call-of) .ensures .0 in
+    let d2 = rw e at ((c .before .before .before .before .before .open-call) .ensures .0) in
+    (omega (arith, (c .before .before .before .before .before .before .before .before .before .before .before .before .before .before .before .before .before .before .before) .pre .0), given g (a-call (g .ready .lawful) (g .known) ((c .before .before .before .before .before .before .before .before .before .before .before .before .before .before .before .before .before .before .before) .pre .1 .1)) (rw e at ((c .before .before .before .before .before .before .before .before .before .before .before .expression) .ensures)) d2 (rw e at ((c .before .before .before .before .before .open-call) .ensures .1)) (behind-here (g .ready) (call-stands (g .ready .lawful) (g .known) ((c .before .before .before .before .before .before .before .before .before .before .before .before .before .before .before .before .before .before .before) .pre .1 .1))))
 
 pub end-call-requires : (t : ℕ) → lts.Need-end-call-requires (claims t) (call-at t) call.Post
 end-call-requires t c κs =
-    let g = (c .before .before .before .before .before .before .before .before .before .before .before .before .before .before .before .before .before .before .before .before .before .before .before .before .before .before .before) .pre .1 .0 in
-    let e = (c .before .before .before .before .before .before .before .before .before .before .before .before .before .before .before .before .before .before .before .before .before .before .three-of) .ensures .0 in
-    let n = (c .before .before .before .before .before .before .before .before .before .before .before .before .before .before .before .before .before .before .before .before .arguments-in) .ensures .0 in
-    let d2 = rw (n, e) at ((c .before .before .before .before .before .before .before .before .before .before .before .open-call) .ensures .0) in
-    rw n (at-end g (a-call (g .ready .lawful) (g .known) ((c .before .before .before .before .before .before .before .before .before .before .before .before .before .before .before .before .before .before .before .before .before .before .before .before .before .before .before) .pre .1 .1)) (rw e at ((c .before .before .before .before .before .before .before .before .before .before .before .before .before .before .before .before .before .expression) .ensures)) d2 (rw n at ((c .before .before .before .before .before .before .before .before .before .before .before .open-call) .ensures .1)) ((c .before .before .before .before .before .arguments) .ensures))
+    let g = (c .before .before .before .before .before .before .before .before .before .before .before .before .before .before .before .before .before .before .before .before .before .before .before .before .before) .pre .1 .0 in
+    let e = (c .before .before .before .before .before .before .before .before .before .before .before .before .before .before .before .before .before .before .before .before .call-of) .ensures .0 in
+    let d2 = rw e at ((c .before .before .before .before .before .before .before .before .before .before .before .open-call) .ensures .0) in
+    rw e (at-end g (a-call (g .ready .lawful) (g .known) ((c .before .before .before .before .before .before .before .before .before .before .before .before .before .before .before .before .before .before .before .before .before .before .before .before .before) .pre .1 .1)) (rw e at ((c .before .before .before .before .before .before .before .before .before .before .before .before .before .before .before .before .before .expression) .ensures)) d2 (rw e at ((c .before .before .before .before .before .before .before .before .before .before .before .open-call) .ensures .1)) ((c .before .before .before .before .before .arguments) .ensures))
 
 pub same-length : (t : ℕ) → lts.Need-same-length (claims t) (call-at t) call.Post
 same-length t c = (c .before .before .end-call) .ensures .0 .moves .kept .same ∙ (c .before .before .before .before .before .before .before .before .arguments) .ensures .does .moves .kept .same ∙ (c .before .before .before .before .before .before .before .before .before .before .before .before .before .before .open-call) .ensures .0 .moves .kept .same ∙ (c .before .before .before .before .before .before .before .before .before .before .before .before .before .before .before .before .before .before .before .before .expression) .ensures .does .moves .kept .same
@@ -134,8 +128,7 @@ same-length-2 t c = (c .before .before .before .before .before .before .before .
 
 pub returns : (t : ℕ) → lts.Need-returns (claims t) (call-at t) call.Post
 returns t c =
-    let g = (c .before .before .before .before .before .before .before .before .before .before .before .before .before .before .before .before .before .before .before .before .before .before .before .before .before .before .before .before .before .before) .pre .1 .0 in
-    let e = (c .before .before .before .before .before .before .before .before .before .before .before .before .before .before .before .before .before .before .before .before .before .before .before .before .before .three-of) .ensures .0 in
-    let n = (c .before .before .before .before .before .before .before .before .before .before .before .before .before .before .before .before .before .before .before .before .before .before .before .arguments-in) .ensures .0 in
-    let d2 = rw (n, e) at ((c .before .before .before .before .before .before .before .before .before .before .before .before .before .before .open-call) .ensures .0) in
-    lowers g (a-call (g .ready .lawful) (g .known) ((c .before .before .before .before .before .before .before .before .before .before .before .before .before .before .before .before .before .before .before .before .before .before .before .before .before .before .before .before .before .before) .pre .1 .1)) (rw e at ((c .before .before .before .before .before .before .before .before .before .before .before .before .before .before .before .before .before .before .before .before .expression) .ensures)) d2 (rw n at ((c .before .before .before .before .before .before .before .before .before .before .before .before .before .before .open-call) .ensures .1)) ((c .before .before .before .before .before .before .before .before .arguments) .ensures) (rw (n, e) at ((c .before .before .end-call) .ensures .0)) ((c .before .before .end-call) .ensures .1)
+    let g = (c .before .before .before .before .before .before .before .before .before .before .before .before .before .before .before .before .before .before .before .before .before .before .before .before .before .before .before .before) .pre .1 .0 in
+    let e = (c .before .before .before .before .before .before .before .before .before .before .before .before .before .before .before .before .before .before .before .before .before .before .before .call-of) .ensures .0 in
+    let d2 = rw e at ((c .before .before .before .before .before .before .before .before .before .before .before .before .before .before .open-call) .ensures .0) in
+    lowers g (a-call (g .ready .lawful) (g .known) ((c .before .before .before .before .before .before .before .before .before .before .before .before .before .before .before .before .before .before .before .before .before .before .before .before .before .before .before .before) .pre .1 .1)) (rw e at ((c .before .before .before .before .before .before .before .before .before .before .before .before .before .before .before .before .before .before .before .before .expression) .ensures)) d2 (rw e at ((c .before .before .before .before .before .before .before .before .before .before .before .before .before .before .open-call) .ensures .1)) ((c .before .before .before .before .before .before .before .before .arguments) .ensures) (rw e at ((c .before .before .end-call) .ensures .0)) ((c .before .before .end-call) .ensures .1)

@@ -4,8 +4,7 @@ use Rattle.cycle.proofs.class.Reads as class
 use Rattle.cycle.proofs.+addi+arguments+binary+block+body+both+call+class+elifs+expr_stmt+expression+fn_stmt+for_in+for_loop+function+if_stmt+let_stmt+logical+methods+minus+return_stmt+row+statement+try_catch+unary+while_loop.Lts-class as lts
 use Rattle.cycle.proofs.methods.Reads as methods
 use Rattle.routines.proofs.make_class.Reads as make-class-reads
-use Rattle.cycle.proofs.reading.count_of.Reads as count-of-reads
-use Rattle.cycle.proofs.reading.words_of.Reads as words-of-reads
+use Rattle.nodes.proofs.class_of.Reads as class-of-reads
 use Rattle.routines.proofs.superclass.Reads as superclass-reads
 use Rattle.routines.proofs.end_class.Reads as end-class-reads
 use Rattle.routines.proofs.open_class.Reads as open-class-reads
@@ -16,7 +15,7 @@ use Rattle.meaning.proofs.Reading.{Class}
 use Rattle.cycle.proofs.Nodes.{a-class, behind-here, behind-later, class-stands}
 use Rattle.cycle.proofs.Visited.{class-visits}
 use Rattle.cycle.proofs.Sizes.{class-size}
-use Rattle.cycle.proofs.Way.{_▹_, arrive, counted, ends, few-results, from, headed, in-block, meanwhile, next, next-leaf, next-left, on-node, readable, stand}
+use Rattle.cycle.proofs.Way.{_▹_, arrive, ends, few-results, from, held, in-block, meanwhile, next, next-leaf, next-left, on-node, stand}
 use Rattle.meaning.specs.Visits.{visits-funs}
 use Rattle.cycle.specs.Cycle.{AskMethods, GivenStmt, LowersMethods, Ready, UnderStmt}
 use Rattle.forward.proofs.Chains.{class-chain}
@@ -124,64 +123,61 @@ module _ {t w : List ℕ} {p : Scope} {s : Step} {i : ℕ} (g : GivenStmt t w p 
 
 -- what each function that is called asks and promises; a member of the cycle at a smaller measure
 abbrev pub claims : ℕ → lts.Claims
-claims t = (words-of-reads.Asked, words-of-reads.Learnt, count-of-reads.Asked, count-of-reads.Learnt, open-class-reads.Asked, open-class-reads.Learnt, superclass-reads.Asked, superclass-reads.Learnt, make-class-reads.Asked, make-class-reads.Learnt, enter-block-reads.Asked, enter-block-reads.Learnt, methods-below t, methods.Post, leave-block-reads.Asked, leave-block-reads.Learnt, end-class-reads.Asked, end-class-reads.Learnt)
+claims t = (class-of-reads.Asked, class-of-reads.Learnt, open-class-reads.Asked, open-class-reads.Learnt, superclass-reads.Asked, superclass-reads.Learnt, make-class-reads.Asked, make-class-reads.Learnt, enter-block-reads.Asked, enter-block-reads.Learnt, methods-below t, methods.Post, leave-block-reads.Asked, leave-block-reads.Learnt, end-class-reads.Asked, end-class-reads.Learnt)
 
-pub words-of-requires : (t : ℕ) → lts.Need-words-of-requires (claims t) (class-at t) class.Post
-words-of-requires t c κs = headed ((c .before .before .before .before) .pre .1 .0 .ready) ((c .before .before .before .before) .pre .1 .0 .known) (class-stands ((c .before .before .before .before) .pre .1 .0 .ready .lawful) ((c .before .before .before .before) .pre .1 .0 .known) ((c .before .before .before .before) .pre .1 .1) .0)
-
-pub count-of-requires : (t : ℕ) → lts.Need-count-of-requires (claims t) (class-at t) class.Post
-count-of-requires t c κs = counted (readable ((c .before .before .before .before .before .before) .pre .1 .0 .ready) ((c .before .before .before .before .before .before) .pre .1 .0 .known)) (behind-here ((c .before .before .before .before .before .before) .pre .1 .0 .ready) (class-stands ((c .before .before .before .before .before .before) .pre .1 .0 .ready .lawful) ((c .before .before .before .before .before .before) .pre .1 .0 .known) ((c .before .before .before .before .before .before) .pre .1 .1) .1))
+pub class-of-requires : (t : ℕ) → lts.Need-class-of-requires (claims t) (class-at t) class.Post
+class-of-requires t c κs = held ((c .before .before .before .before) .pre .1 .0 .ready) ((c .before .before .before .before) .pre .1 .0 .known) ((c .before .before .before .before) .pre .1 .1)
 
 pub open-class-requires : (t : ℕ) → lts.Need-open-class-requires (claims t) (class-at t) class.Post
 open-class-requires t c κs =
-    let g = (c .before .before .before .before .before .before .before .before) .pre .1 .0 in
-    rw ((c .before .before .before .words-of) .ensures .0) (at-open g (a-class (g .ready .lawful) (g .known) ((c .before .before .before .before .before .before .before .before) .pre .1 .1)) ((c .before .before .before .before .before .before .before .before) .pre .1 .2))
+    let g = (c .before .before .before .before .before .before) .pre .1 .0 in
+    rw ((c .before .class-of) .ensures .0) (at-open g (a-class (g .ready .lawful) (g .known) ((c .before .before .before .before .before .before) .pre .1 .1)) ((c .before .before .before .before .before .before) .pre .1 .2))
 
 pub superclass-requires : (t : ℕ) → lts.Need-superclass-requires (claims t) (class-at t) class.Post
 superclass-requires t c κs =
-    let g = (c .before .before .before .before .before .before .before .before .before .before .before .before) .pre .1 .0 in
-    (at-super g (a-class (g .ready .lawful) (g .known) ((c .before .before .before .before .before .before .before .before .before .before .before .before) .pre .1 .1)) ((c .before .before .before .before .before .before .before .before .before .before .before .before) .pre .1 .2) (rw ((c .before .before .before .before .before .before .before .words-of) .ensures .0) at ((c .before .before .before .open-class) .ensures)), (c .before .before .before .before .before .before .before .before .before .before .before .before) .pre .1 .1)
+    let g = (c .before .before .before .before .before .before .before .before .before .before) .pre .1 .0 in
+    (at-super g (a-class (g .ready .lawful) (g .known) ((c .before .before .before .before .before .before .before .before .before .before) .pre .1 .1)) ((c .before .before .before .before .before .before .before .before .before .before) .pre .1 .2) (rw ((c .before .before .before .before .before .class-of) .ensures .0) at ((c .before .before .before .open-class) .ensures)), (c .before .before .before .before .before .before .before .before .before .before) .pre .1 .1)
 
 pub make-class-requires : (t : ℕ) → lts.Need-make-class-requires (claims t) (class-at t) class.Post
 make-class-requires t c κs =
-    let g = (c .before .before .before .before .before .before .before .before .before .before .before .before .before .before .before .before) .pre .1 .0 in
-    at-make g (a-class (g .ready .lawful) (g .known) ((c .before .before .before .before .before .before .before .before .before .before .before .before .before .before .before .before) .pre .1 .1)) ((c .before .before .before .before .before .before .before .before .before .before .before .before .before .before .before .before) .pre .1 .2) (rw ((c .before .before .before .before .before .before .before .before .before .before .before .words-of) .ensures .0) at ((c .before .before .before .before .before .before .before .open-class) .ensures)) ((c .before .before .before .superclass) .ensures)
+    let g = (c .before .before .before .before .before .before .before .before .before .before .before .before .before .before) .pre .1 .0 in
+    at-make g (a-class (g .ready .lawful) (g .known) ((c .before .before .before .before .before .before .before .before .before .before .before .before .before .before) .pre .1 .1)) ((c .before .before .before .before .before .before .before .before .before .before .before .before .before .before) .pre .1 .2) (rw ((c .before .before .before .before .before .before .before .before .before .class-of) .ensures .0) at ((c .before .before .before .before .before .before .before .open-class) .ensures)) ((c .before .before .before .superclass) .ensures)
 
 pub enter-block-requires : (t : ℕ) → lts.Need-enter-block-requires (claims t) (class-at t) class.Post
 enter-block-requires t c κs =
-    let g = (c .before .before .before .before .before .before .before .before .before .before .before .before .before .before .before .before .before .before .before .before) .pre .1 .0 in
-    let e = (c .before .before .before .before .before .before .before .before .before .before .before .before .before .before .before .words-of) .ensures .0 in
-    at-enter g (a-class (g .ready .lawful) (g .known) ((c .before .before .before .before .before .before .before .before .before .before .before .before .before .before .before .before .before .before .before .before) .pre .1 .1)) ((c .before .before .before .before .before .before .before .before .before .before .before .before .before .before .before .before .before .before .before .before) .pre .1 .2) (rw e at ((c .before .before .before .before .before .before .before .before .before .before .before .open-class) .ensures)) ((c .before .before .before .before .before .before .before .superclass) .ensures) (rw e at ((c .before .before .before .make-class) .ensures))
+    let g = (c .before .before .before .before .before .before .before .before .before .before .before .before .before .before .before .before .before .before) .pre .1 .0 in
+    let e = (c .before .before .before .before .before .before .before .before .before .before .before .before .before .class-of) .ensures .0 in
+    at-enter g (a-class (g .ready .lawful) (g .known) ((c .before .before .before .before .before .before .before .before .before .before .before .before .before .before .before .before .before .before) .pre .1 .1)) ((c .before .before .before .before .before .before .before .before .before .before .before .before .before .before .before .before .before .before) .pre .1 .2) (rw e at ((c .before .before .before .before .before .before .before .before .before .before .before .open-class) .ensures)) ((c .before .before .before .before .before .before .before .superclass) .ensures) (rw e at ((c .before .before .before .make-class) .ensures))
 
 pub add-statics : (t : ℕ) → lts.Need-add-statics (claims t) (class-at t) class.Post
-add-statics t c = omega (arith, ((c .before .before .before .before .before .before .before .before .before .before .before .before .before .before .before .before .before .before .before .words-of) .ensures .1 .3 (λ z. omega arith)))
+add-statics t c = omega (arith, ((c .before .before .before .before .before .before .before .before .before .before .before .before .before .before .before .before .before .class-of) .ensures .1))
 
 pub methods-requires : (t : ℕ) → lts.Need-methods-requires (claims t) (class-at t) class.Post
 methods-requires t c κs =
-    let g = (c .before .before .before .before .before .before .before .before .before .before .before .before .before .before .before .before .before .before .before .before .before .before .before .before .before .before) .pre .1 .0 in
-    let e = (c .before .before .before .before .before .before .before .before .before .before .before .before .before .before .before .before .before .before .before .before .before .words-of) .ensures .0 in
+    let g = (c .before .before .before .before .before .before .before .before .before .before .before .before .before .before .before .before .before .before .before .before .before .before .before .before) .pre .1 .0 in
+    let e = (c .before .before .before .before .before .before .before .before .before .before .before .before .before .before .before .before .before .before .before .class-of) .ensures .0 in
     let b = (c .before .before .before .before .before .enter-block) .ensures in
     rw (b .0, e)
-    (omega (arith, (c .before .before .before .before .before .before .before .before .before .before .before .before .before .before .before .before .before .before .before .before .before .before .before .before .before .before) .pre .0), plain g (a-class (g .ready .lawful) (g .known) ((c .before .before .before .before .before .before .before .before .before .before .before .before .before .before .before .before .before .before .before .before .before .before .before .before .before .before) .pre .1 .1)) ((c .before .before .before .before .before .before .before .before .before .before .before .before .before .before .before .before .before .before .before .before .before .before .before .before .before .before) .pre .1 .2) (rw e at ((c .before .before .before .before .before .before .before .before .before .before .before .before .before .before .before .before .before .open-class) .ensures)) ((c .before .before .before .before .before .before .before .before .before .before .before .before .before .superclass) .ensures) (rw e at ((c .before .before .before .before .before .before .before .before .before .make-class) .ensures)) (b .1) (b .2 _ ((c .before .before .before .before .before .before .before .before .before .make-class) .ensures .moves .fine)) (behind-here (g .ready) (class-stands (g .ready .lawful) (g .known) ((c .before .before .before .before .before .before .before .before .before .before .before .before .before .before .before .before .before .before .before .before .before .before .before .before .before .before) .pre .1 .1) .1)))
+    (omega (arith, (c .before .before .before .before .before .before .before .before .before .before .before .before .before .before .before .before .before .before .before .before .before .before .before .before) .pre .0), plain g (a-class (g .ready .lawful) (g .known) ((c .before .before .before .before .before .before .before .before .before .before .before .before .before .before .before .before .before .before .before .before .before .before .before .before) .pre .1 .1)) ((c .before .before .before .before .before .before .before .before .before .before .before .before .before .before .before .before .before .before .before .before .before .before .before .before) .pre .1 .2) (rw e at ((c .before .before .before .before .before .before .before .before .before .before .before .before .before .before .before .before .before .open-class) .ensures)) ((c .before .before .before .before .before .before .before .before .before .before .before .before .before .superclass) .ensures) (rw e at ((c .before .before .before .before .before .before .before .before .before .make-class) .ensures)) (b .1) (b .2 _ ((c .before .before .before .before .before .before .before .before .before .make-class) .ensures .moves .fine)) (behind-here (g .ready) (class-stands (g .ready .lawful) (g .known) ((c .before .before .before .before .before .before .before .before .before .before .before .before .before .before .before .before .before .before .before .before .before .before .before .before) .pre .1 .1))))
 
 pub methods-requires-2 : (t : ℕ) → lts.Need-methods-requires-2 (claims t) (class-at t) class.Post
 methods-requires-2 t c κs =
-    let g = (c .before .before .before .before .before .before .before .before .before .before .before .before .before .before .before .before .before .before .before .before .before .before .before .before .before .before .before .before .before .before .before .before .before) .pre .1 .0 in
-    let e = (c .before .before .before .before .before .before .before .before .before .before .before .before .before .before .before .before .before .before .before .before .before .before .before .before .before .before .before .before .words-of) .ensures .0 in
+    let g = (c .before .before .before .before .before .before .before .before .before .before .before .before .before .before .before .before .before .before .before .before .before .before .before .before .before .before .before .before .before .before .before) .pre .1 .0 in
+    let e = (c .before .before .before .before .before .before .before .before .before .before .before .before .before .before .before .before .before .before .before .before .before .before .before .before .before .before .class-of) .ensures .0 in
     let b = (c .before .before .before .before .before .before .before .before .before .before .before .before .enter-block) .ensures in
-    rw (b .0, e, (c .before .before .before .before .before .before .before .before .before .before .before .before .before .before .before .before .before .before .before .before .before .before .before .before .before .before .count-of) .ensures .0)
-    (omega (arith, (c .before .before .before .before .before .before .before .before .before .before .before .before .before .before .before .before .before .before .before .before .before .before .before .before .before .before .before .before .before .before .before .before .before) .pre .0), statics g (a-class (g .ready .lawful) (g .known) ((c .before .before .before .before .before .before .before .before .before .before .before .before .before .before .before .before .before .before .before .before .before .before .before .before .before .before .before .before .before .before .before .before .before) .pre .1 .1)) ((c .before .before .before .before .before .before .before .before .before .before .before .before .before .before .before .before .before .before .before .before .before .before .before .before .before .before .before .before .before .before .before .before .before) .pre .1 .2) (rw e at ((c .before .before .before .before .before .before .before .before .before .before .before .before .before .before .before .before .before .before .before .before .before .before .before .before .open-class) .ensures)) ((c .before .before .before .before .before .before .before .before .before .before .before .before .before .before .before .before .before .before .before .before .superclass) .ensures) (rw e at ((c .before .before .before .before .before .before .before .before .before .before .before .before .before .before .before .before .make-class) .ensures)) (b .1) (b .2 _ ((c .before .before .before .before .before .before .before .before .before .before .before .before .before .before .before .before .make-class) .ensures .moves .fine)) (rw (b .0, e) at ((c .before .before .before .before .before .before .methods) .ensures)) (behind-here (g .ready) (class-stands (g .ready .lawful) (g .known) ((c .before .before .before .before .before .before .before .before .before .before .before .before .before .before .before .before .before .before .before .before .before .before .before .before .before .before .before .before .before .before .before .before .before) .pre .1 .1) .1)))
+    rw (b .0, e)
+    (omega (arith, (c .before .before .before .before .before .before .before .before .before .before .before .before .before .before .before .before .before .before .before .before .before .before .before .before .before .before .before .before .before .before .before) .pre .0), statics g (a-class (g .ready .lawful) (g .known) ((c .before .before .before .before .before .before .before .before .before .before .before .before .before .before .before .before .before .before .before .before .before .before .before .before .before .before .before .before .before .before .before) .pre .1 .1)) ((c .before .before .before .before .before .before .before .before .before .before .before .before .before .before .before .before .before .before .before .before .before .before .before .before .before .before .before .before .before .before .before) .pre .1 .2) (rw e at ((c .before .before .before .before .before .before .before .before .before .before .before .before .before .before .before .before .before .before .before .before .before .before .before .before .open-class) .ensures)) ((c .before .before .before .before .before .before .before .before .before .before .before .before .before .before .before .before .before .before .before .before .superclass) .ensures) (rw e at ((c .before .before .before .before .before .before .before .before .before .before .before .before .before .before .before .before .make-class) .ensures)) (b .1) (b .2 _ ((c .before .before .before .before .before .before .before .before .before .before .before .before .before .before .before .before .make-class) .ensures .moves .fine)) (rw (b .0, e) at ((c .before .before .before .before .before .before .methods) .ensures)) (behind-here (g .ready) (class-stands (g .ready .lawful) (g .known) ((c .before .before .before .before .before .before .before .before .before .before .before .before .before .before .before .before .before .before .before .before .before .before .before .before .before .before .before .before .before .before .before) .pre .1 .1))))
 
 pub leave-block-requires : (t : ℕ) → lts.Need-leave-block-requires (claims t) (class-at t) class.Post
 leave-block-requires t c κs = rw ((c .before .before .before .before .before .before .before .before .before .before .before .before .before .before .before .before .before .before .enter-block) .ensures .0) at ((c .before .before .before .before .before .methods2) .ensures .does .moves .fine .sound)
 
 pub end-class-requires : (t : ℕ) → lts.Need-end-class-requires (claims t) (class-at t) class.Post
 end-class-requires t c κs =
-    let g = (c .before .before .before .before .before .before .before .before .before .before .before .before .before .before .before .before .before .before .before .before .before .before .before .before .before .before .before .before .before .before .before .before .before .before .before .before .before .before .before .before .before .before .before) .pre .1 .0 in
-    let e = (c .before .before .before .before .before .before .before .before .before .before .before .before .before .before .before .before .before .before .before .before .before .before .before .before .before .before .before .before .before .before .before .before .before .before .before .before .before .before .words-of) .ensures .0 in
+    let g = (c .before .before .before .before .before .before .before .before .before .before .before .before .before .before .before .before .before .before .before .before .before .before .before .before .before .before .before .before .before .before .before .before .before .before .before .before .before .before .before .before .before) .pre .1 .0 in
+    let e = (c .before .before .before .before .before .before .before .before .before .before .before .before .before .before .before .before .before .before .before .before .before .before .before .before .before .before .before .before .before .before .before .before .before .before .before .before .class-of) .ensures .0 in
     let b = (c .before .before .before .before .before .before .before .before .before .before .before .before .before .before .before .before .before .before .before .before .before .before .enter-block) .ensures in
     rw e
-    (at-end g (a-class (g .ready .lawful) (g .known) ((c .before .before .before .before .before .before .before .before .before .before .before .before .before .before .before .before .before .before .before .before .before .before .before .before .before .before .before .before .before .before .before .before .before .before .before .before .before .before .before .before .before .before .before) .pre .1 .1)) ((c .before .before .before .before .before .before .before .before .before .before .before .before .before .before .before .before .before .before .before .before .before .before .before .before .before .before .before .before .before .before .before .before .before .before .before .before .before .before .before .before .before .before .before) .pre .1 .2) (rw e at ((c .before .before .before .before .before .before .before .before .before .before .before .before .before .before .before .before .before .before .before .before .before .before .before .before .before .before .before .before .before .before .before .before .before .before .open-class) .ensures)) ((c .before .before .before .before .before .before .before .before .before .before .before .before .before .before .before .before .before .before .before .before .before .before .before .before .before .before .before .before .before .before .superclass) .ensures) (rw e at ((c .before .before .before .before .before .before .before .before .before .before .before .before .before .before .before .before .before .before .before .before .before .before .before .before .before .before .make-class) .ensures)) (b .1) (b .2 _ ((c .before .before .before .before .before .before .before .before .before .before .before .before .before .before .before .before .before .before .before .before .before .before .before .before .before .before .make-class) .ensures .moves .fine)) (rw (b .0, e) at ((c .before .before .before .before .before .before .before .before .before .before .before .before .before .before .before .before .methods) .ensures)) (rw (b .0, e, (c .before .before .before .before .before .before .before .before .before .before .before .before .before .before .before .before .before .before .before .before .before .before .before .before .before .before .before .before .before .before .before .before .before .before .before .before .count-of) .ensures .0) at ((c .before .before .before .before .before .before .before .before .before .methods2) .ensures)) ((c .before .before .before .leave-block) .ensures))
+    (at-end g (a-class (g .ready .lawful) (g .known) ((c .before .before .before .before .before .before .before .before .before .before .before .before .before .before .before .before .before .before .before .before .before .before .before .before .before .before .before .before .before .before .before .before .before .before .before .before .before .before .before .before .before) .pre .1 .1)) ((c .before .before .before .before .before .before .before .before .before .before .before .before .before .before .before .before .before .before .before .before .before .before .before .before .before .before .before .before .before .before .before .before .before .before .before .before .before .before .before .before .before) .pre .1 .2) (rw e at ((c .before .before .before .before .before .before .before .before .before .before .before .before .before .before .before .before .before .before .before .before .before .before .before .before .before .before .before .before .before .before .before .before .before .before .open-class) .ensures)) ((c .before .before .before .before .before .before .before .before .before .before .before .before .before .before .before .before .before .before .before .before .before .before .before .before .before .before .before .before .before .before .superclass) .ensures) (rw e at ((c .before .before .before .before .before .before .before .before .before .before .before .before .before .before .before .before .before .before .before .before .before .before .before .before .before .before .make-class) .ensures)) (b .1) (b .2 _ ((c .before .before .before .before .before .before .before .before .before .before .before .before .before .before .before .before .before .before .before .before .before .before .before .before .before .before .make-class) .ensures .moves .fine)) (rw (b .0, e) at ((c .before .before .before .before .before .before .before .before .before .before .before .before .before .before .before .before .methods) .ensures)) (rw (b .0, e) at ((c .before .before .before .before .before .before .before .before .before .methods2) .ensures)) ((c .before .before .before .leave-block) .ensures))
 
 pub same-length : (t : ℕ) → lts.Need-same-length (claims t) (class-at t) class.Post
 same-length t c = (c .before .before .end-class) .ensures .0 .moves .kept .same ∙ (c .before .before .before .before .before .before .leave-block) .ensures .same ∙ (c .before .before .before .before .before .before .before .before .before .before .before .before .methods2) .ensures .does .moves .kept .same ∙ (c .before .before .before .before .before .before .before .before .before .before .before .before .before .before .before .before .before .before .before .methods) .ensures .does .moves .kept .same ∙ (c .before .before .before .before .before .before .before .before .before .before .before .before .before .before .before .before .before .before .before .before .before .before .before .before .before .enter-block) .ensures .1 .same ∙ (c .before .before .before .before .before .before .before .before .before .before .before .before .before .before .before .before .before .before .before .before .before .before .before .before .before .before .before .before .before .make-class) .ensures .moves .kept .same ∙ (c .before .before .before .before .before .before .before .before .before .before .before .before .before .before .before .before .before .before .before .before .before .before .before .before .before .before .before .before .before .before .before .before .before .superclass) .ensures .leaf .moves .kept .same ∙ (c .before .before .before .before .before .before .before .before .before .before .before .before .before .before .before .before .before .before .before .before .before .before .before .before .before .before .before .before .before .before .before .before .before .before .before .before .before .open-class) .ensures .0 .moves .kept .same
@@ -191,7 +187,7 @@ same-length-2 t c = (c .before .before .before .before .before .before .before .
 
 pub returns : (t : ℕ) → lts.Need-returns (claims t) (class-at t) class.Post
 returns t c =
-    let g = (c .before .before .before .before .before .before .before .before .before .before .before .before .before .before .before .before .before .before .before .before .before .before .before .before .before .before .before .before .before .before .before .before .before .before .before .before .before .before .before .before .before .before .before .before .before .before) .pre .1 .0 in
-    let e = (c .before .before .before .before .before .before .before .before .before .before .before .before .before .before .before .before .before .before .before .before .before .before .before .before .before .before .before .before .before .before .before .before .before .before .before .before .before .before .before .before .before .words-of) .ensures .0 in
+    let g = (c .before .before .before .before .before .before .before .before .before .before .before .before .before .before .before .before .before .before .before .before .before .before .before .before .before .before .before .before .before .before .before .before .before .before .before .before .before .before .before .before .before .before .before .before) .pre .1 .0 in
+    let e = (c .before .before .before .before .before .before .before .before .before .before .before .before .before .before .before .before .before .before .before .before .before .before .before .before .before .before .before .before .before .before .before .before .before .before .before .before .before .before .before .class-of) .ensures .0 in
     let b = (c .before .before .before .before .before .before .before .before .before .before .before .before .before .before .before .before .before .before .before .before .before .before .before .before .before .enter-block) .ensures in
-    lowers g (a-class (g .ready .lawful) (g .known) ((c .before .before .before .before .before .before .before .before .before .before .before .before .before .before .before .before .before .before .before .before .before .before .before .before .before .before .before .before .before .before .before .before .before .before .before .before .before .before .before .before .before .before .before .before .before .before) .pre .1 .1)) ((c .before .before .before .before .before .before .before .before .before .before .before .before .before .before .before .before .before .before .before .before .before .before .before .before .before .before .before .before .before .before .before .before .before .before .before .before .before .before .before .before .before .before .before .before .before .before) .pre .1 .2) (rw e at ((c .before .before .before .before .before .before .before .before .before .before .before .before .before .before .before .before .before .before .before .before .before .before .before .before .before .before .before .before .before .before .before .before .before .before .before .before .before .open-class) .ensures)) ((c .before .before .before .before .before .before .before .before .before .before .before .before .before .before .before .before .before .before .before .before .before .before .before .before .before .before .before .before .before .before .before .before .before .superclass) .ensures) (rw e at ((c .before .before .before .before .before .before .before .before .before .before .before .before .before .before .before .before .before .before .before .before .before .before .before .before .before .before .before .before .before .make-class) .ensures)) (b .1) (b .2 _ ((c .before .before .before .before .before .before .before .before .before .before .before .before .before .before .before .before .before .before .before .before .before .before .before .before .before .before .before .before .before .make-class) .ensures .moves .fine)) (rw (b .0, e) at ((c .before .before .before .before .before .before .before .before .before .before .before .before .before .before .before .before .before .before .before .methods) .ensures)) (rw (b .0, e, (c .before .before .before .before .before .before .before .before .before .before .before .before .before .before .before .before .before .before .before .before .before .before .before .before .before .before .before .before .before .before .before .before .before .before .before .before .before .before .before .count-of) .ensures .0) at ((c .before .before .before .before .before .before .before .before .before .before .before .before .methods2) .ensures)) ((c .before .before .before .before .before .before .leave-block) .ensures) (rw e at ((c .before .before .end-class) .ensures))
+    lowers g (a-class (g .ready .lawful) (g .known) ((c .before .before .before .before .before .before .before .before .before .before .before .before .before .before .before .before .before .before .before .before .before .before .before .before .before .before .before .before .before .before .before .before .before .before .before .before .before .before .before .before .before .before .before .before) .pre .1 .1)) ((c .before .before .before .before .before .before .before .before .before .before .before .before .before .before .before .before .before .before .before .before .before .before .before .before .before .before .before .before .before .before .before .before .before .before .before .before .before .before .before .before .before .before .before .before) .pre .1 .2) (rw e at ((c .before .before .before .before .before .before .before .before .before .before .before .before .before .before .before .before .before .before .before .before .before .before .before .before .before .before .before .before .before .before .before .before .before .before .before .before .before .open-class) .ensures)) ((c .before .before .before .before .before .before .before .before .before .before .before .before .before .before .before .before .before .before .before .before .before .before .before .before .before .before .before .before .before .before .before .before .before .superclass) .ensures) (rw e at ((c .before .before .before .before .before .before .before .before .before .before .before .before .before .before .before .before .before .before .before .before .before .before .before .before .before .before .before .before .before .make-class) .ensures)) (b .1) (b .2 _ ((c .before .before .before .before .before .before .before .before .before .before .before .before .before .before .before .before .before .before .before .before .before .before .before .before .before .before .before .before .before .make-class) .ensures .moves .fine)) (rw (b .0, e) at ((c .before .before .before .before .before .before .before .before .before .before .before .before .before .before .before .before .before .before .before .methods) .ensures)) (rw (b .0, e) at ((c .before .before .before .before .before .before .before .before .before .before .before .before .methods2) .ensures)) ((c .before .before .before .before .before .before .leave-block) .ensures) (rw e at ((c .before .before .end-class) .ensures))

@@ -6,14 +6,13 @@ use Rattle.cycle.proofs.expression.Reads as expression
 use Rattle.cycle.proofs.row.Reads as row
 use Rattle.routines.proofs.end_branch.Reads as end-branch-reads
 use Rattle.code.proofs.test_and_jump.Reads as test-and-jump-reads
-use Rattle.cycle.proofs.reading.count_of.Reads as count-of-reads
-use Rattle.cycle.proofs.reading.payload_of.Reads as payload-of-reads
-use Rattle.cycle.proofs.reading.three_of.Reads as three-of-reads
+use Rattle.nodes.proofs.payload_of.Reads as payload-of-reads
+use Rattle.nodes.proofs.elif_of.Reads as elif-of-reads
 use Rattle.nodes.proofs.child.Reads as child-reads
 use Rattle.store.proofs.settle.Reads as settle-reads
 use Rattle.cycle.proofs.+addi+arguments+binary+block+body+both+call+class+elifs+expr_stmt+expression+fn_stmt+for_in+for_loop+function+if_stmt+let_stmt+logical+methods+minus+return_stmt+row+statement+try_catch+unary+while_loop.Proof.Order.{elifs-at, expression-below, row-below}
-use Rattle.cycle.proofs.Way.{after-ticked, counted, from, headed, inside, placed}
-use Rattle.meaning.specs.At.{Behind, Heads, elifs-at as elif-row}
+use Rattle.cycle.proofs.Way.{after-ticked, from, held-bare, inside, placed}
+use Rattle.meaning.specs.At.{Behind, elifs-at as elif-row}
 use Rattle.cycle.proofs.Nodes.{an-elif, behind-later, elif-stands}
 use Rattle.cycle.proofs.Sizes.{elifs-size, elifs-size-none}
 use Rattle.cycle.proofs.Turns.{Turning, closed, none-turned, turned}
@@ -42,7 +41,7 @@ use lib.Dec.{lit<}
 use mathlib.Core.List.{List}
 use mathlib.Core.Path.{_∙_, _≡_}
 use native.Mathlib.Omega.{arith}
-use Rattle.cycle.proofs.Counts.{few-words}
+use Rattle.nodes.proofs.Headers.{few-words}
 
 pub record Branching (t w0 o0 : List ℕ) (p : Scope) (s0 : Step) (i from to : ℕ) (w o : List ℕ) (s : Step) (k : ℕ) : Type 0 where
   pub low : from ≤ k
@@ -70,7 +69,7 @@ module _ {t w0 : List ℕ} {p : Scope} {s0 : Step} {i f g d : ℕ} (r : AskElifs
       elif : Elif (fields t) (word-of (fields t) i k)
       elif = an-elif (r .ready .lawful) known-elif (below .tag)
 
-      stands : Heads (fields t) (word-of (fields t) i k) 4 × Behind (fields t) (word-of (fields t) i k) 0 0
+      stands : Behind (fields t) (word-of (fields t) i k) 0 0
       stands = elif-stands (r .ready .lawful) known-elif (below .tag)
 
       sizes : size-elifs (elif-row (fields t) i k g) ≡ 1 + (size-expr (expr-at (fields t) (word-of (fields t) (word-of (fields t) i k) 0)) + size-stmts (stmts-at (fields t) (word-of (fields t) i k) 1 (count-of (fields t) (word-of (fields t) i k)))) + size-elifs (elif-row (fields t) i (k + 1) g)
@@ -88,7 +87,7 @@ module _ {t w0 : List ℕ} {p : Scope} {s0 : Step} {i f g d : ℕ} (r : AskElifs
 
         module _ {w2 : List ℕ} {s2 : Step} (d2 : Leaf w1 p s1 w2 p s2 (uses 4 0 0) (sure (test-and-jump 0 no-mark))) where
           thens : AskRow t w2 p s2 (word-of (fields t) i k) 1 (count-of (fields t) (word-of (fields t) i k)) 0
-          thens = let n = sizes in give-row (from here ▹ d1 .does .moves ▹ d2 .moves) known-elif 1 _ (omega arith) (elif .each) (omega arith) (omega arith) (omega arith) (omega arith) (behind-later 1 (omega arith) (stands .1))
+          thens = let n = sizes in give-row (from here ▹ d1 .does .moves ▹ d2 .moves) known-elif 1 _ (omega arith) (elif .each) (omega arith) (omega arith) (omega arith) (omega arith) (behind-later 1 (omega arith) (stands))
 
           module _ {w3 o3 : List ℕ} {s3 : Step} (d3 : LowersRow t (word-of (fields t) i k) 1 (count-of (fields t) (word-of (fields t) i k)) w2 o1 p s2 w3 o3 s3) where
             at-end : Fine w3 p s3 × Room w3 p s3 0 2 0 × while-going (s3 .outcome) (s1 .pc + 2 ≤ s3 .pc)
@@ -145,7 +144,7 @@ one-more h l = omega arith
 
 -- what each function that is called asks and promises; a member of the cycle at a smaller measure
 abbrev pub claims : ℕ → lts.Claims
-claims t = (payload-of-reads.Asked, payload-of-reads.Learnt, child-reads.Asked, child-reads.Learnt, three-of-reads.Asked, three-of-reads.Learnt, count-of-reads.Asked, count-of-reads.Learnt, expression-below t, expression.Post, test-and-jump-reads.Asked, test-and-jump-reads.Learnt, row-below t, row.Post, end-branch-reads.Asked, end-branch-reads.Learnt, visit-reads.Asked, visit-reads.Learnt, settle-reads.Asked, settle-reads.Learnt)
+claims t = (payload-of-reads.Asked, payload-of-reads.Learnt, child-reads.Asked, child-reads.Learnt, elif-of-reads.Asked, elif-of-reads.Learnt, expression-below t, expression.Post, test-and-jump-reads.Asked, test-and-jump-reads.Learnt, row-below t, row.Post, end-branch-reads.Asked, end-branch-reads.Learnt, visit-reads.Asked, visit-reads.Learnt, settle-reads.Asked, settle-reads.Learnt)
 
 abbrev pub Inv-loop : lts.InvT-loop
 Inv-loop tree work₀ out₀ scope node from to skew payload last₀ k₀ work out last k = Branching tree work₀ out₀ scope last₀ node from to work out last k
@@ -167,53 +166,49 @@ add-child t c =
 pub child-requires : (t : ℕ) → lts.Need-child-requires (claims t) (elifs-at t) elifs.Post Inv-loop μ-loop
 child-requires t c κs = rw ((c .before .before .payload-of) .ensures) (omega (arith, (c .loop-test) .taken, (c .before .before .before .before .before .before .before) .pre .1 .ends, (c .before .before .before .before .before .before .before) .pre .1 .behind .size))
 
-pub three-of-requires : (t : ℕ) → lts.Need-three-of-requires (claims t) (elifs-at t) elifs.Post Inv-loop μ-loop
-three-of-requires t c κs =
-    rw (placed ((c .before .before .before .before .before .before .before .before .before) .pre .1) ((c .before .before .before .loop) .inv .low) (rw ((c .before .before .before .before .payload-of) .ensures) at ((c .before .child) .ensures .0))) (headed (here ((c .before .before .before .before .before .before .before .before .before) .pre .1) ((c .before .before .before .loop) .inv)) (known-elif ((c .before .before .before .before .before .before .before .before .before) .pre .1) ((c .before .before .before .loop) .inv) ((c .before .before .loop-test) .taken)) (stands ((c .before .before .before .before .before .before .before .before .before) .pre .1) ((c .before .before .before .loop) .inv) ((c .before .before .loop-test) .taken) .0))
-
-pub count-of-requires : (t : ℕ) → lts.Need-count-of-requires (claims t) (elifs-at t) elifs.Post Inv-loop μ-loop
-count-of-requires t c κs =
-    rw (placed ((c .before .before .before .before .before .before .before .before .before .before .before) .pre .1) ((c .before .before .before .before .before .loop) .inv .low) (rw ((c .before .before .before .before .before .before .payload-of) .ensures) at ((c .before .before .before .child) .ensures .0))) (counted (readable (here ((c .before .before .before .before .before .before .before .before .before .before .before) .pre .1) ((c .before .before .before .before .before .loop) .inv)) (known-elif ((c .before .before .before .before .before .before .before .before .before .before .before) .pre .1) ((c .before .before .before .before .before .loop) .inv) ((c .before .before .before .before .loop-test) .taken))) (stands ((c .before .before .before .before .before .before .before .before .before .before .before) .pre .1) ((c .before .before .before .before .before .loop) .inv) ((c .before .before .before .before .loop-test) .taken) .1))
+pub elif-of-requires : (t : ℕ) → lts.Need-elif-of-requires (claims t) (elifs-at t) elifs.Post Inv-loop μ-loop
+elif-of-requires t c κs =
+    rw (placed ((c .before .before .before .before .before .before .before .before .before) .pre .1) ((c .before .before .before .loop) .inv .low) (rw ((c .before .before .before .before .payload-of) .ensures) at ((c .before .child) .ensures .0))) (held-bare (here ((c .before .before .before .before .before .before .before .before .before) .pre .1) ((c .before .before .before .loop) .inv)) (known-elif ((c .before .before .before .before .before .before .before .before .before) .pre .1) ((c .before .before .before .loop) .inv) ((c .before .before .loop-test) .taken)) (below ((c .before .before .before .before .before .before .before .before .before) .pre .1) ((c .before .before .before .loop) .inv) ((c .before .before .loop-test) .taken) .tag))
 
 pub expression-requires : (t : ℕ) → lts.Need-expression-requires (claims t) (elifs-at t) elifs.Post Inv-loop μ-loop
 expression-requires t c κs =
-    let r = (c .before .before .before .before .before .before .before .before .before .before .before .before .before .before) .pre .1 in
-    let v = (c .before .before .before .before .before .before .before .before .loop) .inv in
-    let h = (c .before .before .before .before .before .before .before .loop-test) .taken in
-    let e = placed ((c .before .before .before .before .before .before .before .before .before .before .before .before .before .before) .pre .1) ((c .before .before .before .before .before .before .before .before .loop) .inv .low) (rw ((c .before .before .before .before .before .before .before .before .before .payload-of) .ensures) at ((c .before .before .before .before .before .before .child) .ensures .0)) in
-    rw ((c .before .before .before .before .three-of) .ensures .0, e) (omega (arith, (c .before .before .before .before .before .before .before .before .before .before .before .before .before .before) .pre .0, below r v h .below, elif r v h .condition .below), condition r v h)
+    let r = (c .before .before .before .before .before .before .before .before .before .before .before .before) .pre .1 in
+    let v = (c .before .before .before .before .before .before .loop) .inv in
+    let h = (c .before .before .before .before .before .loop-test) .taken in
+    let e = placed ((c .before .before .before .before .before .before .before .before .before .before .before .before) .pre .1) ((c .before .before .before .before .before .before .loop) .inv .low) (rw ((c .before .before .before .before .before .before .before .payload-of) .ensures) at ((c .before .before .before .before .child) .ensures .0)) in
+    rw ((c .before .before .elif-of) .ensures, e) (omega (arith, (c .before .before .before .before .before .before .before .before .before .before .before .before) .pre .0, below r v h .below, elif r v h .condition .below), condition r v h)
 
 pub test-and-jump-requires : (t : ℕ) → lts.Need-test-and-jump-requires (claims t) (elifs-at t) elifs.Post Inv-loop μ-loop
 test-and-jump-requires t c κs =
-    let e = placed ((c .before .before .before .before .before .before .before .before .before .before .before .before .before .before .before .before .before .before .before .before) .pre .1) ((c .before .before .before .before .before .before .before .before .before .before .before .before .before .before .loop) .inv .low) (rw ((c .before .before .before .before .before .before .before .before .before .before .before .before .before .before .before .payload-of) .ensures) at ((c .before .before .before .before .before .before .before .before .before .before .before .before .child) .ensures .0)) in
-    at-test ((c .before .before .before .before .before .before .before .before .before .before .before .before .before .before .before .before .before .before .before .before) .pre .1) ((c .before .before .before .before .before .before .before .before .before .before .before .before .before .before .loop) .inv) ((c .before .before .before .before .before .before .before .before .before .before .before .before .before .loop-test) .taken) (rw ((c .before .before .before .before .before .before .before .before .before .before .three-of) .ensures .0, e) at ((c .before .before .before .before .before .expression) .ensures))
+    let e = placed ((c .before .before .before .before .before .before .before .before .before .before .before .before .before .before .before .before .before .before) .pre .1) ((c .before .before .before .before .before .before .before .before .before .before .before .before .loop) .inv .low) (rw ((c .before .before .before .before .before .before .before .before .before .before .before .before .before .payload-of) .ensures) at ((c .before .before .before .before .before .before .before .before .before .before .child) .ensures .0)) in
+    at-test ((c .before .before .before .before .before .before .before .before .before .before .before .before .before .before .before .before .before .before) .pre .1) ((c .before .before .before .before .before .before .before .before .before .before .before .before .loop) .inv) ((c .before .before .before .before .before .before .before .before .before .before .before .loop-test) .taken) (rw ((c .before .before .before .before .before .before .before .before .elif-of) .ensures, e) at ((c .before .before .before .before .before .expression) .ensures))
 
 pub row-requires : (t : ℕ) → lts.Need-row-requires (claims t) (elifs-at t) elifs.Post Inv-loop μ-loop
 row-requires t c κs =
-    let r = (c .before .before .before .before .before .before .before .before .before .before .before .before .before .before .before .before .before .before .before .before .before .before .before .before .before) .pre .1 in
-    let v = (c .before .before .before .before .before .before .before .before .before .before .before .before .before .before .before .before .before .before .before .loop) .inv in
-    let h = (c .before .before .before .before .before .before .before .before .before .before .before .before .before .before .before .before .before .before .loop-test) .taken in
-    let e = placed ((c .before .before .before .before .before .before .before .before .before .before .before .before .before .before .before .before .before .before .before .before .before .before .before .before .before) .pre .1) ((c .before .before .before .before .before .before .before .before .before .before .before .before .before .before .before .before .before .before .before .loop) .inv .low) (rw ((c .before .before .before .before .before .before .before .before .before .before .before .before .before .before .before .before .before .before .before .before .payload-of) .ensures) at ((c .before .before .before .before .before .before .before .before .before .before .before .before .before .before .before .before .before .child) .ensures .0)) in
-    rw ((c .before .before .before .before .before .before .before .before .before .before .before .before .before .count-of) .ensures .0, e) (omega (arith, (c .before .before .before .before .before .before .before .before .before .before .before .before .before .before .before .before .before .before .before .before .before .before .before .before .before) .pre .0, below r v h .below), thens r v h (rw ((c .before .before .before .before .before .before .before .before .before .before .before .before .before .before .before .three-of) .ensures .0, e) at ((c .before .before .before .before .before .before .before .before .before .before .expression) .ensures)) ((c .before .before .before .before .test-and-jump) .ensures))
+    let r = (c .before .before .before .before .before .before .before .before .before .before .before .before .before .before .before .before .before .before .before .before .before .before .before) .pre .1 in
+    let v = (c .before .before .before .before .before .before .before .before .before .before .before .before .before .before .before .before .before .loop) .inv in
+    let h = (c .before .before .before .before .before .before .before .before .before .before .before .before .before .before .before .before .loop-test) .taken in
+    let e = placed ((c .before .before .before .before .before .before .before .before .before .before .before .before .before .before .before .before .before .before .before .before .before .before .before) .pre .1) ((c .before .before .before .before .before .before .before .before .before .before .before .before .before .before .before .before .before .loop) .inv .low) (rw ((c .before .before .before .before .before .before .before .before .before .before .before .before .before .before .before .before .before .before .payload-of) .ensures) at ((c .before .before .before .before .before .before .before .before .before .before .before .before .before .before .before .child) .ensures .0)) in
+    rw ((c .before .before .before .before .before .before .before .before .before .before .before .before .before .elif-of) .ensures, e) (omega (arith, (c .before .before .before .before .before .before .before .before .before .before .before .before .before .before .before .before .before .before .before .before .before .before .before) .pre .0, below r v h .below), thens r v h (rw ((c .before .before .before .before .before .before .before .before .before .before .before .before .before .elif-of) .ensures, e) at ((c .before .before .before .before .before .before .before .before .before .before .expression) .ensures)) ((c .before .before .before .before .test-and-jump) .ensures))
 
 pub end-branch-requires : (t : ℕ) → lts.Need-end-branch-requires (claims t) (elifs-at t) elifs.Post Inv-loop μ-loop
 end-branch-requires t c κs =
-    let e = placed ((c .before .before .before .before .before .before .before .before .before .before .before .before .before .before .before .before .before .before .before .before .before .before .before .before .before .before .before .before .before .before .before) .pre .1) ((c .before .before .before .before .before .before .before .before .before .before .before .before .before .before .before .before .before .before .before .before .before .before .before .before .before .loop) .inv .low) (rw ((c .before .before .before .before .before .before .before .before .before .before .before .before .before .before .before .before .before .before .before .before .before .before .before .before .before .before .payload-of) .ensures) at ((c .before .before .before .before .before .before .before .before .before .before .before .before .before .before .before .before .before .before .before .before .before .before .before .child) .ensures .0)) in
-    at-end ((c .before .before .before .before .before .before .before .before .before .before .before .before .before .before .before .before .before .before .before .before .before .before .before .before .before .before .before .before .before .before .before) .pre .1) ((c .before .before .before .before .before .before .before .before .before .before .before .before .before .before .before .before .before .before .before .before .before .before .before .before .before .loop) .inv) ((c .before .before .before .before .before .before .before .before .before .before .before .before .before .before .before .before .before .before .before .before .before .before .before .before .loop-test) .taken) (rw ((c .before .before .before .before .before .before .before .before .before .before .before .before .before .before .before .before .before .before .before .before .before .three-of) .ensures .0, e) at ((c .before .before .before .before .before .before .before .before .before .before .before .before .before .before .before .before .expression) .ensures)) ((c .before .before .before .before .before .before .before .before .before .before .test-and-jump) .ensures) (rw ((c .before .before .before .before .before .before .before .before .before .before .before .before .before .before .before .before .before .before .before .count-of) .ensures .0, e) at ((c .before .before .before .before .before .row) .ensures))
+    let e = placed ((c .before .before .before .before .before .before .before .before .before .before .before .before .before .before .before .before .before .before .before .before .before .before .before .before .before .before .before .before .before) .pre .1) ((c .before .before .before .before .before .before .before .before .before .before .before .before .before .before .before .before .before .before .before .before .before .before .before .loop) .inv .low) (rw ((c .before .before .before .before .before .before .before .before .before .before .before .before .before .before .before .before .before .before .before .before .before .before .before .before .payload-of) .ensures) at ((c .before .before .before .before .before .before .before .before .before .before .before .before .before .before .before .before .before .before .before .before .before .child) .ensures .0)) in
+    at-end ((c .before .before .before .before .before .before .before .before .before .before .before .before .before .before .before .before .before .before .before .before .before .before .before .before .before .before .before .before .before) .pre .1) ((c .before .before .before .before .before .before .before .before .before .before .before .before .before .before .before .before .before .before .before .before .before .before .before .loop) .inv) ((c .before .before .before .before .before .before .before .before .before .before .before .before .before .before .before .before .before .before .before .before .before .before .loop-test) .taken) (rw ((c .before .before .before .before .before .before .before .before .before .before .before .before .before .before .before .before .before .before .before .elif-of) .ensures, e) at ((c .before .before .before .before .before .before .before .before .before .before .before .before .before .before .before .before .expression) .ensures)) ((c .before .before .before .before .before .before .before .before .before .before .test-and-jump) .ensures) (rw ((c .before .before .before .before .before .before .before .before .before .before .before .before .before .before .before .before .before .before .before .elif-of) .ensures, e) at ((c .before .before .before .before .before .row) .ensures))
 
 pub visit-requires : (t : ℕ) → lts.Need-visit-requires (claims t) (elifs-at t) elifs.Post Inv-loop μ-loop
 visit-requires t c κs = omega (arith, (c .before .before .before .end-branch) .ensures .moves .fine .sound .long)
 
 pub add-k : (t : ℕ) → lts.Need-add-k (claims t) (elifs-at t) elifs.Post Inv-loop μ-loop
-add-k t c = record { fits = one-more ((c .before .before .before .before .before .before .before .before .before .before .before .before .before .before .before .before .before .before .before .before .before .before .before .before .before .before .before .before .before .before .before .loop-test) .taken) ((c .before .before .before .before .before .before .before .before .before .before .before .before .before .before .before .before .before .before .before .before .before .before .before .before .before .before .before .before .before .before .before .before .before .before .before .before .before .before) .fits .to .fits) }
+add-k t c = record { fits = one-more ((c .before .before .before .before .before .before .before .before .before .before .before .before .before .before .before .before .before .before .before .before .before .before .before .before .before .before .before .before .before .loop-test) .taken) ((c .before .before .before .before .before .before .before .before .before .before .before .before .before .before .before .before .before .before .before .before .before .before .before .before .before .before .before .before .before .before .before .before .before .before .before .before) .fits .to .fits) }
 
 pub loop-less : (t : ℕ) → lts.Need-loop-less (claims t) (elifs-at t) elifs.Post Inv-loop μ-loop
-loop-less t c = omega (arith, (c .before .before .before .before .before .before .before .before .before .before .before .before .before .before .before .before .before .before .before .before .before .before .before .before .before .before .before .before .before .before .before .loop-test) .taken)
+loop-less t c = omega (arith, (c .before .before .before .before .before .before .before .before .before .before .before .before .before .before .before .before .before .before .before .before .before .before .before .before .before .before .before .before .before .loop-test) .taken)
 
 pub loop-again : (t : ℕ) → lts.Need-loop-again (claims t) (elifs-at t) elifs.Post Inv-loop μ-loop
 loop-again t c =
-    let e = placed ((c .before .before .before .before .before .before .before .before .before .before .before .before .before .before .before .before .before .before .before .before .before .before .before .before .before .before .before .before .before .before .before .before .before .before .before .before .before .before) .pre .1) ((c .before .before .before .before .before .before .before .before .before .before .before .before .before .before .before .before .before .before .before .before .before .before .before .before .before .before .before .before .before .before .before .before .loop) .inv .low) (rw ((c .before .before .before .before .before .before .before .before .before .before .before .before .before .before .before .before .before .before .before .before .before .before .before .before .before .before .before .before .before .before .before .before .before .payload-of) .ensures) at ((c .before .before .before .before .before .before .before .before .before .before .before .before .before .before .before .before .before .before .before .before .before .before .before .before .before .before .before .before .before .before .child) .ensures .0)) in
-    turn ((c .before .before .before .before .before .before .before .before .before .before .before .before .before .before .before .before .before .before .before .before .before .before .before .before .before .before .before .before .before .before .before .before .before .before .before .before .before .before) .pre .1) ((c .before .before .before .before .before .before .before .before .before .before .before .before .before .before .before .before .before .before .before .before .before .before .before .before .before .before .before .before .before .before .before .before .loop) .inv) ((c .before .before .before .before .before .before .before .before .before .before .before .before .before .before .before .before .before .before .before .before .before .before .before .before .before .before .before .before .before .before .before .loop-test) .taken) (rw ((c .before .before .before .before .before .before .before .before .before .before .before .before .before .before .before .before .before .before .before .before .before .before .before .before .before .before .before .before .three-of) .ensures .0, e) at ((c .before .before .before .before .before .before .before .before .before .before .before .before .before .before .before .before .before .before .before .before .before .before .before .expression) .ensures)) ((c .before .before .before .before .before .before .before .before .before .before .before .before .before .before .before .before .before .test-and-jump) .ensures) (rw ((c .before .before .before .before .before .before .before .before .before .before .before .before .before .before .before .before .before .before .before .before .before .before .before .before .before .before .count-of) .ensures .0, e) at ((c .before .before .before .before .before .before .before .before .before .before .before .before .row) .ensures)) ((c .before .before .before .before .before .before .end-branch) .ensures) ((c .before .before .visit) .ensures)
+    let e = placed ((c .before .before .before .before .before .before .before .before .before .before .before .before .before .before .before .before .before .before .before .before .before .before .before .before .before .before .before .before .before .before .before .before .before .before .before .before) .pre .1) ((c .before .before .before .before .before .before .before .before .before .before .before .before .before .before .before .before .before .before .before .before .before .before .before .before .before .before .before .before .before .before .loop) .inv .low) (rw ((c .before .before .before .before .before .before .before .before .before .before .before .before .before .before .before .before .before .before .before .before .before .before .before .before .before .before .before .before .before .before .before .payload-of) .ensures) at ((c .before .before .before .before .before .before .before .before .before .before .before .before .before .before .before .before .before .before .before .before .before .before .before .before .before .before .before .before .child) .ensures .0)) in
+    turn ((c .before .before .before .before .before .before .before .before .before .before .before .before .before .before .before .before .before .before .before .before .before .before .before .before .before .before .before .before .before .before .before .before .before .before .before .before) .pre .1) ((c .before .before .before .before .before .before .before .before .before .before .before .before .before .before .before .before .before .before .before .before .before .before .before .before .before .before .before .before .before .before .loop) .inv) ((c .before .before .before .before .before .before .before .before .before .before .before .before .before .before .before .before .before .before .before .before .before .before .before .before .before .before .before .before .before .loop-test) .taken) (rw ((c .before .before .before .before .before .before .before .before .before .before .before .before .before .before .before .before .before .before .before .before .before .before .before .before .before .before .elif-of) .ensures, e) at ((c .before .before .before .before .before .before .before .before .before .before .before .before .before .before .before .before .before .before .before .before .before .before .before .expression) .ensures)) ((c .before .before .before .before .before .before .before .before .before .before .before .before .before .before .before .before .before .test-and-jump) .ensures) (rw ((c .before .before .before .before .before .before .before .before .before .before .before .before .before .before .before .before .before .before .before .before .before .before .before .before .before .before .elif-of) .ensures, e) at ((c .before .before .before .before .before .before .before .before .before .before .before .before .row) .ensures)) ((c .before .before .before .before .before .before .end-branch) .ensures) ((c .before .before .visit) .ensures)
 
 pub settle-requires : (t : ℕ) → lts.Need-settle-requires (claims t) (elifs-at t) elifs.Post Inv-loop μ-loop
 settle-requires t c κs = tt

@@ -3,12 +3,12 @@ use Prim.Native.Nat.{ℕ}
 use Rattle.cycle.proofs.expr_stmt.Reads as expr-stmt
 use Rattle.cycle.proofs.+addi+arguments+binary+block+body+both+call+class+elifs+expr_stmt+expression+fn_stmt+for_in+for_loop+function+if_stmt+let_stmt+logical+methods+minus+return_stmt+row+statement+try_catch+unary+while_loop.Lts-expr_stmt as lts
 use Rattle.cycle.proofs.expression.Reads as expression
-use Rattle.cycle.proofs.reading.three_of.Reads as three-of-reads
+use Rattle.nodes.proofs.expr_stmt_of.Reads as expr-stmt-of-reads
 use Rattle.cycle.proofs.+addi+arguments+binary+block+body+both+call+class+elifs+expr_stmt+expression+fn_stmt+for_in+for_loop+function+if_stmt+let_stmt+logical+methods+minus+return_stmt+row+statement+try_catch+unary+while_loop.Proof.Order.{expr-stmt-at, expression-below}
-use Rattle.cycle.proofs.Nodes.{an-expression, expression-stands}
+use Rattle.cycle.proofs.Nodes.{an-expression}
 use Rattle.cycle.proofs.Visited.{expression-visits}
 use Rattle.cycle.proofs.Sizes.{expression-size}
-use Rattle.cycle.proofs.Way.{_▹_, arrive, ends, from, give-expr, headed, readable}
+use Rattle.cycle.proofs.Way.{_▹_, arrive, ends, from, give-expr, held-bare}
 use Rattle.cycle.specs.Cycle.{AskExpr, GivenStmt, LowersExpr, UnderStmt}
 use Rattle.meaning.proofs.Reading.{Expression}
 use Rattle.meaning.specs.At.{word-of}
@@ -33,16 +33,16 @@ module _ {t w : List ℕ} {p : Scope} {s : Step} {i : ℕ} (g : GivenStmt t w p 
 
 -- what each function that is called asks and promises; a member of the cycle at a smaller measure
 abbrev pub claims : ℕ → lts.Claims
-claims t = (three-of-reads.Asked, three-of-reads.Learnt, expression-below t, expression.Post)
+claims t = (expr-stmt-of-reads.Asked, expr-stmt-of-reads.Learnt, expression-below t, expression.Post)
 
-pub three-of-requires : (t : ℕ) → lts.Need-three-of-requires (claims t) (expr-stmt-at t) expr-stmt.Post
-three-of-requires t c κs = headed ((c .before .before .before .before) .pre .1 .0 .ready) ((c .before .before .before .before) .pre .1 .0 .known) (expression-stands ((c .before .before .before .before) .pre .1 .0 .ready .lawful) ((c .before .before .before .before) .pre .1 .0 .known) ((c .before .before .before .before) .pre .1 .1) .0)
+pub expr-stmt-of-requires : (t : ℕ) → lts.Need-expr-stmt-of-requires (claims t) (expr-stmt-at t) expr-stmt.Post
+expr-stmt-of-requires t c κs = held-bare ((c .before .before .before .before) .pre .1 .0 .ready) ((c .before .before .before .before) .pre .1 .0 .known) ((c .before .before .before .before) .pre .1 .1)
 
 pub expression-requires : (t : ℕ) → lts.Need-expression-requires (claims t) (expr-stmt-at t) expr-stmt.Post
 expression-requires t c κs =
     let g = (c .before .before .before .before .before .before .before) .pre .1 .0 in
     let x = an-expression (g .ready .lawful) (g .known) ((c .before .before .before .before .before .before .before) .pre .1 .1) in
-    rw ((c .before .before .three-of) .ensures .0) (omega (arith, (c .before .before .before .before .before .before .before) .pre .0, x .value .below), value g x)
+    rw ((c .before .before .expr-stmt-of) .ensures) (omega (arith, (c .before .before .before .before .before .before .before) .pre .0, x .value .below), value g x)
 
 pub same-length : (t : ℕ) → lts.Need-same-length (claims t) (expr-stmt-at t) expr-stmt.Post
 same-length t c = (c .before .before .before .before .expression) .ensures .does .moves .kept .same
@@ -53,4 +53,4 @@ same-length-2 t c = (c .before .before .before .before .expression) .ensures .do
 pub returns : (t : ℕ) → lts.Need-returns (claims t) (expr-stmt-at t) expr-stmt.Post
 returns t c =
     let g = (c .before .before .before .before .before .before .before .before .before .before .before .before) .pre .1 .0 in
-    lowers g (an-expression (g .ready .lawful) (g .known) ((c .before .before .before .before .before .before .before .before .before .before .before .before) .pre .1 .1)) (rw ((c .before .before .before .before .before .before .before .three-of) .ensures .0) at ((c .before .before .before .before .expression) .ensures))
+    lowers g (an-expression (g .ready .lawful) (g .known) ((c .before .before .before .before .before .before .before .before .before .before .before .before) .pre .1 .1)) (rw ((c .before .before .before .before .before .before .before .expr-stmt-of) .ensures) at ((c .before .before .before .before .expression) .ensures))

@@ -7,7 +7,7 @@ use Rattle.cycle.proofs.+addi+arguments+binary+block+body+both+call+cla
 use Rattle.cycle.proofs.function.Reads as function
 use Rattle.cycle.proofs.logical.Reads as logical
 use Rattle.cycle.proofs.unary.Reads as unary
-use Rattle.cycle.proofs.reading.tag_of.Reads as tag-of-reads
+use Rattle.nodes.proofs.tag_of.Reads as tag-of-reads
 use Rattle.routines.proofs.literal.Reads as literal-reads
 use Rattle.routines.proofs.variable.Reads as variable-reads
 use Rattle.cycle.proofs.+addi+arguments+binary+block+body+both+call+class+elifs+expr_stmt+expression+fn_stmt+for_in+for_loop+function+if_stmt+let_stmt+logical+methods+minus+return_stmt+row+statement+try_catch+unary+while_loop.Proof.Order.{binary-below, call-below, expression-at, function-below, logical-below, unary-below}

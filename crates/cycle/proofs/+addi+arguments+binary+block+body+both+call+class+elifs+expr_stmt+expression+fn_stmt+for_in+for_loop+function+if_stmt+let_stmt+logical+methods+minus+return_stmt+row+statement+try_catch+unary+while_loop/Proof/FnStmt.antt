@@ -3,8 +3,8 @@ use Prim.Native.Nat.{ℕ, _+_, _-_, _*_, _<_, _≤_}
 use Rattle.cycle.proofs.body.Reads as body
 use Rattle.cycle.proofs.fn_stmt.Reads as fn-stmt
 use Rattle.cycle.proofs.+addi+arguments+binary+block+body+both+call+class+elifs+expr_stmt+expression+fn_stmt+for_in+for_loop+function+if_stmt+let_stmt+logical+methods+minus+return_stmt+row+statement+try_catch+unary+while_loop.Lts-fn_stmt as lts
-use Rattle.cycle.proofs.reading.payload_of.Reads as payload-of-reads
-use Rattle.cycle.proofs.reading.three_of.Reads as three-of-reads
+use Rattle.nodes.proofs.payload_of.Reads as payload-of-reads
+use Rattle.nodes.proofs.define_of.Reads as define-of-reads
 use Rattle.routines.proofs.declare.Reads as declare-reads
 use Rattle.routines.proofs.end_fun.Reads as end-fun-reads
 use Rattle.routines.proofs.open_fun.Reads as open-fun-reads
@@ -13,10 +13,10 @@ use Rattle.cycle.proofs.+addi+arguments+binary+block+body+both+call+cla
 use Rattle.code.specs.Cuts.{Ends, cut-step}
 use Rattle.cycle.proofs.Nested.{begun, cut-owing, ended}
 use Rattle.cycle.proofs.Nodes.{a-define, define-stands}
-use Rattle.cycle.proofs.Sizes.{fun-size, more-is, tokens-same}
-use Rattle.cycle.proofs.Way.{_▹_, arrive, ends, few-more, from, headed, meanwhile, narrow-or-wide, next, next-leaf, readable, stand, stand-at, to}
+use Rattle.cycle.proofs.Sizes.{fun-size, has-pairs, more-is, tokens-same}
+use Rattle.cycle.proofs.Way.{_▹_, arrive, ends, few-more, from, held, meanwhile, narrow-or-wide, next, next-leaf, readable, stand, stand-at, to}
 use Rattle.cycle.proofs.Visited.{fun-visits}
-use Rattle.cycle.specs.Cycle.{AskBody, AskFun, LowersBody, LowersFun, Ready, Width}
+use Rattle.cycle.specs.Cycle.{AskBody, AskFun, LowersBody, LowersFun, Ready}
 use Rattle.forward.proofs.Chains.{fun-chain}
 use Rattle.forward.specs.Forward.{bind, declare, end-fun, open-fun}
 use Rattle.meaning.proofs.Reading.{Define}
@@ -37,12 +37,14 @@ use Rattle.store.specs.declared.Scope.{Scope}
 use Rattle.store.specs.declared.Step.{Step}
 use mathlib.Core.List.{List}
 use mathlib.Core.Path.{_∙_, _≡_, ap, refl, sym}
+use denote.Ref.{now}
 use native.Mathlib.Omega.{arith}
 use mathlib.Core.Bool.{cond}
 use Rattle.meaning.specs.Grammar.{wide-marks}
+use Rattle.nodes.specs.Nodes.{Width}
 
 -- the parameters as the node's
-opened : (t : List ℕ) (i n name mark : ℕ) {payload w w' : List ℕ} {q : Scope} {s s' : Step} {u : Cost} → Width t q → payload ≡ field-at (fields t) i .payload
+opened : (t : List ℕ) (i n name mark : ℕ) {payload w w' : List ℕ} {q : Scope} {s s' : Step} {u : Cost} → Width t (q .wide) → payload ≡ field-at (fields t) i .payload
     → tokens-at (fields t) i 3 (3 + 2 * n) ≡ pairs-in (wide-marks (fields t)) (file-words (fields t) i) (3 + extra (wide-marks (fields t))) n
     → Leaf w q s w' q s' u (open-fun i (token name mark) (tokens-from q payload (3 + q .wide) n)) × Small s' → Leaf w q s w' q s' u (open-fun i (token name mark) (tokens-at (fields t) i 3 (3 + 2 * n))) × Small s'
 opened t i n name mark {payload} {q = q} v e k d = rw (tokens-same t q i payload (3 + q .wide) (3 + extra (wide-marks (fields t))) n v e (ap (λ m. 3 + m) v) ∙ sym k) at d
@@ -103,10 +105,10 @@ module _ {t w : List ℕ} {p : Scope} {s : Step} {i : ℕ} (g : AskFun t w p s i
 
 -- what each function that is called asks and promises; a member of the cycle at a smaller measure
 abbrev pub claims : ℕ → lts.Claims
-claims t = (three-of-reads.Asked, three-of-reads.Learnt, payload-of-reads.Asked, payload-of-reads.Learnt, declare-reads.Asked, declare-reads.Learnt, enter-function-reads.Asked, enter-function-reads.Learnt, open-fun-reads.Asked, open-fun-reads.Learnt, body-below t, body.Post, end-fun-reads.Asked, end-fun-reads.Learnt)
+claims t = (define-of-reads.Asked, define-of-reads.Learnt, payload-of-reads.Asked, payload-of-reads.Learnt, declare-reads.Asked, declare-reads.Learnt, enter-function-reads.Asked, enter-function-reads.Learnt, open-fun-reads.Asked, open-fun-reads.Learnt, body-below t, body.Post, end-fun-reads.Asked, end-fun-reads.Learnt)
 
-pub three-of-requires : (t : ℕ) → lts.Need-three-of-requires (claims t) (fn-stmt-at t) fn-stmt.Post
-three-of-requires t c κs = headed ((c .before .before .before .before) .pre .1 .0 .ready) ((c .before .before .before .before) .pre .1 .0 .known) (define-stands ((c .before .before .before .before) .pre .1 .0 .ready .lawful) ((c .before .before .before .before) .pre .1 .0 .known) ((c .before .before .before .before) .pre .1 .1) .0)
+pub define-of-requires : (t : ℕ) → lts.Need-define-of-requires (claims t) (fn-stmt-at t) fn-stmt.Post
+define-of-requires t c κs = held ((c .before .before .before .before) .pre .1 .0 .ready) ((c .before .before .before .before) .pre .1 .0 .known) ((c .before .before .before .before) .pre .1 .1)
 
 pub payload-of-requires : (t : ℕ) → lts.Need-payload-of-requires (claims t) (fn-stmt-at t) fn-stmt.Post
 payload-of-requires t c κs = readable ((c .before .before .before .before .before .before) .pre .1 .0 .ready) ((c .before .before .before .before .before .before) .pre .1 .0 .known)
@@ -114,12 +116,12 @@ payload-of-requires t c κs = readable ((c .before .before .before .before .befo
 pub declare-requires : (t : ℕ) → lts.Need-declare-requires (claims t) (fn-stmt-at t) fn-stmt.Post
 declare-requires t c κs =
     let g = (c .before .before .before .before .before .before .before .before) .pre .1 in
-    rw ((c .before .before .before .three-of) .ensures .0) (at-declare g (a-define (g .0 .ready .lawful) (g .0 .known) (g .1)))
+    rw ((c .before .before .before .define-of) .ensures .0) (at-declare g (a-define (g .0 .ready .lawful) (g .0 .known) (g .1)))
 
 pub enter-function-requires : (t : ℕ) → lts.Need-enter-function-requires (claims t) (fn-stmt-at t) fn-stmt.Post
 enter-function-requires t c κs =
     let g = (c .before .before .before .before .before .before .before .before .before .before .before .before) .pre .1 in
-    rw ((c .before .before .before .before .before .before .before .three-of) .ensures .0) (at-enter g (a-define (g .0 .ready .lawful) (g .0 .known) (g .1)) (rw ((c .before .before .before .before .before .before .before .three-of) .ensures .0) at ((c .before .before .before .declare) .ensures)))
+    rw ((c .before .before .before .before .before .before .before .define-of) .ensures .0) (at-enter g (a-define (g .0 .ready .lawful) (g .0 .known) (g .1)) (rw ((c .before .before .before .before .before .before .before .define-of) .ensures .0) at ((c .before .before .before .declare) .ensures)))
 
 pub add-open-fun : (t : ℕ) → lts.Need-add-open-fun (claims t) (fn-stmt-at t) fn-stmt.Post
 add-open-fun t c = omega (arith, narrow-or-wide ((c .before .before .before .before .before .before .before .before .before .before .before .before .before .before .before .before) .pre .1 .0 .ready))
@@ -128,39 +130,39 @@ pub open-fun-requires : (t : ℕ) → lts.Need-open-fun-requires (claims t) (fn-
 open-fun-requires t c κs =
     let g = (c .before .before .before .before .before .before .before .before .before .before .before .before .before .before .before .before) .pre .1 in
     let x = a-define (g .0 .ready .lawful) (g .0 .known) (g .1) in
-    let y = at-open g x (rw ((c .before .before .before .before .before .before .before .before .before .before .before .three-of) .ensures .0) at ((c .before .before .before .before .before .before .before .declare) .ensures)) (rw ((c .before .before .before .before .before .before .before .before .before .before .before .three-of) .ensures .0) at ((c .before .before .before .enter-function) .ensures .1)) in
+    let y = at-open g x (rw ((c .before .before .before .before .before .before .before .before .before .before .before .define-of) .ensures .0) at ((c .before .before .before .before .before .before .before .declare) .ensures)) (rw ((c .before .before .before .before .before .before .before .before .before .before .before .define-of) .ensures .0) at ((c .before .before .before .enter-function) .ensures .1)) in
     let z = stand 0 0 0 (from y) (omega arith) (omega arith) (omega arith) (omega arith) in
-    rw ((c .before .before .before .enter-function) .ensures .0, (c .before .before .before .before .before .before .before .before .before .before .before .three-of) .ensures .0) (z .fine, z .room, omega (arith, x .name), (omega (arith, narrow-or-wide (g .0 .ready)), rw ((c .before .before .before .before .before .before .before .before .before .before .before .three-of) .ensures .0) at ((c .before .before .before .before .before .before .before .before .before .before .before .three-of) .ensures .1 .2 (λ z. omega arith))))
+    rw ((c .before .before .before .enter-function) .ensures .0, (c .before .before .before .before .before .before .before .before .before .before .before .define-of) .ensures .0) (z .fine, z .room, omega (arith, x .name), has-pairs _ _ _ _ _ (3 + extra (wide-marks (fields (now ((c .before .before .before .before .before .before .before .before .before .before .before .before .before .before .before .before) .args .tree))))) _ (g .0 .ready .width) ((c .before .before .before .before .before .before .before .before .before .payload-of) .ensures) (ap (λ m. 3 + m) (g .0 .ready .width)) (let k = define-stands (g .0 .ready .lawful) (g .0 .known) (g .1) in omega (arith, x .size, k .2 .size)))
 
 pub mul-body : (t : ℕ) → lts.Need-mul-body (claims t) (fn-stmt-at t) fn-stmt.Post
-mul-body t c = omega (arith, ((c .before .before .before .before .before .before .before .before .before .before .before .before .before .before .before .before .before .three-of) .ensures .1 .2 (λ z. omega arith)))
+mul-body t c = omega (arith, ((c .before .before .before .before .before .before .before .before .before .before .before .before .before .before .before .before .before .define-of) .ensures .1))
 
 pub add-body : (t : ℕ) → lts.Need-add-body (claims t) (fn-stmt-at t) fn-stmt.Post
-add-body t c = omega (arith, ((c .before .before .before .before .before .before .before .before .before .before .before .before .before .before .before .before .before .three-of) .ensures .1 .2 (λ z. omega arith)))
+add-body t c = omega (arith, ((c .before .before .before .before .before .before .before .before .before .before .before .before .before .before .before .before .before .define-of) .ensures .1))
 
 pub mul-body-2 : (t : ℕ) → lts.Need-mul-body-2 (claims t) (fn-stmt-at t) fn-stmt.Post
-mul-body-2 t c = omega (arith, few-more _ _ ((c .before .before .before .before .before .before .before .before .before .before .before .before .before .before .before .before .before .before .three-of) .ensures .1 .2 (λ z. omega arith)) (narrow-or-wide ((c .before .before .before .before .before .before .before .before .before .before .before .before .before .before .before .before .before .before .before .before .before .before .before) .pre .1 .0 .ready)))
+mul-body-2 t c = omega (arith, few-more _ _ ((c .before .before .before .before .before .before .before .before .before .before .before .before .before .before .before .before .before .before .define-of) .ensures .1) (narrow-or-wide ((c .before .before .before .before .before .before .before .before .before .before .before .before .before .before .before .before .before .before .before .before .before .before .before) .pre .1 .0 .ready)))
 
 pub add-body-2 : (t : ℕ) → lts.Need-add-body-2 (claims t) (fn-stmt-at t) fn-stmt.Post
-add-body-2 t c = let w = narrow-or-wide ((c .before .before .before .before .before .before .before .before .before .before .before .before .before .before .before .before .before .before .before .before .before .before .before) .pre .1 .0 .ready) in omega (arith, w, few-more _ _ ((c .before .before .before .before .before .before .before .before .before .before .before .before .before .before .before .before .before .before .three-of) .ensures .1 .2 (λ z. omega arith)) w)
+add-body-2 t c = let w = narrow-or-wide ((c .before .before .before .before .before .before .before .before .before .before .before .before .before .before .before .before .before .before .before .before .before .before .before) .pre .1 .0 .ready) in omega (arith, w, few-more _ _ ((c .before .before .before .before .before .before .before .before .before .before .before .before .before .before .before .before .before .before .define-of) .ensures .1) w)
 
 pub body-requires : (t : ℕ) → lts.Need-body-requires (claims t) (fn-stmt-at t) fn-stmt.Post
 body-requires t c κs =
     let g = (c .before .before .before .before .before .before .before .before .before .before .before .before .before .before .before .before .before .before .before .before .before .before .before) .pre .1 in
     let x = a-define (g .0 .ready .lawful) (g .0 .known) (g .1) in
     let k = define-stands (g .0 .ready .lawful) (g .0 .known) (g .1) in
-    let o = opened _ _ _ _ _ (g .0 .ready .width) ((c .before .before .before .before .before .before .before .before .before .before .before .before .before .before .before .before .payload-of) .ensures) (k .1) (rw ((c .before .before .before .before .before .before .before .before .before .before .enter-function) .ensures .0, (c .before .before .before .before .before .before .before .before .before .before .before .before .before .before .before .before .before .before .three-of) .ensures .0) at ((c .before .before .before .before .before .before .open-fun) .ensures)) in
-    rw ((c .before .before .before .before .before .before .before .before .before .before .enter-function) .ensures .0, (c .before .before .before .before .before .before .before .before .before .before .before .before .before .before .before .before .before .before .three-of) .ensures .0) (omega (arith, (c .before .before .before .before .before .before .before .before .before .before .before .before .before .before .before .before .before .before .before .before .before .before .before) .pre .0), ask-body g x (rw ((c .before .before .before .before .before .before .before .before .before .before .before .before .before .before .before .before .before .before .three-of) .ensures .0) at ((c .before .before .before .before .before .before .before .before .before .before .before .before .before .before .declare) .ensures)) (rw ((c .before .before .before .before .before .before .before .before .before .before .before .before .before .before .before .before .before .before .three-of) .ensures .0) at ((c .before .before .before .before .before .before .before .before .before .before .enter-function) .ensures .1)) o (body-behind _ (g .0 .ready) (k .2)))
+    let o = opened _ _ _ _ _ (g .0 .ready .width) ((c .before .before .before .before .before .before .before .before .before .before .before .before .before .before .before .before .payload-of) .ensures) (k .1) (rw ((c .before .before .before .before .before .before .before .before .before .before .enter-function) .ensures .0, (c .before .before .before .before .before .before .before .before .before .before .before .before .before .before .before .before .before .before .define-of) .ensures .0) at ((c .before .before .before .before .before .before .open-fun) .ensures)) in
+    rw ((c .before .before .before .before .before .before .before .before .before .before .enter-function) .ensures .0, (c .before .before .before .before .before .before .before .before .before .before .before .before .before .before .before .before .before .before .define-of) .ensures .0) (omega (arith, (c .before .before .before .before .before .before .before .before .before .before .before .before .before .before .before .before .before .before .before .before .before .before .before) .pre .0), ask-body g x (rw ((c .before .before .before .before .before .before .before .before .before .before .before .before .before .before .before .before .before .before .define-of) .ensures .0) at ((c .before .before .before .before .before .before .before .before .before .before .before .before .before .before .declare) .ensures)) (rw ((c .before .before .before .before .before .before .before .before .before .before .before .before .before .before .before .before .before .before .define-of) .ensures .0) at ((c .before .before .before .before .before .before .before .before .before .before .enter-function) .ensures .1)) o (body-behind _ (g .0 .ready) (k .2)))
 
 pub end-fun-requires : (t : ℕ) → lts.Need-end-fun-requires (claims t) (fn-stmt-at t) fn-stmt.Post
 end-fun-requires t c κs =
     let g = (c .before .before .before .before .before .before .before .before .before .before .before .before .before .before .before .before .before .before .before .before .before .before .before .before .before .before .before .before .before .before) .pre .1 in
     let x = a-define (g .0 .ready .lawful) (g .0 .known) (g .1) in
     let k = define-stands (g .0 .ready .lawful) (g .0 .known) (g .1) in
-    let o = opened _ _ _ _ _ (g .0 .ready .width) ((c .before .before .before .before .before .before .before .before .before .before .before .before .before .before .before .before .before .before .before .before .before .before .before .payload-of) .ensures) (k .1) (rw ((c .before .before .before .before .before .before .before .before .before .before .before .before .before .before .before .before .before .enter-function) .ensures .0, (c .before .before .before .before .before .before .before .before .before .before .before .before .before .before .before .before .before .before .before .before .before .before .before .before .before .three-of) .ensures .0) at ((c .before .before .before .before .before .before .before .before .before .before .before .before .before .open-fun) .ensures)) in
-    let b = rw ((c .before .before .before .before .before .before .before .before .before .before .before .before .before .before .before .before .before .enter-function) .ensures .0, (c .before .before .before .before .before .before .before .before .before .before .before .before .before .before .before .before .before .before .before .before .before .before .before .before .before .three-of) .ensures .0) at ((c .before .before .before .before .before .before .body) .ensures) in
-    let y = at-end g x (rw ((c .before .before .before .before .before .before .before .before .before .before .before .before .before .before .before .before .before .before .before .before .before .before .before .before .before .three-of) .ensures .0) at ((c .before .before .before .before .before .before .before .before .before .before .before .before .before .before .before .before .before .before .before .before .before .declare) .ensures)) (rw ((c .before .before .before .before .before .before .before .before .before .before .before .before .before .before .before .before .before .before .before .before .before .before .before .before .before .three-of) .ensures .0) at ((c .before .before .before .before .before .before .before .before .before .before .before .before .before .before .before .before .before .enter-function) .ensures .1)) o b in
-    (y .0, y .1, y .2, y .3, ((c .before .before .before .before .before .before .before .before .before .before .before .before .before .before .before .before .before .before .before .before .before .before .before .before .before .three-of) .ensures .1 .2 (λ z. omega arith)), ((c .before .before .before .before .before .before .before .before .before .before .before .before .before .before .before .before .before .before .before .before .before .before .before .before .before .three-of) .ensures .1 .0 (λ z. omega arith)))
+    let o = opened _ _ _ _ _ (g .0 .ready .width) ((c .before .before .before .before .before .before .before .before .before .before .before .before .before .before .before .before .before .before .before .before .before .before .before .payload-of) .ensures) (k .1) (rw ((c .before .before .before .before .before .before .before .before .before .before .before .before .before .before .before .before .before .enter-function) .ensures .0, (c .before .before .before .before .before .before .before .before .before .before .before .before .before .before .before .before .before .before .before .before .before .before .before .before .before .define-of) .ensures .0) at ((c .before .before .before .before .before .before .before .before .before .before .before .before .before .open-fun) .ensures)) in
+    let b = rw ((c .before .before .before .before .before .before .before .before .before .before .before .before .before .before .before .before .before .enter-function) .ensures .0, (c .before .before .before .before .before .before .before .before .before .before .before .before .before .before .before .before .before .before .before .before .before .before .before .before .before .define-of) .ensures .0) at ((c .before .before .before .before .before .before .body) .ensures) in
+    let y = at-end g x (rw ((c .before .before .before .before .before .before .before .before .before .before .before .before .before .before .before .before .before .before .before .before .before .before .before .before .before .define-of) .ensures .0) at ((c .before .before .before .before .before .before .before .before .before .before .before .before .before .before .before .before .before .before .before .before .before .declare) .ensures)) (rw ((c .before .before .before .before .before .before .before .before .before .before .before .before .before .before .before .before .before .before .before .before .before .before .before .before .before .define-of) .ensures .0) at ((c .before .before .before .before .before .before .before .before .before .before .before .before .before .before .before .before .before .enter-function) .ensures .1)) o b in
+    (y .0, y .1, y .2, y .3, ((c .before .before .before .before .before .before .before .before .before .before .before .before .before .before .before .before .before .before .before .before .before .before .before .before .before .define-of) .ensures .1), rw ((c .before .before .before .before .before .before .before .before .before .before .before .before .before .before .before .before .before .before .before .before .before .before .before .before .before .define-of) .ensures .0) (omega (arith, x .name)))
 
 pub same-length : (t : ℕ) → lts.Need-same-length (claims t) (fn-stmt-at t) fn-stmt.Post
 same-length t c = (c .before .before .before .before .end-fun) .ensures .0 .leaves .kept .same ∙ (c .before .before .before .before .before .before .before .before .before .before .before .body) .ensures .moves .kept .same ∙ (c .before .before .before .before .before .before .before .before .before .before .before .before .before .before .before .before .before .before .open-fun) .ensures .0 .moves .kept .same ∙ (c .before .before .before .before .before .before .before .before .before .before .before .before .before .before .before .before .before .before .before .before .before .before .enter-function) .ensures .1 .leaf .moves .kept .same ∙ (c .before .before .before .before .before .before .before .before .before .before .before .before .before .before .before .before .before .before .before .before .before .before .before .before .before .before .declare) .ensures .0 0 .moves .kept .same
@@ -173,6 +175,6 @@ returns t c =
     let g = (c .before .before .before .before .before .before .before .before .before .before .before .before .before .before .before .before .before .before .before .before .before .before .before .before .before .before .before .before .before .before .before .before .before .before .before) .pre .1 in
     let x = a-define (g .0 .ready .lawful) (g .0 .known) (g .1) in
     let k = define-stands (g .0 .ready .lawful) (g .0 .known) (g .1) in
-    let o = opened _ _ _ _ _ (g .0 .ready .width) ((c .before .before .before .before .before .before .before .before .before .before .before .before .before .before .before .before .before .before .before .before .before .before .before .before .before .before .before .before .payload-of) .ensures) (k .1) (rw ((c .before .before .before .before .before .before .before .before .before .before .before .before .before .before .before .before .before .before .before .before .before .before .enter-function) .ensures .0, (c .before .before .before .before .before .before .before .before .before .before .before .before .before .before .before .before .before .before .before .before .before .before .before .before .before .before .before .before .before .before .three-of) .ensures .0) at ((c .before .before .before .before .before .before .before .before .before .before .before .before .before .before .before .before .before .before .open-fun) .ensures)) in
-    let b = rw ((c .before .before .before .before .before .before .before .before .before .before .before .before .before .before .before .before .before .before .before .before .before .before .enter-function) .ensures .0, (c .before .before .before .before .before .before .before .before .before .before .before .before .before .before .before .before .before .before .before .before .before .before .before .before .before .before .before .before .before .before .three-of) .ensures .0) at ((c .before .before .before .before .before .before .before .before .before .before .before .body) .ensures) in
-    lowers g x (rw ((c .before .before .before .before .before .before .before .before .before .before .before .before .before .before .before .before .before .before .before .before .before .before .before .before .before .before .before .before .before .before .three-of) .ensures .0) at ((c .before .before .before .before .before .before .before .before .before .before .before .before .before .before .before .before .before .before .before .before .before .before .before .before .before .before .declare) .ensures)) (rw ((c .before .before .before .before .before .before .before .before .before .before .before .before .before .before .before .before .before .before .before .before .before .before .before .before .before .before .before .before .before .before .three-of) .ensures .0) at ((c .before .before .before .before .before .before .before .before .before .before .before .before .before .before .before .before .before .before .before .before .before .before .enter-function) .ensures .1)) o b (rw ((c .before .before .before .before .before .before .before .before .before .before .before .before .before .before .before .before .before .before .before .before .before .before .before .before .before .before .before .before .before .before .three-of) .ensures .0) at ((c .before .before .before .before .end-fun) .ensures))
+    let o = opened _ _ _ _ _ (g .0 .ready .width) ((c .before .before .before .before .before .before .before .before .before .before .before .before .before .before .before .before .before .before .before .before .before .before .before .before .before .before .before .before .payload-of) .ensures) (k .1) (rw ((c .before .before .before .before .before .before .before .before .before .before .before .before .before .before .before .before .before .before .before .before .before .before .enter-function) .ensures .0, (c .before .before .before .before .before .before .before .before .before .before .before .before .before .before .before .before .before .before .before .before .before .before .before .before .before .before .before .before .before .before .define-of) .ensures .0) at ((c .before .before .before .before .before .before .before .before .before .before .before .before .before .before .before .before .before .before .open-fun) .ensures)) in
+    let b = rw ((c .before .before .before .before .before .before .before .before .before .before .before .before .before .before .before .before .before .before .before .before .before .before .enter-function) .ensures .0, (c .before .before .before .before .before .before .before .before .before .before .before .before .before .before .before .before .before .before .before .before .before .before .before .before .before .before .before .before .before .before .define-of) .ensures .0) at ((c .before .before .before .before .before .before .before .before .before .before .before .body) .ensures) in
+    lowers g x (rw ((c .before .before .before .before .before .before .before .before .before .before .before .before .before .before .before .before .before .before .before .before .before .before .before .before .before .before .before .before .before .before .define-of) .ensures .0) at ((c .before .before .before .before .before .before .before .before .before .before .before .before .before .before .before .before .before .before .before .before .before .before .before .before .before .before .declare) .ensures)) (rw ((c .before .before .before .before .before .before .before .before .before .before .before .before .before .before .before .before .before .before .before .before .before .before .before .before .before .before .before .before .before .before .define-of) .ensures .0) at ((c .before .before .before .before .before .before .before .before .before .before .before .before .before .before .before .before .before .before .before .before .before .before .enter-function) .ensures .1)) o b (rw ((c .before .before .before .before .before .before .before .before .before .before .before .before .before .before .before .before .before .before .before .before .before .before .before .before .before .before .before .before .before .before .define-of) .ensures .0) at ((c .before .before .before .before .end-fun) .ensures))

@@ -6,35 +6,33 @@ use Rattle.cycle.proofs.+addi+arguments+binary+block+body+both+call+cla
 use Rattle.cycle.proofs.statement.Reads as statement′
 use Rattle.routines.proofs.end_for_in.Reads as end-for-in-reads
 use Rattle.cycle.proofs.scopes.in_loop.Reads as in-loop-reads
-use Rattle.cycle.proofs.reading.names_in.Reads as names-in-reads
-use Rattle.cycle.proofs.reading.payload_of.Reads as payload-of-reads
-use Rattle.cycle.proofs.reading.three_of.Reads as three-of-reads
+use Rattle.nodes.proofs.payload_of.Reads as payload-of-reads
+use Rattle.nodes.proofs.for_in_of.Reads as for-in-of-reads
 use Rattle.routines.proofs.head_for_in.Reads as head-for-in-reads
 use Rattle.routines.proofs.open_for_in.Reads as open-for-in-reads
 use Rattle.cycle.proofs.+addi+arguments+binary+block+body+both+call+class+elifs+expr_stmt+expression+fn_stmt+for_in+for_loop+function+if_stmt+let_stmt+logical+methods+minus+return_stmt+row+statement+try_catch+unary+while_loop.Proof.Order.{expression-below, for-in-at, statement-below}
-use Rattle.cycle.proofs.Counts.{few-words}
 use Rattle.cycle.proofs.Nodes.{a-for-in, for-in-stands}
 use Rattle.cycle.proofs.Visited.{for-in-visits}
-use Rattle.cycle.proofs.Sizes.{for-in-size, tokens-same}
-use Rattle.cycle.proofs.Way.{_▹_, arrive, ends, from, give-expr, give-looped, headed, inside, leaf-known, meanwhile, narrow-or-wide, next, next-leaf, readable, sets, stand, wide-is}
+use Rattle.cycle.proofs.Sizes.{for-in-size, has-pairs, tokens-same}
+use Rattle.cycle.proofs.Way.{_▹_, arrive, ends, from, give-expr, give-looped, held, leaf-known, meanwhile, narrow-or-wide, next, next-leaf, readable, sets, stand}
 use Rattle.cycle.specs.Cycle.{AskExpr, AskStmt, GivenStmt, LowersExpr, LowersStmt, Ready, UnderStmt}
 use Rattle.forward.proofs.Chains.{for-in-chain}
 use Rattle.forward.specs.Forward.{Config, config, emit, end-for-in, end-loop, fwd-by, give, going, head-for-in, on, open-for-in, sure, test-and-jump}
 use Rattle.meaning.proofs.Reading.{ForIn}
 use Rattle.meaning.specs.At.{count-of, extra, file-words, pairs-in, tokens-at, word-of}
-use Rattle.meaning.specs.Fields.{Field, field-at, fields, words}
+use Rattle.meaning.specs.Fields.{field-at, fields, words}
 use Rattle.meaning.specs.Lower.{lower-expr}
 use Rattle.meaning.specs.Opcode.{Length, Lt, inst}
 use Rattle.meaning.specs.State.{Res, done, refused}
 use Rattle.meaning.specs.Statements.{iterate}
 use Rattle.meaning.specs.Syntax.{Token}
 use Rattle.meaning.specs.declared.Instruction.{Instruction}
-use Rattle.routines.specs.Pieces.{tokens-from}
+use Rattle.routines.specs.Pieces.{HasPairs, tokens-from}
 use Rattle.store.proofs.Around.{loop-around, loop-entered, loop-left}
 use Rattle.store.proofs.Compose.{known, leaf-after}
 use Rattle.store.proofs.Runs.{due}
 use Rattle.store.specs.Promise.{Leaf, Room, both, some-registers, uses}
-use Rattle.store.specs.Store.{Fine, is-wide, looped, while-going}
+use Rattle.store.specs.Store.{Fine, looped, while-going}
 use Rattle.store.specs.declared.Scope.{Scope}
 use Rattle.store.specs.declared.Step.{Step}
 use lib.Dec.{lit<}
@@ -42,7 +40,7 @@ use lib.ListN.{length, length-append}
 use mathlib.Core.List.{List, _++_}
 use mathlib.Core.Path.{_∙_, _≡_, ap, refl, sym}
 use native.Mathlib.Omega.{arith}
-use mathlib.Core.Bool.{Bool, cond, false, true}
+use mathlib.Core.Bool.{cond}
 use Rattle.meaning.specs.Grammar.{wide-marks}
 
 -- code that is added makes the code no shorter
@@ -66,22 +64,15 @@ Stands t i =
     (tokens-at (fields t) i 3 (count-of (fields t) i) ≡ pairs-in (wide-marks (fields t)) (file-words (fields t) i) (3 + extra (wide-marks (fields t))) ((count-of (fields t) i - 3) / 2))
     × (length (file-words (fields t) i) ≡ 3 + extra (wide-marks (fields t)) + (2 * ((count-of (fields t) i - 3) / 2) + cond (wide-marks (fields t)) ((count-of (fields t) i - 3) / 2) 0))
 
--- as many pairs as the file's words say
-pairs-by : (b : Bool) (len m n : ℕ) → len ≡ 3 + extra b + (2 * m + cond b m 0) → n ≡ cond b ((len - 4) / 3) ((len - 3) / 2) → (n ≡ m) × (m ≤ len)
-pairs-by true len m n e f = (omega arith, omega arith)
-pairs-by false len m n e f = (omega arith, omega arith)
-
-all-pairs : {t w : List ℕ} {q : Scope} {s : Step} {a b c : ℕ} (i : ℕ) (payload : List ℕ) (n : ℕ) → Ready t w q s a b c → payload ≡ field-at (fields t) i .payload → Stands t i
-    → n ≡ cond (is-wide q) ((length (words payload) - 4) / 3) ((length (words payload) - 3) / 2)
-    → (n ≡ (count-of (fields t) i - 3) / 2) × ((count-of (fields t) i - 3) / 2 ≤ length (file-words (fields t) i))
-all-pairs {t = t} {q = q} i payload n r e k f = pairs-by (wide-marks (fields t)) (length (file-words (fields t) i)) ((count-of (fields t) i - 3) / 2) n (k .1) (rw (e, wide-is q (wide-marks (fields t)) (r .width)) at f)
-
 -- the pairs of the payload are the node's names
-all-names : {t w : List ℕ} {q : Scope} {s : Step} {a b c : ℕ} (i : ℕ) (payload : List ℕ) (n : ℕ) → Ready t w q s a b c → payload ≡ field-at (fields t) i .payload → Stands t i
-    → n ≡ cond (is-wide q) ((length (words payload) - 4) / 3) ((length (words payload) - 3) / 2) → tokens-from q payload (3 + q .wide) n ≡ tokens-at (fields t) i 3 (count-of (fields t) i)
-all-names {t = t} {q = q} i payload n r e k f =
-    tokens-same t q i payload (3 + q .wide) (3 + extra (wide-marks (fields t))) n (r .width) e (ap (λ m. 3 + m) (r .width))
-    ∙ ap (pairs-in (wide-marks (fields t)) (file-words (fields t) i) (3 + extra (wide-marks (fields t)))) (all-pairs i payload n r e k f .0) ∙ sym (k .0)
+all-names : {t w : List ℕ} {q : Scope} {s : Step} {a b c : ℕ} (i : ℕ) (payload : List ℕ) → Ready t w q s a b c → payload ≡ field-at (fields t) i .payload → Stands t i
+    → tokens-from q payload (3 + q .wide) ((count-of (fields t) i - 3) / 2) ≡ tokens-at (fields t) i 3 (count-of (fields t) i)
+all-names {t = t} {q = q} i payload r e k =
+    tokens-same t q i payload (3 + q .wide) (3 + extra (wide-marks (fields t))) ((count-of (fields t) i - 3) / 2) (r .width) e (ap (λ m. 3 + m) (r .width)) ∙ sym (k .0)
+
+-- and all of them are there
+all-there : {t w : List ℕ} {q : Scope} {s : Step} {a b c : ℕ} (i : ℕ) (payload : List ℕ) → Ready t w q s a b c → payload ≡ field-at (fields t) i .payload → Stands t i → HasPairs q payload (3 + q .wide) ((count-of (fields t) i - 3) / 2)
+all-there {t = t} {q = q} i payload r e k = has-pairs t q i payload (3 + q .wide) (3 + extra (wide-marks (fields t))) ((count-of (fields t) i - 3) / 2) (r .width) e (ap (λ m. 3 + m) (r .width)) (omega (arith, k .1))
 
 module _ {t w : List ℕ} {p : Scope} {s : Step} {i : ℕ} (g : GivenStmt t w p s i) (x : ForIn (fields t) i) where
   at-open : Fine w p s × Room w p s 0 0 0
@@ -95,16 +86,16 @@ module _ {t w : List ℕ} {p : Scope} {s : Step} {i : ℕ} (g : GivenStmt t w p 
     collection = let n = for-in-size x in give-expr (from (g .ready) ▹ d1 .moves) (g .known) (x .collection) (omega arith) (omega arith) (omega arith) (omega arith)
 
     module _ {o w2 o2 : List ℕ} {s2 : Step} (d2 : LowersExpr t (word-of (fields t) i 1) w1 o p s1 w2 o2 s2) where
-      at-head : (m : ℕ) → m ≡ (count-of (fields t) i - 3) / 2 → m < 65536
-          → Fine w2 p s2 × Room w2 p s2 0 11 1 × (1 ≤ m) × (3 + p .wide < 65536) × (m < 65536) × while-going (s2 .outcome) ((s1 .result + 3 < 255) × (s2 .result < 256))
-      at-head m e few =
+      at-head : {payload : List ℕ} → HasPairs p payload (3 + p .wide) ((count-of (fields t) i - 3) / 2) → (count-of (fields t) i - 3) / 2 < 65536
+          → Fine w2 p s2 × Room w2 p s2 0 11 1 × (1 ≤ (count-of (fields t) i - 3) / 2) × HasPairs p payload (3 + p .wide) ((count-of (fields t) i - 3) / 2) × ((count-of (fields t) i - 3) / 2 < 65536) × while-going (s2 .outcome) ((s1 .result + 3 < 255) × (s2 .result < 256))
+      at-head there few =
           let n = for-in-size x in
           let y = stand 0 11 1 (from (g .ready) ▹ d1 .moves ▹ d2 .does .moves) (omega arith) (omega arith) (omega arith) (omega arith) in
-          let z = narrow-or-wide (g .ready) in (
+          (
             y .fine,
             y .room,
             omega (arith, x .size),
-            omega arith,
+            there,
             few,
             meanwhile (s2 .outcome) ((s1 .result + 3 < 255) × (s2 .result < 256)) λ a.
                 let v1 = due (s1 .outcome) h1 (d2 .does .moves .back a) in
@@ -154,10 +145,10 @@ module _ {t w : List ℕ} {p : Scope} {s : Step} {i : ℕ} (g : GivenStmt t w p 
 
 -- what each function that is called asks and promises; a member of the cycle at a smaller measure
 abbrev pub claims : ℕ → lts.Claims
-claims t = (three-of-reads.Asked, three-of-reads.Learnt, payload-of-reads.Asked, payload-of-reads.Learnt, open-for-in-reads.Asked, open-for-in-reads.Learnt, expression-below t, expression.Post, names-in-reads.Asked, names-in-reads.Learnt, head-for-in-reads.Asked, head-for-in-reads.Learnt, in-loop-reads.Asked, in-loop-reads.Learnt, statement-below t, statement′.Post, end-for-in-reads.Asked, end-for-in-reads.Learnt)
+claims t = (for-in-of-reads.Asked, for-in-of-reads.Learnt, payload-of-reads.Asked, payload-of-reads.Learnt, open-for-in-reads.Asked, open-for-in-reads.Learnt, expression-below t, expression.Post, head-for-in-reads.Asked, head-for-in-reads.Learnt, in-loop-reads.Asked, in-loop-reads.Learnt, statement-below t, statement′.Post, end-for-in-reads.Asked, end-for-in-reads.Learnt)
 
-pub three-of-requires : (t : ℕ) → lts.Need-three-of-requires (claims t) (for-in-at t) for-in.Post
-three-of-requires t c κs = headed ((c .before .before .before .before) .pre .1 .0 .ready) ((c .before .before .before .before) .pre .1 .0 .known) (for-in-stands ((c .before .before .before .before) .pre .1 .0 .ready .lawful) ((c .before .before .before .before) .pre .1 .0 .known) ((c .before .before .before .before) .pre .1 .1) .0)
+pub for-in-of-requires : (t : ℕ) → lts.Need-for-in-of-requires (claims t) (for-in-at t) for-in.Post
+for-in-of-requires t c κs = held ((c .before .before .before .before) .pre .1 .0 .ready) ((c .before .before .before .before) .pre .1 .0 .known) ((c .before .before .before .before) .pre .1 .1)
 
 pub payload-of-requires : (t : ℕ) → lts.Need-payload-of-requires (claims t) (for-in-at t) for-in.Post
 payload-of-requires t c κs = readable ((c .before .before .before .before .before .before) .pre .1 .0 .ready) ((c .before .before .before .before .before .before) .pre .1 .0 .known)
@@ -172,60 +163,55 @@ expression-requires t c κs =
     let g = (c .before .before .before .before .before .before .before .before .before .before .before .before .before) .pre .1 .0 in
     let x = a-for-in (g .ready .lawful) (g .known) ((c .before .before .before .before .before .before .before .before .before .before .before .before .before) .pre .1 .1) in
     let k = for-in-stands (g .ready .lawful) (g .known) ((c .before .before .before .before .before .before .before .before .before .before .before .before .before) .pre .1 .1) in
-    let e = (c .before .before .before .before .before .before .before .before .three-of) .ensures .0 in
+    let e = (c .before .before .before .before .before .before .before .before .for-in-of) .ensures .0 in
     rw e (omega (arith, (c .before .before .before .before .before .before .before .before .before .before .before .before .before) .pre .0, x .collection .below), collection g x (rw e at ((c .before .before .before .before .open-for-in) .ensures .0)) ((c .before .before .before .before .open-for-in) .ensures .1))
 
-pub names-in-requires : (t : ℕ) → lts.Need-names-in-requires (claims t) (for-in-at t) for-in.Post
-names-in-requires t c κs = tt
-
 pub add-head-for-in : (t : ℕ) → lts.Need-add-head-for-in (claims t) (for-in-at t) for-in.Post
-add-head-for-in t c = omega (arith, narrow-or-wide ((c .before .before .before .before .before .before .before .before .before .before .before .before .before .before .before .before .before .before .before .before) .pre .1 .0 .ready))
+add-head-for-in t c = omega (arith, narrow-or-wide ((c .before .before .before .before .before .before .before .before .before .before .before .before .before .before .before .before .before .before .before) .pre .1 .0 .ready))
 
 pub head-for-in-requires : (t : ℕ) → lts.Need-head-for-in-requires (claims t) (for-in-at t) for-in.Post
 head-for-in-requires t c κs =
-    let g = (c .before .before .before .before .before .before .before .before .before .before .before .before .before .before .before .before .before .before .before .before) .pre .1 .0 in
-    let x = a-for-in (g .ready .lawful) (g .known) ((c .before .before .before .before .before .before .before .before .before .before .before .before .before .before .before .before .before .before .before .before) .pre .1 .1) in
-    let k = for-in-stands (g .ready .lawful) (g .known) ((c .before .before .before .before .before .before .before .before .before .before .before .before .before .before .before .before .before .before .before .before) .pre .1 .1) in
-    let e = (c .before .before .before .before .before .before .before .before .before .before .before .before .before .before .before .three-of) .ensures .0 in
-    let n = all-pairs _ _ _ (g .ready) ((c .before .before .before .before .before .before .before .before .before .before .before .before .before .payload-of) .ensures) (k .1, k .2) ((c .before .names-in) .ensures) in
-    let few = few-words _ _ (λ j. omega (arith, (c .before .before .before .before .before .before .before .before .before .before .before .before .before .before .before .before .before .before .before .shared-slice-known) .given j)) (inside (g .ready .lawful) (g .known)) in
-    at-head g x (rw e at ((c .before .before .before .before .before .before .before .before .before .before .before .open-for-in) .ensures .0)) ((c .before .before .before .before .before .before .before .before .before .before .before .open-for-in) .ensures .1) (rw e at ((c .before .before .before .before .before .before .expression) .ensures)) _ (n .0) (omega (arith, n .0, n .1, few))
+    let g = (c .before .before .before .before .before .before .before .before .before .before .before .before .before .before .before .before .before .before .before) .pre .1 .0 in
+    let x = a-for-in (g .ready .lawful) (g .known) ((c .before .before .before .before .before .before .before .before .before .before .before .before .before .before .before .before .before .before .before) .pre .1 .1) in
+    let k = for-in-stands (g .ready .lawful) (g .known) ((c .before .before .before .before .before .before .before .before .before .before .before .before .before .before .before .before .before .before .before) .pre .1 .1) in
+    let e = (c .before .before .before .before .before .before .before .before .before .before .before .before .before .before .for-in-of) .ensures .0 in
+    rw e (at-head g x (rw e at ((c .before .before .before .before .before .before .before .before .before .before .open-for-in) .ensures .0)) ((c .before .before .before .before .before .before .before .before .before .before .open-for-in) .ensures .1) (rw e at ((c .before .before .before .before .before .expression) .ensures)) (all-there _ _ (g .ready) ((c .before .before .before .before .before .before .before .before .before .before .before .before .payload-of) .ensures) (k .1, k .2)) (rw e at ((c .before .before .before .before .before .before .before .before .before .before .before .before .before .before .for-in-of) .ensures .1)))
 
 pub in-loop-requires : (t : ℕ) → lts.Need-in-loop-requires (claims t) (for-in-at t) for-in.Post
 in-loop-requires t c κs =
-    let g = (c .before .before .before .before .before .before .before .before .before .before .before .before .before .before .before .before .before .before .before .before .before .before .before .before .before) .pre .1 .0 in
-    (open-loops g (a-for-in (g .ready .lawful) (g .known) ((c .before .before .before .before .before .before .before .before .before .before .before .before .before .before .before .before .before .before .before .before .before .before .before .before .before) .pre .1 .1)), g .ready .fine .sound .few)
+    let g = (c .before .before .before .before .before .before .before .before .before .before .before .before .before .before .before .before .before .before .before .before .before .before .before .before) .pre .1 .0 in
+    (open-loops g (a-for-in (g .ready .lawful) (g .known) ((c .before .before .before .before .before .before .before .before .before .before .before .before .before .before .before .before .before .before .before .before .before .before .before .before) .pre .1 .1)), g .ready .fine .sound .few)
 
 pub statement-requires : (t : ℕ) → lts.Need-statement-requires (claims t) (for-in-at t) for-in.Post
 statement-requires t c κs =
-    let g = (c .before .before .before .before .before .before .before .before .before .before .before .before .before .before .before .before .before .before .before .before .before .before .before .before .before .before) .pre .1 .0 in
-    let x = a-for-in (g .ready .lawful) (g .known) ((c .before .before .before .before .before .before .before .before .before .before .before .before .before .before .before .before .before .before .before .before .before .before .before .before .before .before) .pre .1 .1) in
-    let k = for-in-stands (g .ready .lawful) (g .known) ((c .before .before .before .before .before .before .before .before .before .before .before .before .before .before .before .before .before .before .before .before .before .before .before .before .before .before) .pre .1 .1) in
-    let e = (c .before .before .before .before .before .before .before .before .before .before .before .before .before .before .before .before .before .before .before .before .before .three-of) .ensures .0 in
-    let m = all-names _ _ _ (g .ready) ((c .before .before .before .before .before .before .before .before .before .before .before .before .before .before .before .before .before .before .before .payload-of) .ensures) (k .1, k .2) ((c .before .before .before .before .before .before .before .names-in) .ensures) in
+    let g = (c .before .before .before .before .before .before .before .before .before .before .before .before .before .before .before .before .before .before .before .before .before .before .before .before .before) .pre .1 .0 in
+    let x = a-for-in (g .ready .lawful) (g .known) ((c .before .before .before .before .before .before .before .before .before .before .before .before .before .before .before .before .before .before .before .before .before .before .before .before .before) .pre .1 .1) in
+    let k = for-in-stands (g .ready .lawful) (g .known) ((c .before .before .before .before .before .before .before .before .before .before .before .before .before .before .before .before .before .before .before .before .before .before .before .before .before) .pre .1 .1) in
+    let e = (c .before .before .before .before .before .before .before .before .before .before .before .before .before .before .before .before .before .before .before .before .for-in-of) .ensures .0 in
+    let m = all-names _ _ (g .ready) ((c .before .before .before .before .before .before .before .before .before .before .before .before .before .before .before .before .before .before .payload-of) .ensures) (k .1, k .2) in
     rw ((c .in-loop) .ensures, e)
-    (omega (arith, (c .before .before .before .before .before .before .before .before .before .before .before .before .before .before .before .before .before .before .before .before .before .before .before .before .before .before) .pre .0, x .body .below), body g x (rw e at ((c .before .before .before .before .before .before .before .before .before .before .before .before .before .before .before .before .before .open-for-in) .ensures .0)) ((c .before .before .before .before .before .before .before .before .before .before .before .before .before .before .before .before .before .open-for-in) .ensures .1) (rw e at ((c .before .before .before .before .before .before .before .before .before .before .before .before .expression) .ensures)) (rw (m, e) at ((c .before .before .before .before .before .head-for-in) .ensures)))
+    (omega (arith, (c .before .before .before .before .before .before .before .before .before .before .before .before .before .before .before .before .before .before .before .before .before .before .before .before .before) .pre .0, x .body .below), body g x (rw e at ((c .before .before .before .before .before .before .before .before .before .before .before .before .before .before .before .before .open-for-in) .ensures .0)) ((c .before .before .before .before .before .before .before .before .before .before .before .before .before .before .before .before .open-for-in) .ensures .1) (rw e at ((c .before .before .before .before .before .before .before .before .before .before .before .expression) .ensures)) (rw (e, m) at ((c .before .before .before .before .before .head-for-in) .ensures)))
 
 pub end-for-in-requires : (t : ℕ) → lts.Need-end-for-in-requires (claims t) (for-in-at t) for-in.Post
 end-for-in-requires t c κs =
-    let g = (c .before .before .before .before .before .before .before .before .before .before .before .before .before .before .before .before .before .before .before .before .before .before .before .before .before .before .before .before .before .before .before .before) .pre .1 .0 in
-    let x = a-for-in (g .ready .lawful) (g .known) ((c .before .before .before .before .before .before .before .before .before .before .before .before .before .before .before .before .before .before .before .before .before .before .before .before .before .before .before .before .before .before .before .before) .pre .1 .1) in
-    let k = for-in-stands (g .ready .lawful) (g .known) ((c .before .before .before .before .before .before .before .before .before .before .before .before .before .before .before .before .before .before .before .before .before .before .before .before .before .before .before .before .before .before .before .before) .pre .1 .1) in
-    let e = (c .before .before .before .before .before .before .before .before .before .before .before .before .before .before .before .before .before .before .before .before .before .before .before .before .before .before .before .three-of) .ensures .0 in
-    let m = all-names _ _ _ (g .ready) ((c .before .before .before .before .before .before .before .before .before .before .before .before .before .before .before .before .before .before .before .before .before .before .before .before .before .payload-of) .ensures) (k .1, k .2) ((c .before .before .before .before .before .before .before .before .before .before .before .before .before .names-in) .ensures) in
-    at-end g x (rw e at ((c .before .before .before .before .before .before .before .before .before .before .before .before .before .before .before .before .before .before .before .before .before .before .before .open-for-in) .ensures .0)) ((c .before .before .before .before .before .before .before .before .before .before .before .before .before .before .before .before .before .before .before .before .before .before .before .open-for-in) .ensures .1) (rw e at ((c .before .before .before .before .before .before .before .before .before .before .before .before .before .before .before .before .before .before .expression) .ensures)) (rw (m, e) at ((c .before .before .before .before .before .before .before .before .before .before .before .head-for-in) .ensures)) (rw ((c .before .before .before .before .before .before .in-loop) .ensures, e) at ((c .before .before .before .before .before .statement) .ensures))
+    let g = (c .before .before .before .before .before .before .before .before .before .before .before .before .before .before .before .before .before .before .before .before .before .before .before .before .before .before .before .before .before .before .before) .pre .1 .0 in
+    let x = a-for-in (g .ready .lawful) (g .known) ((c .before .before .before .before .before .before .before .before .before .before .before .before .before .before .before .before .before .before .before .before .before .before .before .before .before .before .before .before .before .before .before) .pre .1 .1) in
+    let k = for-in-stands (g .ready .lawful) (g .known) ((c .before .before .before .before .before .before .before .before .before .before .before .before .before .before .before .before .before .before .before .before .before .before .before .before .before .before .before .before .before .before .before) .pre .1 .1) in
+    let e = (c .before .before .before .before .before .before .before .before .before .before .before .before .before .before .before .before .before .before .before .before .before .before .before .before .before .before .for-in-of) .ensures .0 in
+    let m = all-names _ _ (g .ready) ((c .before .before .before .before .before .before .before .before .before .before .before .before .before .before .before .before .before .before .before .before .before .before .before .before .payload-of) .ensures) (k .1, k .2) in
+    at-end g x (rw e at ((c .before .before .before .before .before .before .before .before .before .before .before .before .before .before .before .before .before .before .before .before .before .before .open-for-in) .ensures .0)) ((c .before .before .before .before .before .before .before .before .before .before .before .before .before .before .before .before .before .before .before .before .before .before .open-for-in) .ensures .1) (rw e at ((c .before .before .before .before .before .before .before .before .before .before .before .before .before .before .before .before .before .expression) .ensures)) (rw (e, m) at ((c .before .before .before .before .before .before .before .before .before .before .before .head-for-in) .ensures)) (rw ((c .before .before .before .before .before .before .in-loop) .ensures, e) at ((c .before .before .before .before .before .statement) .ensures))
 
 pub same-length : (t : ℕ) → lts.Need-same-length (claims t) (for-in-at t) for-in.Post
-same-length t c = (c .before .before .end-for-in) .ensures .moves .kept .same ∙ (c .before .before .before .before .before .before .before .before .statement) .ensures .does .moves .kept .same ∙ (c .before .before .before .before .before .before .before .before .before .before .before .before .before .before .head-for-in) .ensures .moves .kept .same ∙ (c .before .before .before .before .before .before .before .before .before .before .before .before .before .before .before .before .before .before .before .before .before .expression) .ensures .does .moves .kept .same ∙ (c .before .before .before .before .before .before .before .before .before .before .before .before .before .before .before .before .before .before .before .before .before .before .before .before .before .before .open-for-in) .ensures .0 .moves .kept .same
+same-length t c = (c .before .before .end-for-in) .ensures .moves .kept .same ∙ (c .before .before .before .before .before .before .before .before .statement) .ensures .does .moves .kept .same ∙ (c .before .before .before .before .before .before .before .before .before .before .before .before .before .before .head-for-in) .ensures .moves .kept .same ∙ (c .before .before .before .before .before .before .before .before .before .before .before .before .before .before .before .before .before .before .before .before .expression) .ensures .does .moves .kept .same ∙ (c .before .before .before .before .before .before .before .before .before .before .before .before .before .before .before .before .before .before .before .before .before .before .before .before .before .open-for-in) .ensures .0 .moves .kept .same
 
 pub same-length-2 : (t : ℕ) → lts.Need-same-length-2 (claims t) (for-in-at t) for-in.Post
-same-length-2 t c = (c .before .before .before .before .before .before .before .before .statement) .ensures .does .same ∙ (c .before .before .before .before .before .before .before .before .before .before .before .before .before .before .before .before .before .before .before .before .before .expression) .ensures .does .same
+same-length-2 t c = (c .before .before .before .before .before .before .before .before .statement) .ensures .does .same ∙ (c .before .before .before .before .before .before .before .before .before .before .before .before .before .before .before .before .before .before .before .before .expression) .ensures .does .same
 
 pub returns : (t : ℕ) → lts.Need-returns (claims t) (for-in-at t) for-in.Post
 returns t c =
-    let g = (c .before .before .before .before .before .before .before .before .before .before .before .before .before .before .before .before .before .before .before .before .before .before .before .before .before .before .before .before .before .before .before .before .before .before .before) .pre .1 .0 in
-    let x = a-for-in (g .ready .lawful) (g .known) ((c .before .before .before .before .before .before .before .before .before .before .before .before .before .before .before .before .before .before .before .before .before .before .before .before .before .before .before .before .before .before .before .before .before .before .before) .pre .1 .1) in
-    let k = for-in-stands (g .ready .lawful) (g .known) ((c .before .before .before .before .before .before .before .before .before .before .before .before .before .before .before .before .before .before .before .before .before .before .before .before .before .before .before .before .before .before .before .before .before .before .before) .pre .1 .1) in
-    let e = (c .before .before .before .before .before .before .before .before .before .before .before .before .before .before .before .before .before .before .before .before .before .before .before .before .before .before .before .before .before .before .three-of) .ensures .0 in
-    let m = all-names _ _ _ (g .ready) ((c .before .before .before .before .before .before .before .before .before .before .before .before .before .before .before .before .before .before .before .before .before .before .before .before .before .before .before .before .payload-of) .ensures) (k .1, k .2) ((c .before .before .before .before .before .before .before .before .before .before .before .before .before .before .before .before .names-in) .ensures) in
-    lowers g x (rw e at ((c .before .before .before .before .before .before .before .before .before .before .before .before .before .before .before .before .before .before .before .before .before .before .before .before .before .before .open-for-in) .ensures .0)) ((c .before .before .before .before .before .before .before .before .before .before .before .before .before .before .before .before .before .before .before .before .before .before .before .before .before .before .open-for-in) .ensures .1) (rw e at ((c .before .before .before .before .before .before .before .before .before .before .before .before .before .before .before .before .before .before .before .before .before .expression) .ensures)) (rw (m, e) at ((c .before .before .before .before .before .before .before .before .before .before .before .before .before .before .head-for-in) .ensures)) (rw ((c .before .before .before .before .before .before .before .before .before .in-loop) .ensures, e) at ((c .before .before .before .before .before .before .before .before .statement) .ensures)) (rw e at ((c .before .before .end-for-in) .ensures))
+    let g = (c .before .before .before .before .before .before .before .before .before .before .before .before .before .before .before .before .before .before .before .before .before .before .before .before .before .before .before .before .before .before .before .before .before .before) .pre .1 .0 in
+    let x = a-for-in (g .ready .lawful) (g .known) ((c .before .before .before .before .before .before .before .before .before .before .before .before .before .before .before .before .before .before .before .before .before .before .before .before .before .before .before .before .before .before .before .before .before .before) .pre .1 .1) in
+    let k = for-in-stands (g .ready .lawful) (g .known) ((c .before .before .before .before .before .before .before .before .before .before .before .before .before .before .before .before .before .before .before .before .before .before .before .before .before .before .before .before .before .before .before .before .before .before) .pre .1 .1) in
+    let e = (c .before .before .before .before .before .before .before .before .before .before .before .before .before .before .before .before .before .before .before .before .before .before .before .before .before .before .before .before .before .for-in-of) .ensures .0 in
+    let m = all-names _ _ (g .ready) ((c .before .before .before .before .before .before .before .before .before .before .before .before .before .before .before .before .before .before .before .before .before .before .before .before .before .before .before .payload-of) .ensures) (k .1, k .2) in
+    lowers g x (rw e at ((c .before .before .before .before .before .before .before .before .before .before .before .before .before .before .before .before .before .before .before .before .before .before .before .before .before .open-for-in) .ensures .0)) ((c .before .before .before .before .before .before .before .before .before .before .before .before .before .before .before .before .before .before .before .before .before .before .before .before .before .open-for-in) .ensures .1) (rw e at ((c .before .before .before .before .before .before .before .before .before .before .before .before .before .before .before .before .before .before .before .before .expression) .ensures)) (rw (e, m) at ((c .before .before .before .before .before .before .before .before .before .before .before .before .before .before .head-for-in) .ensures)) (rw ((c .before .before .before .before .before .before .before .before .before .in-loop) .ensures, e) at ((c .before .before .before .before .before .before .before .before .statement) .ensures)) (rw e at ((c .before .before .end-for-in) .ensures))

@@ -3,9 +3,8 @@ use Prim.Native.Nat.{ℕ, _+_, _*_, _<_, _≤_}
 use Rattle.cycle.proofs.body.Reads as body
 use Rattle.cycle.proofs.function.Reads as function
 use Rattle.cycle.proofs.+addi+arguments+binary+block+body+both+call+class+elifs+expr_stmt+expression+fn_stmt+for_in+for_loop+function+if_stmt+let_stmt+logical+methods+minus+return_stmt+row+statement+try_catch+unary+while_loop.Lts-function as lts
-use Rattle.cycle.proofs.reading.first_mark.Reads as first-mark-reads
-use Rattle.cycle.proofs.reading.payload_of.Reads as payload-of-reads
-use Rattle.cycle.proofs.reading.params_of.Reads as params-of-reads
+use Rattle.nodes.proofs.payload_of.Reads as payload-of-reads
+use Rattle.nodes.proofs.function_of.Reads as function-of-reads
 use Rattle.routines.proofs.end_function.Reads as end-function-reads
 use Rattle.routines.proofs.open_function.Reads as open-function-reads
 use Rattle.store.proofs.enter_function.Reads as enter-function-reads
@@ -15,19 +14,20 @@ use Rattle.code.specs.Cuts.{Ends, cut-step}
 use Rattle.cycle.proofs.Nested.{begun, cut-room, ended}
 use Rattle.cycle.proofs.Nodes.{a-function, function-stands}
 use Rattle.cycle.proofs.Visited.{function-visits}
-use Rattle.cycle.proofs.Sizes.{function-size, more-is, tokens-same}
-use Rattle.cycle.proofs.Way.{_▹_, arrive, ends, few-more, from, meanwhile, narrow-or-wide, next, next-leaf, readable, stand, stand-at, to}
-use Rattle.cycle.specs.Cycle.{AskBody, GivenExpr, LowersBody, Ready, UnderExpr, Width}
+use Rattle.cycle.proofs.Sizes.{function-size, has-pairs, more-is, tokens-same}
+use Rattle.cycle.proofs.Way.{_▹_, arrive, ends, few-more, from, held, meanwhile, narrow-or-wide, next, next-leaf, readable, stand, stand-at, to}
+use Rattle.cycle.specs.Cycle.{AskBody, GivenExpr, LowersBody, Ready, UnderExpr}
 use Rattle.forward.proofs.Chains.{function-chain}
 use Rattle.forward.specs.Forward.{bind, end-function, fwd-number, open-function}
 use Rattle.meaning.proofs.Reading.{Function}
 use Rattle.meaning.proofs.Rows.{parameters-at}
 use Rattle.meaning.specs.At.{Behind, count-of, file-words, pairs-in, stmts-at, tokens-at, word-of}
-use Rattle.meaning.specs.Fields.{field-at, fields, words}
+use Rattle.meaning.specs.Fields.{field-at, fields}
 use Rattle.meaning.specs.Functions.{first-mark}
 use Rattle.meaning.specs.Lower.{lower-expr}
 use Rattle.meaning.specs.State.{next-register}
 use Rattle.meaning.specs.Weight.{size-stmts}
+use Rattle.nodes.specs.Nodes.{Width}
 use Rattle.routines.specs.Pieces.{Small, tokens-from}
 use Rattle.store.proofs.Compose.{known, leaf-after, moves-then}
 use Rattle.store.proofs.Inside.{leavable}
@@ -37,24 +37,19 @@ use Rattle.store.specs.Store.{Fine, inner, run, while-going}
 use Rattle.store.specs.declared.Scope.{Scope}
 use Rattle.store.specs.declared.Step.{Step}
 use lib.Dec.{lit<}
-use lib.ListN.{length}
 use mathlib.Core.List.{List}
 use mathlib.Core.Path.{_∙_, _≡_, ap, refl, sym}
 use native.Mathlib.Omega.{arith}
 use mathlib.Core.Bool.{cond}
 use Rattle.meaning.specs.Grammar.{wide-marks}
 
--- the parameters as the node's, and the mark of the first
+-- the parameters as the node's
 abbrev Tokens : List ℕ → (i n : ℕ) → Type 0
 Tokens t i n = tokens-at (fields t) i 1 (1 + 2 * n) ≡ pairs-in (wide-marks (fields t)) (file-words (fields t) i) 1 n
 
-opened : (t : List ℕ) (i n : ℕ) {payload w w' : List ℕ} {q : Scope} {s s' : Step} {u : Cost} → Width t q → payload ≡ field-at (fields t) i .payload → Tokens t i n
+opened : (t : List ℕ) (i n : ℕ) {payload w w' : List ℕ} {q : Scope} {s s' : Step} {u : Cost} → Width t (q .wide) → payload ≡ field-at (fields t) i .payload → Tokens t i n
     → Leaf w q s w' q s' u (open-function i (tokens-from q payload 1 n)) × Small s' → Leaf w q s w' q s' u (open-function i (tokens-at (fields t) i 1 (1 + 2 * n))) × Small s'
 opened t i n {payload} {q = q} v e k d = rw (tokens-same t q i payload 1 1 n v e refl ∙ sym k) at d
-
-marked : (t : List ℕ) (i n : ℕ) (q : Scope) {payload : List ℕ} {r : ℕ} → Width t q → payload ≡ field-at (fields t) i .payload → Tokens t i n → r ≡ first-mark (tokens-from q payload 1 n)
-    → r ≡ first-mark (tokens-at (fields t) i 1 (1 + 2 * n))
-marked t i n q {payload} v e k h = h ∙ ap first-mark (tokens-same t q i payload 1 1 n v e refl ∙ sym k)
 
 -- the body's statements stand behind the marks of the parameters
 body-behind : {t w : List ℕ} {p : Scope} {s : Step} {a b c i k : ℕ} (n : ℕ) → Ready t w p s a b c → Behind (fields t) i k (cond (wide-marks (fields t)) n 0) → Behind (fields t) i k (n * p .wide)
@@ -103,12 +98,12 @@ module _ {t w : List ℕ} {p : Scope} {s : Step} {i : ℕ} (g : GivenExpr t w p 
 
 -- what each function that is called asks and promises; a member of the cycle at a smaller measure
 abbrev pub claims : ℕ → lts.Claims
-claims t = (params-of-reads.Asked, params-of-reads.Learnt, payload-of-reads.Asked, payload-of-reads.Learnt, next-register-reads.Asked, next-register-reads.Learnt, enter-function-reads.Asked, enter-function-reads.Learnt, open-function-reads.Asked, open-function-reads.Learnt, body-below t, body.Post, first-mark-reads.Asked, first-mark-reads.Learnt, end-function-reads.Asked, end-function-reads.Learnt)
+claims t = (function-of-reads.Asked, function-of-reads.Learnt, payload-of-reads.Asked, payload-of-reads.Learnt, next-register-reads.Asked, next-register-reads.Learnt, enter-function-reads.Asked, enter-function-reads.Learnt, open-function-reads.Asked, open-function-reads.Learnt, body-below t, body.Post, end-function-reads.Asked, end-function-reads.Learnt)
 
-pub params-of-requires : (t : ℕ) → lts.Need-params-of-requires (claims t) (function-at t) function.Post
-params-of-requires t c κs =
+pub function-of-requires : (t : ℕ) → lts.Need-function-of-requires (claims t) (function-at t) function.Post
+function-of-requires t c κs =
     let g = (c .before .before .before .before) .pre .1 .0 in
-    (readable (g .ready) (g .known) .0, readable (g .ready) (g .known) .1, function-stands (g .ready .lawful) (g .known) ((c .before .before .before .before) .pre .1 .1) .0)
+    held (g .ready) (g .known) ((c .before .before .before .before) .pre .1 .1)
 
 pub payload-of-requires : (t : ℕ) → lts.Need-payload-of-requires (claims t) (function-at t) function.Post
 payload-of-requires t c κs = readable ((c .before .before .before .before .before .before) .pre .1 .0 .ready) ((c .before .before .before .before .before .before) .pre .1 .0 .known)
@@ -128,50 +123,46 @@ open-function-requires t c κs =
     let k = function-stands (g .ready .lawful) (g .known) ((c .before .before .before .before .before .before .before .before .before .before .before .before .before .before .before .before) .pre .1 .1) in
     let y = at-open g x ((c .before .before .before .before .before .before .before .before .before .before .before .before .before .before .before .before) .pre .1 .2) ((c .before .before .before .before .before .before .before .next-register) .ensures) ((c .before .before .before .enter-function) .ensures .1) in
     let z = stand 0 0 0 (from y) (omega arith) (omega arith) (omega arith) (omega arith) in
-    rw ((c .before .before .before .enter-function) .ensures .0, (c .before .before .before .before .before .before .before .before .before .before .before .params-of) .ensures .0) (z .fine, z .room, (lit< tt, rw ((c .before .before .before .before .before .before .before .before .before .before .before .params-of) .ensures .0) at ((c .before .before .before .before .before .before .before .before .before .before .before .params-of) .ensures .1)))
+    rw ((c .before .before .before .enter-function) .ensures .0, (c .before .before .before .before .before .before .before .before .before .before .before .function-of) .ensures .0) (z .fine, z .room, has-pairs _ _ _ _ 1 1 _ (g .ready .width) ((c .before .before .before .before .before .before .before .before .before .payload-of) .ensures) refl (omega (arith, x .size, k .2 .size)))
 
 pub mul-body : (t : ℕ) → lts.Need-mul-body (claims t) (function-at t) function.Post
-mul-body t c = omega (arith, (c .before .before .before .before .before .before .before .before .before .before .before .before .before .before .before .before .params-of) .ensures .1)
+mul-body t c = omega (arith, (c .before .before .before .before .before .before .before .before .before .before .before .before .before .before .before .before .before .function-of) .ensures .1)
 
 pub add-body : (t : ℕ) → lts.Need-add-body (claims t) (function-at t) function.Post
-add-body t c = omega (arith, (c .before .before .before .before .before .before .before .before .before .before .before .before .before .before .before .before .params-of) .ensures .1)
+add-body t c = omega (arith, (c .before .before .before .before .before .before .before .before .before .before .before .before .before .before .before .before .before .function-of) .ensures .1)
 
 pub mul-body-2 : (t : ℕ) → lts.Need-mul-body-2 (claims t) (function-at t) function.Post
-mul-body-2 t c = omega (arith, few-more _ _ ((c .before .before .before .before .before .before .before .before .before .before .before .before .before .before .before .before .params-of) .ensures .1) (narrow-or-wide ((c .before .before .before .before .before .before .before .before .before .before .before .before .before .before .before .before .before .before .before .before .before) .pre .1 .0 .ready)))
+mul-body-2 t c = omega (arith, few-more _ _ ((c .before .before .before .before .before .before .before .before .before .before .before .before .before .before .before .before .before .before .function-of) .ensures .1) (narrow-or-wide ((c .before .before .before .before .before .before .before .before .before .before .before .before .before .before .before .before .before .before .before .before .before .before .before) .pre .1 .0 .ready)))
 
 pub body-requires : (t : ℕ) → lts.Need-body-requires (claims t) (function-at t) function.Post
 body-requires t c κs =
-    let g = (c .before .before .before .before .before .before .before .before .before .before .before .before .before .before .before .before .before .before .before .before .before) .pre .1 .0 in
-    let x = a-function (g .ready .lawful) (g .known) ((c .before .before .before .before .before .before .before .before .before .before .before .before .before .before .before .before .before .before .before .before .before) .pre .1 .1) in
-    let k = function-stands (g .ready .lawful) (g .known) ((c .before .before .before .before .before .before .before .before .before .before .before .before .before .before .before .before .before .before .before .before .before) .pre .1 .1) in
-    let o = opened _ _ _ (g .ready .width) ((c .before .before .before .before .before .before .before .before .before .before .before .before .before .before .payload-of) .ensures) (k .1) (rw ((c .before .before .before .before .before .before .before .before .enter-function) .ensures .0, (c .before .before .before .before .before .before .before .before .before .before .before .before .before .before .before .before .params-of) .ensures .0) at ((c .before .before .before .before .open-function) .ensures)) in
-    rw ((c .before .before .before .before .before .before .before .before .enter-function) .ensures .0, (c .before .before .before .before .before .before .before .before .before .before .before .before .before .before .before .before .params-of) .ensures .0) (omega (arith, (c .before .before .before .before .before .before .before .before .before .before .before .before .before .before .before .before .before .before .before .before .before) .pre .0), ask-body g x ((c .before .before .before .before .before .before .before .before .before .before .before .before .before .before .before .before .before .before .before .before .before) .pre .1 .2) ((c .before .before .before .before .before .before .before .before .before .before .before .before .next-register) .ensures) ((c .before .before .before .before .before .before .before .before .enter-function) .ensures .1) o (body-behind _ (g .ready) (k .2)))
-
-pub first-mark-requires : (t : ℕ) → lts.Need-first-mark-requires (claims t) (function-at t) function.Post
-first-mark-requires t c κs = tt
+    let g = (c .before .before .before .before .before .before .before .before .before .before .before .before .before .before .before .before .before .before .before .before .before .before .before) .pre .1 .0 in
+    let x = a-function (g .ready .lawful) (g .known) ((c .before .before .before .before .before .before .before .before .before .before .before .before .before .before .before .before .before .before .before .before .before .before .before) .pre .1 .1) in
+    let k = function-stands (g .ready .lawful) (g .known) ((c .before .before .before .before .before .before .before .before .before .before .before .before .before .before .before .before .before .before .before .before .before .before .before) .pre .1 .1) in
+    let o = opened _ _ _ (g .ready .width) ((c .before .before .before .before .before .before .before .before .before .before .before .before .before .before .before .before .payload-of) .ensures) (k .1) (rw ((c .before .before .before .before .before .before .before .before .before .before .enter-function) .ensures .0, (c .before .before .before .before .before .before .before .before .before .before .before .before .before .before .before .before .before .before .function-of) .ensures .0) at ((c .before .before .before .before .before .before .open-function) .ensures)) in
+    rw ((c .before .before .before .before .before .before .before .before .before .before .enter-function) .ensures .0, (c .before .before .before .before .before .before .before .before .before .before .before .before .before .before .before .before .before .before .function-of) .ensures .0) (omega (arith, (c .before .before .before .before .before .before .before .before .before .before .before .before .before .before .before .before .before .before .before .before .before .before .before) .pre .0), ask-body g x ((c .before .before .before .before .before .before .before .before .before .before .before .before .before .before .before .before .before .before .before .before .before .before .before) .pre .1 .2) ((c .before .before .before .before .before .before .before .before .before .before .before .before .before .before .next-register) .ensures) ((c .before .before .before .before .before .before .before .before .before .before .enter-function) .ensures .1) o (body-behind _ (g .ready) (k .2)))
 
 pub end-function-requires : (t : ℕ) → lts.Need-end-function-requires (claims t) (function-at t) function.Post
 end-function-requires t c κs =
-    let g = (c .before .before .before .before .before .before .before .before .before .before .before .before .before .before .before .before .before .before .before .before .before .before .before .before .before .before .before .before .before) .pre .1 .0 in
-    let x = a-function (g .ready .lawful) (g .known) ((c .before .before .before .before .before .before .before .before .before .before .before .before .before .before .before .before .before .before .before .before .before .before .before .before .before .before .before .before .before) .pre .1 .1) in
-    let k = function-stands (g .ready .lawful) (g .known) ((c .before .before .before .before .before .before .before .before .before .before .before .before .before .before .before .before .before .before .before .before .before .before .before .before .before .before .before .before .before) .pre .1 .1) in
-    let o = opened _ _ _ (g .ready .width) ((c .before .before .before .before .before .before .before .before .before .before .before .before .before .before .before .before .before .before .before .before .before .before .payload-of) .ensures) (k .1) (rw ((c .before .before .before .before .before .before .before .before .before .before .before .before .before .before .before .before .enter-function) .ensures .0, (c .before .before .before .before .before .before .before .before .before .before .before .before .before .before .before .before .before .before .before .before .before .before .before .before .params-of) .ensures .0) at ((c .before .before .before .before .before .before .before .before .before .before .before .before .open-function) .ensures)) in
-    let b = rw ((c .before .before .before .before .before .before .before .before .before .before .before .before .before .before .before .before .enter-function) .ensures .0, (c .before .before .before .before .before .before .before .before .before .before .before .before .before .before .before .before .before .before .before .before .before .before .before .before .params-of) .ensures .0) at ((c .before .before .before .before .before .before .before .body) .ensures) in
-    let y = at-end g x ((c .before .before .before .before .before .before .before .before .before .before .before .before .before .before .before .before .before .before .before .before .before .before .before .before .before .before .before .before .before) .pre .1 .2) ((c .before .before .before .before .before .before .before .before .before .before .before .before .before .before .before .before .before .before .before .before .next-register) .ensures) ((c .before .before .before .before .before .before .before .before .before .before .before .before .before .before .before .before .enter-function) .ensures .1) o b in
-    (y .0, y .1, y .2, y .3, (c .before .before .before .before .before .before .before .before .before .before .before .before .before .before .before .before .before .before .before .before .before .before .before .before .params-of) .ensures .1)
+    let g = (c .before .before .before .before .before .before .before .before .before .before .before .before .before .before .before .before .before .before .before .before .before .before .before .before .before .before .before .before .before .before) .pre .1 .0 in
+    let x = a-function (g .ready .lawful) (g .known) ((c .before .before .before .before .before .before .before .before .before .before .before .before .before .before .before .before .before .before .before .before .before .before .before .before .before .before .before .before .before .before) .pre .1 .1) in
+    let k = function-stands (g .ready .lawful) (g .known) ((c .before .before .before .before .before .before .before .before .before .before .before .before .before .before .before .before .before .before .before .before .before .before .before .before .before .before .before .before .before .before) .pre .1 .1) in
+    let o = opened _ _ _ (g .ready .width) ((c .before .before .before .before .before .before .before .before .before .before .before .before .before .before .before .before .before .before .before .before .before .before .before .payload-of) .ensures) (k .1) (rw ((c .before .before .before .before .before .before .before .before .before .before .before .before .before .before .before .before .before .enter-function) .ensures .0, (c .before .before .before .before .before .before .before .before .before .before .before .before .before .before .before .before .before .before .before .before .before .before .before .before .before .function-of) .ensures .0) at ((c .before .before .before .before .before .before .before .before .before .before .before .before .before .open-function) .ensures)) in
+    let b = rw ((c .before .before .before .before .before .before .before .before .before .before .before .before .before .before .before .before .before .enter-function) .ensures .0, (c .before .before .before .before .before .before .before .before .before .before .before .before .before .before .before .before .before .before .before .before .before .before .before .before .before .function-of) .ensures .0) at ((c .before .before .before .before .before .before .body) .ensures) in
+    let y = at-end g x ((c .before .before .before .before .before .before .before .before .before .before .before .before .before .before .before .before .before .before .before .before .before .before .before .before .before .before .before .before .before .before) .pre .1 .2) ((c .before .before .before .before .before .before .before .before .before .before .before .before .before .before .before .before .before .before .before .before .before .next-register) .ensures) ((c .before .before .before .before .before .before .before .before .before .before .before .before .before .before .before .before .before .enter-function) .ensures .1) o b in
+    (y .0, y .1, y .2, y .3, (c .before .before .before .before .before .before .before .before .before .before .before .before .before .before .before .before .before .before .before .before .before .before .before .before .before .function-of) .ensures .1)
 
 pub same-length : (t : ℕ) → lts.Need-same-length (claims t) (function-at t) function.Post
-same-length t c = (c .before .before .before .before .end-function) .ensures .0 .leaves .kept .same ∙ (c .before .before .before .before .before .before .before .before .before .before .before .before .body) .ensures .moves .kept .same ∙ (c .before .before .before .before .before .before .before .before .before .before .before .before .before .before .before .before .before .open-function) .ensures .0 .moves .kept .same ∙ (c .before .before .before .before .before .before .before .before .before .before .before .before .before .before .before .before .before .before .before .before .before .enter-function) .ensures .1 .leaf .moves .kept .same ∙ (c .before .before .before .before .before .before .before .before .before .before .before .before .before .before .before .before .before .before .before .before .before .before .before .before .before .next-register) .ensures .0 .moves .kept .same
+same-length t c = (c .before .before .before .before .end-function) .ensures .0 .leaves .kept .same ∙ (c .before .before .before .before .before .before .before .before .before .before .before .body) .ensures .moves .kept .same ∙ (c .before .before .before .before .before .before .before .before .before .before .before .before .before .before .before .before .before .before .open-function) .ensures .0 .moves .kept .same ∙ (c .before .before .before .before .before .before .before .before .before .before .before .before .before .before .before .before .before .before .before .before .before .before .enter-function) .ensures .1 .leaf .moves .kept .same ∙ (c .before .before .before .before .before .before .before .before .before .before .before .before .before .before .before .before .before .before .before .before .before .before .before .before .before .before .next-register) .ensures .0 .moves .kept .same
 
 pub same-length-2 : (t : ℕ) → lts.Need-same-length-2 (claims t) (function-at t) function.Post
-same-length-2 t c = (c .before .before .before .before .end-function) .ensures .0 .same ∙ (c .before .before .before .before .before .before .before .before .before .before .before .before .body) .ensures .same
+same-length-2 t c = (c .before .before .before .before .end-function) .ensures .0 .same ∙ (c .before .before .before .before .before .before .before .before .before .before .before .body) .ensures .same
 
 pub returns : (t : ℕ) → lts.Need-returns (claims t) (function-at t) function.Post
 returns t c =
-    let g = (c .before .before .before .before .before .before .before .before .before .before .before .before .before .before .before .before .before .before .before .before .before .before .before .before .before .before .before .before .before .before .before .before .before .before) .pre .1 .0 in
-    let x = a-function (g .ready .lawful) (g .known) ((c .before .before .before .before .before .before .before .before .before .before .before .before .before .before .before .before .before .before .before .before .before .before .before .before .before .before .before .before .before .before .before .before .before .before) .pre .1 .1) in
-    let k = function-stands (g .ready .lawful) (g .known) ((c .before .before .before .before .before .before .before .before .before .before .before .before .before .before .before .before .before .before .before .before .before .before .before .before .before .before .before .before .before .before .before .before .before .before) .pre .1 .1) in
-    let o = opened _ _ _ (g .ready .width) ((c .before .before .before .before .before .before .before .before .before .before .before .before .before .before .before .before .before .before .before .before .before .before .before .before .before .before .before .payload-of) .ensures) (k .1) (rw ((c .before .before .before .before .before .before .before .before .before .before .before .before .before .before .before .before .before .before .before .before .before .enter-function) .ensures .0, (c .before .before .before .before .before .before .before .before .before .before .before .before .before .before .before .before .before .before .before .before .before .before .before .before .before .before .before .before .before .params-of) .ensures .0) at ((c .before .before .before .before .before .before .before .before .before .before .before .before .before .before .before .before .before .open-function) .ensures)) in
-    let b = rw ((c .before .before .before .before .before .before .before .before .before .before .before .before .before .before .before .before .before .before .before .before .before .enter-function) .ensures .0, (c .before .before .before .before .before .before .before .before .before .before .before .before .before .before .before .before .before .before .before .before .before .before .before .before .before .before .before .before .before .params-of) .ensures .0) at ((c .before .before .before .before .before .before .before .before .before .before .before .before .body) .ensures) in
-    let m = marked _ _ _ _ (g .ready .width) ((c .before .before .before .before .before .before .before .before .before .before .before .before .before .before .before .before .before .before .before .before .before .before .before .before .before .before .before .payload-of) .ensures) (k .1) (rw ((c .before .before .before .before .before .before .before .before .before .before .before .before .before .before .before .before .before .before .before .before .before .before .before .before .before .before .before .before .before .params-of) .ensures .0) at ((c .before .before .before .before .before .first-mark) .ensures)) in
-    lowers g x ((c .before .before .before .before .before .before .before .before .before .before .before .before .before .before .before .before .before .before .before .before .before .before .before .before .before .before .before .before .before .before .before .before .before .before) .pre .1 .2) ((c .before .before .before .before .before .before .before .before .before .before .before .before .before .before .before .before .before .before .before .before .before .before .before .before .before .next-register) .ensures) ((c .before .before .before .before .before .before .before .before .before .before .before .before .before .before .before .before .before .before .before .before .before .enter-function) .ensures .1) o b (rw ((c .before .before .before .before .before .before .before .before .before .before .before .before .before .before .before .before .before .before .before .before .before .before .before .before .before .before .before .before .before .params-of) .ensures .0, m) at ((c .before .before .before .before .end-function) .ensures))
+    let g = (c .before .before .before .before .before .before .before .before .before .before .before .before .before .before .before .before .before .before .before .before .before .before .before .before .before .before .before .before .before .before .before .before .before .before .before) .pre .1 .0 in
+    let x = a-function (g .ready .lawful) (g .known) ((c .before .before .before .before .before .before .before .before .before .before .before .before .before .before .before .before .before .before .before .before .before .before .before .before .before .before .before .before .before .before .before .before .before .before .before) .pre .1 .1) in
+    let k = function-stands (g .ready .lawful) (g .known) ((c .before .before .before .before .before .before .before .before .before .before .before .before .before .before .before .before .before .before .before .before .before .before .before .before .before .before .before .before .before .before .before .before .before .before .before) .pre .1 .1) in
+    let o = opened _ _ _ (g .ready .width) ((c .before .before .before .before .before .before .before .before .before .before .before .before .before .before .before .before .before .before .before .before .before .before .before .before .before .before .before .before .payload-of) .ensures) (k .1) (rw ((c .before .before .before .before .before .before .before .before .before .before .before .before .before .before .before .before .before .before .before .before .before .before .enter-function) .ensures .0, (c .before .before .before .before .before .before .before .before .before .before .before .before .before .before .before .before .before .before .before .before .before .before .before .before .before .before .before .before .before .before .function-of) .ensures .0) at ((c .before .before .before .before .before .before .before .before .before .before .before .before .before .before .before .before .before .before .open-function) .ensures)) in
+    let b = rw ((c .before .before .before .before .before .before .before .before .before .before .before .before .before .before .before .before .before .before .before .before .before .before .enter-function) .ensures .0, (c .before .before .before .before .before .before .before .before .before .before .before .before .before .before .before .before .before .before .before .before .before .before .before .before .before .before .before .before .before .before .function-of) .ensures .0) at ((c .before .before .before .before .before .before .before .before .before .before .before .body) .ensures) in
+    lowers g x ((c .before .before .before .before .before .before .before .before .before .before .before .before .before .before .before .before .before .before .before .before .before .before .before .before .before .before .before .before .before .before .before .before .before .before .before) .pre .1 .2) ((c .before .before .before .before .before .before .before .before .before .before .before .before .before .before .before .before .before .before .before .before .before .before .before .before .before .before .next-register) .ensures) ((c .before .before .before .before .before .before .before .before .before .before .before .before .before .before .before .before .before .before .before .before .before .before .enter-function) .ensures .1) o b (rw ((c .before .before .before .before .before .before .before .before .before .before .before .before .before .before .before .before .before .before .before .before .before .before .before .before .before .before .before .before .before .before .function-of) .ensures .0) at ((c .before .before .before .before .end-function) .ensures))

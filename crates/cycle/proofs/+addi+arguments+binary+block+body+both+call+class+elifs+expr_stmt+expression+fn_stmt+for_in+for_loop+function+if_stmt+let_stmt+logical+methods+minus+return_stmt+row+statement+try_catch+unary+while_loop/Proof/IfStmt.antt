@@ -8,13 +8,12 @@ use Rattle.cycle.proofs.row.Reads as row
 use Rattle.routines.proofs.end_branch.Reads as end-branch-reads
 use Rattle.routines.proofs.end_if.Reads as end-if-reads
 use Rattle.code.proofs.test_and_jump.Reads as test-and-jump-reads
-use Rattle.cycle.proofs.reading.branches_of.Reads as branches-of-reads
-use Rattle.cycle.proofs.reading.three_of.Reads as three-of-reads
+use Rattle.nodes.proofs.if_of.Reads as if-of-reads
 use Rattle.cycle.proofs.+addi+arguments+binary+block+body+both+call+class+elifs+expr_stmt+expression+fn_stmt+for_in+for_loop+function+if_stmt+let_stmt+logical+methods+minus+return_stmt+row+statement+try_catch+unary+while_loop.Proof.Order.{elifs-below, expression-below, if-stmt-at, row-below}
 use Rattle.cycle.proofs.Nodes.{an-if, behind-here, behind-later, if-stands}
 use Rattle.cycle.proofs.Visited.{if-visits}
 use Rattle.cycle.proofs.Sizes.{if-size}
-use Rattle.cycle.proofs.Way.{_▹_, adds, arrive, ends, from, give-expr, give-row, headed, meanwhile, narrow-or-wide, next, next-leaf, readable, sets, stand, twice}
+use Rattle.cycle.proofs.Way.{_▹_, adds, arrive, ends, from, give-expr, give-row, held, meanwhile, next, next-leaf, sets, stand, twice}
 use Rattle.cycle.specs.Cycle.{AskElifs, AskExpr, AskRow, GivenStmt, LowersElifs, LowersExpr, LowersRow, UnderStmt}
 use Rattle.forward.proofs.Chains.{if-chain}
 use Rattle.forward.specs.Forward.{end-branch, end-if, sure, test-and-jump}
@@ -108,68 +107,63 @@ after-thens n = omega arith
 
 -- what each function that is called asks and promises; a member of the cycle at a smaller measure
 abbrev pub claims : ℕ → lts.Claims
-claims t = (three-of-reads.Asked, three-of-reads.Learnt, branches-of-reads.Asked, branches-of-reads.Learnt, expression-below t, expression.Post, test-and-jump-reads.Asked, test-and-jump-reads.Learnt, row-below t, row.Post, end-branch-reads.Asked, end-branch-reads.Learnt, elifs-below t, elifs.Post, end-if-reads.Asked, end-if-reads.Learnt)
+claims t = (if-of-reads.Asked, if-of-reads.Learnt, expression-below t, expression.Post, test-and-jump-reads.Asked, test-and-jump-reads.Learnt, row-below t, row.Post, end-branch-reads.Asked, end-branch-reads.Learnt, elifs-below t, elifs.Post, end-if-reads.Asked, end-if-reads.Learnt)
 
-pub three-of-requires : (t : ℕ) → lts.Need-three-of-requires (claims t) (if-stmt-at t) if-stmt.Post
-three-of-requires t c κs = headed ((c .before .before .before .before) .pre .1 .0 .ready) ((c .before .before .before .before) .pre .1 .0 .known) (if-stands ((c .before .before .before .before) .pre .1 .0 .ready .lawful) ((c .before .before .before .before) .pre .1 .0 .known) ((c .before .before .before .before) .pre .1 .1) .0)
-
-pub branches-of-requires : (t : ℕ) → lts.Need-branches-of-requires (claims t) (if-stmt-at t) if-stmt.Post
-branches-of-requires t c κs =
-    let g = (c .before .before .before .before .before .before) .pre .1 .0 in
-    (readable (g .ready) (g .known) .0, readable (g .ready) (g .known) .1, behind-here (g .ready) (if-stands (g .ready .lawful) (g .known) ((c .before .before .before .before .before .before) .pre .1 .1) .1), narrow-or-wide (g .ready))
+pub if-of-requires : (t : ℕ) → lts.Need-if-of-requires (claims t) (if-stmt-at t) if-stmt.Post
+if-of-requires t c κs = held ((c .before .before .before .before) .pre .1 .0 .ready) ((c .before .before .before .before) .pre .1 .0 .known) ((c .before .before .before .before) .pre .1 .1)
 
 pub expression-requires : (t : ℕ) → lts.Need-expression-requires (claims t) (if-stmt-at t) if-stmt.Post
 expression-requires t c κs =
-    let g = (c .before .before .before .before .before .before .before .before .before) .pre .1 .0 in
-    let x = an-if (g .ready .lawful) (g .known) ((c .before .before .before .before .before .before .before .before .before) .pre .1 .1) in
-    rw ((c .before .before .before .before .three-of) .ensures .0) (omega (arith, (c .before .before .before .before .before .before .before .before .before) .pre .0, x .condition .below), condition g x)
+    let g = (c .before .before .before .before .before .before .before) .pre .1 .0 in
+    let x = an-if (g .ready .lawful) (g .known) ((c .before .before .before .before .before .before .before) .pre .1 .1) in
+    rw ((c .before .before .if-of) .ensures .0) (omega (arith, (c .before .before .before .before .before .before .before) .pre .0, x .condition .below), condition g x)
 
 pub test-and-jump-requires : (t : ℕ) → lts.Need-test-and-jump-requires (claims t) (if-stmt-at t) if-stmt.Post
 test-and-jump-requires t c κs =
-    let g = (c .before .before .before .before .before .before .before .before .before .before .before .before .before .before .before) .pre .1 .0 in
-    at-test g (an-if (g .ready .lawful) (g .known) ((c .before .before .before .before .before .before .before .before .before .before .before .before .before .before .before) .pre .1 .1)) (rw ((c .before .before .before .before .before .before .before .before .before .before .three-of) .ensures .0) at ((c .before .before .before .before .before .expression) .ensures))
+    let g = (c .before .before .before .before .before .before .before .before .before .before .before .before .before) .pre .1 .0 in
+    at-test g (an-if (g .ready .lawful) (g .known) ((c .before .before .before .before .before .before .before .before .before .before .before .before .before) .pre .1 .1)) (rw ((c .before .before .before .before .before .before .before .before .if-of) .ensures .0) at ((c .before .before .before .before .before .expression) .ensures))
 
 pub row-requires : (t : ℕ) → lts.Need-row-requires (claims t) (if-stmt-at t) if-stmt.Post
 row-requires t c κs =
-    let g = (c .before .before .before .before .before .before .before .before .before .before .before .before .before .before .before .before .before .before .before .before) .pre .1 .0 in
-    let e = (c .before .before .before .before .before .before .before .before .before .before .before .before .before .before .before .three-of) .ensures .0 in
-    rw ((c .before .before .before .before .before .before .before .before .before .before .before .before .before .branches-of) .ensures .0) (omega (arith, (c .before .before .before .before .before .before .before .before .before .before .before .before .before .before .before .before .before .before .before .before) .pre .0), thens g (an-if (g .ready .lawful) (g .known) ((c .before .before .before .before .before .before .before .before .before .before .before .before .before .before .before .before .before .before .before .before) .pre .1 .1)) (rw e at ((c .before .before .before .before .before .before .before .before .before .before .expression) .ensures)) (rw e at ((c .before .before .before .before .test-and-jump) .ensures)) (behind-here (g .ready) (if-stands (g .ready .lawful) (g .known) ((c .before .before .before .before .before .before .before .before .before .before .before .before .before .before .before .before .before .before .before .before) .pre .1 .1) .1)))
+    let g = (c .before .before .before .before .before .before .before .before .before .before .before .before .before .before .before .before .before .before) .pre .1 .0 in
+    let e = (c .before .before .before .before .before .before .before .before .before .before .before .before .before .if-of) .ensures .0 in
+    rw ((c .before .before .before .before .before .before .before .before .before .before .before .before .before .if-of) .ensures .0) (omega (arith, (c .before .before .before .before .before .before .before .before .before .before .before .before .before .before .before .before .before .before) .pre .0), thens g (an-if (g .ready .lawful) (g .known) ((c .before .before .before .before .before .before .before .before .before .before .before .before .before .before .before .before .before .before) .pre .1 .1)) (rw e at ((c .before .before .before .before .before .before .before .before .before .before .expression) .ensures)) (rw e at ((c .before .before .before .before .test-and-jump) .ensures)) (behind-here (g .ready) (if-stands (g .ready .lawful) (g .known) ((c .before .before .before .before .before .before .before .before .before .before .before .before .before .before .before .before .before .before) .pre .1 .1))))
 
 pub end-branch-requires : (t : ℕ) → lts.Need-end-branch-requires (claims t) (if-stmt-at t) if-stmt.Post
 end-branch-requires t c κs =
-    let g = (c .before .before .before .before .before .before .before .before .before .before .before .before .before .before .before .before .before .before .before .before .before .before .before .before .before .before) .pre .1 .0 in
-    let e = (c .before .before .before .before .before .before .before .before .before .before .before .before .before .before .before .before .before .before .before .before .before .three-of) .ensures .0 in
-    at-branch g (an-if (g .ready .lawful) (g .known) ((c .before .before .before .before .before .before .before .before .before .before .before .before .before .before .before .before .before .before .before .before .before .before .before .before .before .before) .pre .1 .1)) (rw e at ((c .before .before .before .before .before .before .before .before .before .before .before .before .before .before .before .before .expression) .ensures)) (rw e at ((c .before .before .before .before .before .before .before .before .before .before .test-and-jump) .ensures)) (rw ((c .before .before .before .before .before .before .before .before .before .before .before .before .before .before .before .before .before .before .before .branches-of) .ensures .0) at ((c .before .before .before .before .before .row) .ensures))
+    let g = (c .before .before .before .before .before .before .before .before .before .before .before .before .before .before .before .before .before .before .before .before .before .before .before .before) .pre .1 .0 in
+    let e = (c .before .before .before .before .before .before .before .before .before .before .before .before .before .before .before .before .before .before .before .if-of) .ensures .0 in
+    at-branch g (an-if (g .ready .lawful) (g .known) ((c .before .before .before .before .before .before .before .before .before .before .before .before .before .before .before .before .before .before .before .before .before .before .before .before) .pre .1 .1)) (rw e at ((c .before .before .before .before .before .before .before .before .before .before .before .before .before .before .before .before .expression) .ensures)) (rw e at ((c .before .before .before .before .before .before .before .before .before .before .test-and-jump) .ensures)) (rw ((c .before .before .before .before .before .before .before .before .before .before .before .before .before .before .before .before .before .before .before .if-of) .ensures .0) at ((c .before .before .before .before .before .row) .ensures))
 
 pub add-elifs : (t : ℕ) → lts.Need-add-elifs (claims t) (if-stmt-at t) if-stmt.Post
-add-elifs t c = omega (arith, (c .before .before .before .before .before .before .before .before .before .before .before .before .before .before .before .before .before .before .before .before .before .before .before .before .before .branches-of) .ensures .1)
+add-elifs t c = omega (arith, (c .before .before .before .before .before .before .before .before .before .before .before .before .before .before .before .before .before .before .before .before .before .before .before .before .before .if-of) .ensures .1)
 
 pub elifs-requires : (t : ℕ) → lts.Need-elifs-requires (claims t) (if-stmt-at t) if-stmt.Post
 elifs-requires t c κs =
-    let g = (c .before .before .before .before .before .before .before .before .before .before .before .before .before .before .before .before .before .before .before .before .before .before .before .before .before .before .before .before .before .before .before .before) .pre .1 .0 in
-    let e = (c .before .before .before .before .before .before .before .before .before .before .before .before .before .before .before .before .before .before .before .before .before .before .before .before .before .before .before .three-of) .ensures .0 in
-    let b = (c .before .before .before .before .before .before .before .before .before .before .before .before .before .before .before .before .before .before .before .before .before .before .before .before .before .branches-of) .ensures .0 in
-    rw (b, after-thens (word-of (fields (now ((c .before .before .before .before .before .before .before .before .before .before .before .before .before .before .before .before .before .before .before .before .before .before .before .before .before .before .before .before .before .before .before .before) .args .tree))) ((c .before .before .before .before .before .before .before .before .before .before .before .before .before .before .before .before .before .before .before .before .before .before .before .before .before .before .before .before .before .before .before .before) .args .node) 2))
-    (omega (arith, (c .before .before .before .before .before .before .before .before .before .before .before .before .before .before .before .before .before .before .before .before .before .before .before .before .before .before .before .before .before .before .before .before) .pre .0), others g (an-if (g .ready .lawful) (g .known) ((c .before .before .before .before .before .before .before .before .before .before .before .before .before .before .before .before .before .before .before .before .before .before .before .before .before .before .before .before .before .before .before .before) .pre .1 .1)) (rw e at ((c .before .before .before .before .before .before .before .before .before .before .before .before .before .before .before .before .before .before .before .before .before .before .expression) .ensures)) (rw e at ((c .before .before .before .before .before .before .before .before .before .before .before .before .before .before .before .before .test-and-jump) .ensures)) (rw (b) at ((c .before .before .before .before .before .before .before .before .before .before .before .row) .ensures)) (rw e at ((c .before .before .before .before .before .end-branch) .ensures)) (behind-here (g .ready) (if-stands (g .ready .lawful) (g .known) ((c .before .before .before .before .before .before .before .before .before .before .before .before .before .before .before .before .before .before .before .before .before .before .before .before .before .before .before .before .before .before .before .before) .pre .1 .1) .1)))
+    let g = (c .before .before .before .before .before .before .before .before .before .before .before .before .before .before .before .before .before .before .before .before .before .before .before .before .before .before .before .before .before .before) .pre .1 .0 in
+    let e = (c .before .before .before .before .before .before .before .before .before .before .before .before .before .before .before .before .before .before .before .before .before .before .before .before .before .if-of) .ensures .0 in
+    let b = (c .before .before .before .before .before .before .before .before .before .before .before .before .before .before .before .before .before .before .before .before .before .before .before .before .before .if-of) .ensures .0 in
+    rw (b, after-thens (word-of (fields (now ((c .before .before .before .before .before .before .before .before .before .before .before .before .before .before .before .before .before .before .before .before .before .before .before .before .before .before .before .before .before .before) .args .tree))) ((c .before .before .before .before .before .before .before .before .before .before .before .before .before .before .before .before .before .before .before .before .before .before .before .before .before .before .before .before .before .before) .args .node) 2))
+    (omega (arith, (c .before .before .before .before .before .before .before .before .before .before .before .before .before .before .before .before .before .before .before .before .before .before .before .before .before .before .before .before .before .before) .pre .0), others g (an-if (g .ready .lawful) (g .known) ((c .before .before .before .before .before .before .before .before .before .before .before .before .before .before .before .before .before .before .before .before .before .before .before .before .before .before .before .before .before .before) .pre .1 .1)) (rw e at ((c .before .before .before .before .before .before .before .before .before .before .before .before .before .before .before .before .before .before .before .before .before .before .expression) .ensures)) (rw e at ((c .before .before .before .before .before .before .before .before .before .before .before .before .before .before .before .before .test-and-jump) .ensures)) (rw (b) at ((c .before .before .before .before .before .before .before .before .before .before .before .row) .ensures)) (rw e at ((c .before .before .before .before .before .end-branch) .ensures)) (behind-here (g .ready) (if-stands (g .ready .lawful) (g .known) ((c .before .before .before .before .before .before .before .before .before .before .before .before .before .before .before .before .before .before .before .before .before .before .before .before .before .before .before .before .before .before) .pre .1 .1))))
 
 pub row-requires-2 : (t : ℕ) → lts.Need-row-requires-2 (claims t) (if-stmt-at t) if-stmt.Post
 row-requires-2 t c κs =
-    let g = (c .before .before .before .before .before .before .before .before .before .before .before .before .before .before .before .before .before .before .before .before .before .before .before .before .before .before .before .before .before .before .before .before .before .before .before .before .before .before .before) .pre .1 .0 in
-    let e = (c .before .before .before .before .before .before .before .before .before .before .before .before .before .before .before .before .before .before .before .before .before .before .before .before .before .before .before .before .before .before .before .before .before .before .three-of) .ensures .0 in
-    let b = (c .before .before .before .before .before .before .before .before .before .before .before .before .before .before .before .before .before .before .before .before .before .before .before .before .before .before .before .before .before .before .before .before .branches-of) .ensures .0 in
+    let g = (c .before .before .before .before .before .before .before .before .before .before .before .before .before .before .before .before .before .before .before .before .before .before .before .before .before .before .before .before .before .before .before .before .before .before .before .before .before) .pre .1 .0 in
+    let e = (c .before .before .before .before .before .before .before .before .before .before .before .before .before .before .before .before .before .before .before .before .before .before .before .before .before .before .before .before .before .before .before .before .if-of) .ensures .0 in
+    let b = (c .before .before .before .before .before .before .before .before .before .before .before .before .before .before .before .before .before .before .before .before .before .before .before .before .before .before .before .before .before .before .before .before .if-of) .ensures .0 in
     rw (b) (
-      omega (arith, (c .before .before .before .before .before .before .before .before .before .before .before .before .before .before .before .before .before .before .before .before .before .before .before .before .before .before .before .before .before .before .before .before .before .before .before .before .before .before .before) .pre .0),
-      elses g (an-if (g .ready .lawful) (g .known) ((c .before .before .before .before .before .before .before .before .before .before .before .before .before .before .before .before .before .before .before .before .before .before .before .before .before .before .before .before .before .before .before .before .before .before .before .before .before .before .before) .pre .1 .1)) (rw e at ((c .before .before .before .before .before .before .before .before .before .before .before .before .before .before .before .before .before .before .before .before .before .before .before .before .before .before .before .before .before .expression) .ensures)) (rw e at ((c .before .before .before .before .before .before .before .before .before .before .before .before .before .before .before .before .before .before .before .before .before .before .before .test-and-jump) .ensures)) (rw (b) at ((c .before .before .before .before .before .before .before .before .before .before .before .before .before .before .before .before .before .before .row) .ensures)) (rw e at ((c .before .before .before .before .before .before .before .before .before .before .before .before .end-branch) .ensures))
-          (rw (b, after-thens (word-of (fields (now ((c .before .before .before .before .before .before .before .before .before .before .before .before .before .before .before .before .before .before .before .before .before .before .before .before .before .before .before .before .before .before .before .before .before .before .before .before .before .before .before) .args .tree))) ((c .before .before .before .before .before .before .before .before .before .before .before .before .before .before .before .before .before .before .before .before .before .before .before .before .before .before .before .before .before .before .before .before .before .before .before .before .before .before .before) .args .node) 2)) at ((c .before .before .before .before .before .before .elifs) .ensures)) (behind-here (g .ready) (if-stands (g .ready .lawful) (g .known) ((c .before .before .before .before .before .before .before .before .before .before .before .before .before .before .before .before .before .before .before .before .before .before .before .before .before .before .before .before .before .before .before .before .before .before .before .before .before .before .before) .pre .1 .1) .1)),
+      omega (arith, (c .before .before .before .before .before .before .before .before .before .before .before .before .before .before .before .before .before .before .before .before .before .before .before .before .before .before .before .before .before .before .before .before .before .before .before .before .before) .pre .0),
+      elses g (an-if (g .ready .lawful) (g .known) ((c .before .before .before .before .before .before .before .before .before .before .before .before .before .before .before .before .before .before .before .before .before .before .before .before .before .before .before .before .before .before .before .before .before .before .before .before .before) .pre .1 .1)) (rw e at ((c .before .before .before .before .before .before .before .before .before .before .before .before .before .before .before .before .before .before .before .before .before .before .before .before .before .before .before .before .before .expression) .ensures)) (rw e at ((c .before .before .before .before .before .before .before .before .before .before .before .before .before .before .before .before .before .before .before .before .before .before .before .test-and-jump) .ensures)) (rw (b) at ((c .before .before .before .before .before .before .before .before .before .before .before .before .before .before .before .before .before .before .row) .ensures)) (rw e at ((c .before .before .before .before .before .before .before .before .before .before .before .before .end-branch) .ensures))
+          (rw (b, after-thens (word-of (fields (now ((c .before .before .before .before .before .before .before .before .before .before .before .before .before .before .before .before .before .before .before .before .before .before .before .before .before .before .before .before .before .before .before .before .before .before .before .before .before) .args .tree))) ((c .before .before .before .before .before .before .before .before .before .before .before .before .before .before .before .before .before .before .before .before .before .before .before .before .before .before .before .before .before .before .before .before .before .before .before .before .before) .args .node) 2)) at ((c .before .before .before .before .before .before .elifs) .ensures)) (behind-here (g .ready) (if-stands (g .ready .lawful) (g .known) ((c .before .before .before .before .before .before .before .before .before .before .before .before .before .before .before .before .before .before .before .before .before .before .before .before .before .before .before .before .before .before .before .before .before .before .before .before .before) .pre .1 .1))),
     )
 
 pub end-if-requires : (t : ℕ) → lts.Need-end-if-requires (claims t) (if-stmt-at t) if-stmt.Post
 end-if-requires t c κs =
-    let g = (c .before .before .before .before .before .before .before .before .before .before .before .before .before .before .before .before .before .before .before .before .before .before .before .before .before .before .before .before .before .before .before .before .before .before .before .before .before .before .before .before .before .before .before .before .before) .pre .1 .0 in
-    let e = (c .before .before .before .before .before .before .before .before .before .before .before .before .before .before .before .before .before .before .before .before .before .before .before .before .before .before .before .before .before .before .before .before .before .before .before .before .before .before .before .before .three-of) .ensures .0 in
-    let b = (c .before .before .before .before .before .before .before .before .before .before .before .before .before .before .before .before .before .before .before .before .before .before .before .before .before .before .before .before .before .before .before .before .before .before .before .before .before .before .branches-of) .ensures .0 in
-    at-end g (an-if (g .ready .lawful) (g .known) ((c .before .before .before .before .before .before .before .before .before .before .before .before .before .before .before .before .before .before .before .before .before .before .before .before .before .before .before .before .before .before .before .before .before .before .before .before .before .before .before .before .before .before .before .before .before) .pre .1 .1)) (rw e at ((c .before .before .before .before .before .before .before .before .before .before .before .before .before .before .before .before .before .before .before .before .before .before .before .before .before .before .before .before .before .before .before .before .before .before .before .expression) .ensures)) (rw e at ((c .before .before .before .before .before .before .before .before .before .before .before .before .before .before .before .before .before .before .before .before .before .before .before .before .before .before .before .before .before .test-and-jump) .ensures)) (rw (b) at ((c .before .before .before .before .before .before .before .before .before .before .before .before .before .before .before .before .before .before .before .before .before .before .before .before .row) .ensures)) (rw e at ((c .before .before .before .before .before .before .before .before .before .before .before .before .before .before .before .before .before .before .end-branch) .ensures))
-    (rw (b, after-thens (word-of (fields (now ((c .before .before .before .before .before .before .before .before .before .before .before .before .before .before .before .before .before .before .before .before .before .before .before .before .before .before .before .before .before .before .before .before .before .before .before .before .before .before .before .before .before .before .before .before .before) .args .tree))) ((c .before .before .before .before .before .before .before .before .before .before .before .before .before .before .before .before .before .before .before .before .before .before .before .before .before .before .before .before .before .before .before .before .before .before .before .before .before .before .before .before .before .before .before .before .before) .args .node) 2)) at ((c .before .before .before .before .before .before .before .before .before .before .before .before .elifs) .ensures)) (rw (b) at ((c .before .before .before .before .before .row2) .ensures))
+    let g = (c .before .before .before .before .before .before .before .before .before .before .before .before .before .before .before .before .before .before .before .before .before .before .before .before .before .before .before .before .before .before .before .before .before .before .before .before .before .before .before .before .before .before .before) .pre .1 .0 in
+    let e = (c .before .before .before .before .before .before .before .before .before .before .before .before .before .before .before .before .before .before .before .before .before .before .before .before .before .before .before .before .before .before .before .before .before .before .before .before .before .before .if-of) .ensures .0 in
+    let b = (c .before .before .before .before .before .before .before .before .before .before .before .before .before .before .before .before .before .before .before .before .before .before .before .before .before .before .before .before .before .before .before .before .before .before .before .before .before .before .if-of) .ensures .0 in
+    at-end g (an-if (g .ready .lawful) (g .known) ((c .before .before .before .before .before .before .before .before .before .before .before .before .before .before .before .before .before .before .before .before .before .before .before .before .before .before .before .before .before .before .before .before .before .before .before .before .before .before .before .before .before .before .before) .pre .1 .1)) (rw e at ((c .before .before .before .before .before .before .before .before .before .before .before .before .before .before .before .before .before .before .before .before .before .before .before .before .before .before .before .before .before .before .before .before .before .before .before .expression) .ensures)) (rw e at ((c .before .before .before .before .before .before .before .before .before .before .before .before .before .before .before .before .before .before .before .before .before .before .before .before .before .before .before .before .before .test-and-jump) .ensures)) (rw (b) at ((c .before .before .before .before .before .before .before .before .before .before .before .before .before .before .before .before .before .before .before .before .before .before .before .before .row) .ensures)) (rw e at ((c .before .before .before .before .before .before .before .before .before .before .before .before .before .before .before .before .before .before .end-branch) .ensures))
+    (rw (b, after-thens (word-of (fields (now ((c .before .before .before .before .before .before .before .before .before .before .before .before .before .before .before .before .before .before .before .before .before .before .before .before .before .before .before .before .before .before .before .before .before .before .before .before .before .before .before .before .before .before .before) .args .tree))) ((c .before .before .before .before .before .before .before .before .before .before .before .before .before .before .before .before .before .before .before .before .before .before .before .before .before .before .before .before .before .before .before .before .before .before .before .before .before .before .before .before .before .before .before) .args .node) 2)) at ((c .before .before .before .before .before .before .before .before .before .before .before .before .elifs) .ensures)) (rw (b) at ((c .before .before .before .before .before .row2) .ensures))
 
 pub same-length : (t : ℕ) → lts.Need-same-length (claims t) (if-stmt-at t) if-stmt.Post
 same-length t c =
@@ -181,8 +175,8 @@ same-length-2 t c = (c .before .before .before .before .before .before .before .
 
 pub returns : (t : ℕ) → lts.Need-returns (claims t) (if-stmt-at t) if-stmt.Post
 returns t c =
-    let g = (c .before .before .before .before .before .before .before .before .before .before .before .before .before .before .before .before .before .before .before .before .before .before .before .before .before .before .before .before .before .before .before .before .before .before .before .before .before .before .before .before .before .before .before .before .before .before .before .before) .pre .1 .0 in
-    let e = (c .before .before .before .before .before .before .before .before .before .before .before .before .before .before .before .before .before .before .before .before .before .before .before .before .before .before .before .before .before .before .before .before .before .before .before .before .before .before .before .before .before .before .before .three-of) .ensures .0 in
-    let b = (c .before .before .before .before .before .before .before .before .before .before .before .before .before .before .before .before .before .before .before .before .before .before .before .before .before .before .before .before .before .before .before .before .before .before .before .before .before .before .before .before .before .branches-of) .ensures .0 in
-    lowers g (an-if (g .ready .lawful) (g .known) ((c .before .before .before .before .before .before .before .before .before .before .before .before .before .before .before .before .before .before .before .before .before .before .before .before .before .before .before .before .before .before .before .before .before .before .before .before .before .before .before .before .before .before .before .before .before .before .before .before) .pre .1 .1)) (rw e at ((c .before .before .before .before .before .before .before .before .before .before .before .before .before .before .before .before .before .before .before .before .before .before .before .before .before .before .before .before .before .before .before .before .before .before .before .before .before .before .expression) .ensures)) (rw e at ((c .before .before .before .before .before .before .before .before .before .before .before .before .before .before .before .before .before .before .before .before .before .before .before .before .before .before .before .before .before .before .before .before .test-and-jump) .ensures)) (rw (b) at ((c .before .before .before .before .before .before .before .before .before .before .before .before .before .before .before .before .before .before .before .before .before .before .before .before .before .before .before .row) .ensures)) (rw e at ((c .before .before .before .before .before .before .before .before .before .before .before .before .before .before .before .before .before .before .before .before .before .end-branch) .ensures))
-    (rw (b, after-thens (word-of (fields (now ((c .before .before .before .before .before .before .before .before .before .before .before .before .before .before .before .before .before .before .before .before .before .before .before .before .before .before .before .before .before .before .before .before .before .before .before .before .before .before .before .before .before .before .before .before .before .before .before .before) .args .tree))) ((c .before .before .before .before .before .before .before .before .before .before .before .before .before .before .before .before .before .before .before .before .before .before .before .before .before .before .before .before .before .before .before .before .before .before .before .before .before .before .before .before .before .before .before .before .before .before .before .before) .args .node) 2)) at ((c .before .before .before .before .before .before .before .before .before .before .before .before .before .before .before .elifs) .ensures)) (rw (b) at ((c .before .before .before .before .before .before .before .before .row2) .ensures)) ((c .before .before .end-if) .ensures)
+    let g = (c .before .before .before .before .before .before .before .before .before .before .before .before .before .before .before .before .before .before .before .before .before .before .before .before .before .before .before .before .before .before .before .before .before .before .before .before .before .before .before .before .before .before .before .before .before .before) .pre .1 .0 in
+    let e = (c .before .before .before .before .before .before .before .before .before .before .before .before .before .before .before .before .before .before .before .before .before .before .before .before .before .before .before .before .before .before .before .before .before .before .before .before .before .before .before .before .before .if-of) .ensures .0 in
+    let b = (c .before .before .before .before .before .before .before .before .before .before .before .before .before .before .before .before .before .before .before .before .before .before .before .before .before .before .before .before .before .before .before .before .before .before .before .before .before .before .before .before .before .if-of) .ensures .0 in
+    lowers g (an-if (g .ready .lawful) (g .known) ((c .before .before .before .before .before .before .before .before .before .before .before .before .before .before .before .before .before .before .before .before .before .before .before .before .before .before .before .before .before .before .before .before .before .before .before .before .before .before .before .before .before .before .before .before .before .before) .pre .1 .1)) (rw e at ((c .before .before .before .before .before .before .before .before .before .before .before .before .before .before .before .before .before .before .before .before .before .before .before .before .before .before .before .before .before .before .before .before .before .before .before .before .before .before .expression) .ensures)) (rw e at ((c .before .before .before .before .before .before .before .before .before .before .before .before .before .before .before .before .before .before .before .before .before .before .before .before .before .before .before .before .before .before .before .before .test-and-jump) .ensures)) (rw (b) at ((c .before .before .before .before .before .before .before .before .before .before .before .before .before .before .before .before .before .before .before .before .before .before .before .before .before .before .before .row) .ensures)) (rw e at ((c .before .before .before .before .before .before .before .before .before .before .before .before .before .before .before .before .before .before .before .before .before .end-branch) .ensures))
+    (rw (b, after-thens (word-of (fields (now ((c .before .before .before .before .before .before .before .before .before .before .before .before .before .before .before .before .before .before .before .before .before .before .before .before .before .before .before .before .before .before .before .before .before .before .before .before .before .before .before .before .before .before .before .before .before .before) .args .tree))) ((c .before .before .before .before .before .before .before .before .before .before .before .before .before .before .before .before .before .before .before .before .before .before .before .before .before .before .before .before .before .before .before .before .before .before .before .before .before .before .before .before .before .before .before .before .before .before) .args .node) 2)) at ((c .before .before .before .before .before .before .before .before .before .before .before .before .before .before .before .elifs) .ensures)) (rw (b) at ((c .before .before .before .before .before .before .before .before .row2) .ensures)) ((c .before .before .end-if) .ensures)

@@ -6,12 +6,12 @@ use Rattle.cycle.proofs.+addi+arguments+binary+block+body+both+call+cla
 use Rattle.routines.proofs.end_logical.Reads as end-logical-reads
 use Rattle.code.proofs.test_and_jump.Reads as test-and-jump-reads
 use Rattle.cycle.proofs.operators.or_flag.Reads as or-flag-reads
-use Rattle.cycle.proofs.reading.words_of.Reads as words-of-reads
+use Rattle.nodes.proofs.logical_of.Reads as logical-of-reads
 use Rattle.cycle.proofs.+addi+arguments+binary+block+body+both+call+class+elifs+expr_stmt+expression+fn_stmt+for_in+for_loop+function+if_stmt+let_stmt+logical+methods+minus+return_stmt+row+statement+try_catch+unary+while_loop.Proof.Order.{expression-below, logical-at}
-use Rattle.cycle.proofs.Nodes.{a-logical, logical-stands}
+use Rattle.cycle.proofs.Nodes.{a-logical}
 use Rattle.cycle.proofs.Visited.{logical-visits}
 use Rattle.cycle.proofs.Sizes.{logical-size}
-use Rattle.cycle.proofs.Way.{_▹_, adds, arrive, ends, from, give-expr, headed, meanwhile, next, next-leaf, readable, sets, stand, twice}
+use Rattle.cycle.proofs.Way.{_▹_, adds, arrive, ends, from, give-expr, held, meanwhile, next, next-leaf, sets, stand, twice}
 use Rattle.cycle.specs.Cycle.{AskExpr, GivenExpr, LowersExpr, UnderExpr}
 use Rattle.forward.proofs.Chains.{logical-chain}
 use Rattle.forward.specs.Forward.{end-logical, sure, test-and-jump}
@@ -79,16 +79,16 @@ module _ {t w : List ℕ} {p : Scope} {s : Step} {i : ℕ} (g : GivenExpr t w p 
 
 -- what each function that is called asks and promises; a member of the cycle at a smaller measure
 abbrev pub claims : ℕ → lts.Claims
-claims t = (words-of-reads.Asked, words-of-reads.Learnt, expression-below t, expression.Post, or-flag-reads.Asked, or-flag-reads.Learnt, test-and-jump-reads.Asked, test-and-jump-reads.Learnt, end-logical-reads.Asked, end-logical-reads.Learnt)
+claims t = (logical-of-reads.Asked, logical-of-reads.Learnt, expression-below t, expression.Post, or-flag-reads.Asked, or-flag-reads.Learnt, test-and-jump-reads.Asked, test-and-jump-reads.Learnt, end-logical-reads.Asked, end-logical-reads.Learnt)
 
-pub words-of-requires : (t : ℕ) → lts.Need-words-of-requires (claims t) (logical-at t) logical.Post
-words-of-requires t c κs = headed ((c .before .before .before .before) .pre .1 .0 .ready) ((c .before .before .before .before) .pre .1 .0 .known) (logical-stands ((c .before .before .before .before) .pre .1 .0 .ready .lawful) ((c .before .before .before .before) .pre .1 .0 .known) ((c .before .before .before .before) .pre .1 .1) .0)
+pub logical-of-requires : (t : ℕ) → lts.Need-logical-of-requires (claims t) (logical-at t) logical.Post
+logical-of-requires t c κs = held ((c .before .before .before .before) .pre .1 .0 .ready) ((c .before .before .before .before) .pre .1 .0 .known) ((c .before .before .before .before) .pre .1 .1)
 
 pub expression-requires : (t : ℕ) → lts.Need-expression-requires (claims t) (logical-at t) logical.Post
 expression-requires t c κs =
     let g = (c .before .before .before .before .before .before .before) .pre .1 .0 in
     let x = a-logical (g .ready .lawful) (g .known) ((c .before .before .before .before .before .before .before) .pre .1 .1) in
-    rw ((c .before .before .words-of) .ensures .0) (omega (arith, (c .before .before .before .before .before .before .before) .pre .0, x .left .below), left g x)
+    rw ((c .before .before .logical-of) .ensures) (omega (arith, (c .before .before .before .before .before .before .before) .pre .0, x .left .below), left g x)
 
 pub or-flag-requires : (t : ℕ) → lts.Need-or-flag-requires (claims t) (logical-at t) logical.Post
 or-flag-requires t c κs = tt
@@ -96,19 +96,19 @@ or-flag-requires t c κs = tt
 pub test-and-jump-requires : (t : ℕ) → lts.Need-test-and-jump-requires (claims t) (logical-at t) logical.Post
 test-and-jump-requires t c κs =
     let g = (c .before .before .before .before .before .before .before .before .before .before .before .before .before .before) .pre .1 .0 in
-    at-test g (a-logical (g .ready .lawful) (g .known) ((c .before .before .before .before .before .before .before .before .before .before .before .before .before .before) .pre .1 .1)) (rw ((c .before .before .before .before .before .before .before .before .before .words-of) .ensures .0) at ((c .before .before .before .before .before .before .expression) .ensures)) _ ((c .or-flag) .ensures .1)
+    at-test g (a-logical (g .ready .lawful) (g .known) ((c .before .before .before .before .before .before .before .before .before .before .before .before .before .before) .pre .1 .1)) (rw ((c .before .before .before .before .before .before .before .before .before .logical-of) .ensures) at ((c .before .before .before .before .before .before .expression) .ensures)) _ ((c .or-flag) .ensures .1)
 
 pub expression-requires-2 : (t : ℕ) → lts.Need-expression-requires-2 (claims t) (logical-at t) logical.Post
 expression-requires-2 t c κs =
     let g = (c .before .before .before .before .before .before .before .before .before .before .before .before .before .before .before .before .before .before .before) .pre .1 .0 in
     let x = a-logical (g .ready .lawful) (g .known) ((c .before .before .before .before .before .before .before .before .before .before .before .before .before .before .before .before .before .before .before) .pre .1 .1) in
-    let e = (c .before .before .before .before .before .before .before .before .before .before .before .before .before .before .words-of) .ensures .0 in
+    let e = (c .before .before .before .before .before .before .before .before .before .before .before .before .before .before .logical-of) .ensures in
     rw e (omega (arith, (c .before .before .before .before .before .before .before .before .before .before .before .before .before .before .before .before .before .before .before) .pre .0, x .right .below), right g x (rw e at ((c .before .before .before .before .before .before .before .before .before .before .before .expression) .ensures)) (rw ((c .before .before .before .before .before .or-flag) .ensures .0, e) at ((c .before .before .before .before .test-and-jump) .ensures)))
 
 pub end-logical-requires : (t : ℕ) → lts.Need-end-logical-requires (claims t) (logical-at t) logical.Post
 end-logical-requires t c κs =
     let g = (c .before .before .before .before .before .before .before .before .before .before .before .before .before .before .before .before .before .before .before .before .before .before .before .before .before) .pre .1 .0 in
-    let e = (c .before .before .before .before .before .before .before .before .before .before .before .before .before .before .before .before .before .before .before .before .words-of) .ensures .0 in
+    let e = (c .before .before .before .before .before .before .before .before .before .before .before .before .before .before .before .before .before .before .before .before .logical-of) .ensures in
     at-end g (a-logical (g .ready .lawful) (g .known) ((c .before .before .before .before .before .before .before .before .before .before .before .before .before .before .before .before .before .before .before .before .before .before .before .before .before) .pre .1 .1)) (rw e at ((c .before .before .before .before .before .before .before .before .before .before .before .before .before .before .before .before .before .expression) .ensures)) (rw ((c .before .before .before .before .before .before .before .before .before .before .before .or-flag) .ensures .0, e) at ((c .before .before .before .before .before .before .before .before .before .before .test-and-jump) .ensures)) (rw e at ((c .before .before .before .before .before .expression2) .ensures))
 
 pub same-length : (t : ℕ) → lts.Need-same-length (claims t) (logical-at t) logical.Post
@@ -120,5 +120,5 @@ same-length-2 t c = (c .before .before .before .before .before .before .before .
 pub returns : (t : ℕ) → lts.Need-returns (claims t) (logical-at t) logical.Post
 returns t c =
     let g = (c .before .before .before .before .before .before .before .before .before .before .before .before .before .before .before .before .before .before .before .before .before .before .before .before .before .before .before .before) .pre .1 .0 in
-    let e = (c .before .before .before .before .before .before .before .before .before .before .before .before .before .before .before .before .before .before .before .before .before .before .before .words-of) .ensures .0 in
+    let e = (c .before .before .before .before .before .before .before .before .before .before .before .before .before .before .before .before .before .before .before .before .before .before .before .logical-of) .ensures in
     lowers g (a-logical (g .ready .lawful) (g .known) ((c .before .before .before .before .before .before .before .before .before .before .before .before .before .before .before .before .before .before .before .before .before .before .before .before .before .before .before .before) .pre .1 .1)) (rw e at ((c .before .before .before .before .before .before .before .before .before .before .before .before .before .before .before .before .before .before .before .before .expression) .ensures)) (rw ((c .before .before .before .before .before .before .before .before .before .before .before .before .before .before .or-flag) .ensures .0, e) at ((c .before .before .before .before .before .before .before .before .before .before .before .before .before .test-and-jump) .ensures)) (rw e at ((c .before .before .before .before .before .before .before .before .expression2) .ensures)) (rw e at ((c .before .before .end-logical) .ensures))

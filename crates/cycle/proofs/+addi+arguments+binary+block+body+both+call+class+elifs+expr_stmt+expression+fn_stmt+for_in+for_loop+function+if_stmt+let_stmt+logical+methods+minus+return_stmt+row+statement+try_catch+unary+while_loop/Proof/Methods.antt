@@ -3,14 +3,14 @@ use Prim.Native.Nat.{ℕ, _+_, _-_, _*_, _<_, _≤_}
 use Rattle.cycle.proofs.fn_stmt.Reads as fn-stmt
 use Rattle.cycle.proofs.methods.Reads as methods
 use Rattle.cycle.proofs.+addi+arguments+binary+block+body+both+call+class+elifs+expr_stmt+expression+fn_stmt+for_in+for_loop+function+if_stmt+let_stmt+logical+methods+minus+return_stmt+row+statement+try_catch+unary+while_loop.Lts-methods as lts
-use Rattle.cycle.proofs.reading.payload_of.Reads as payload-of-reads
-use Rattle.cycle.proofs.reading.words_of.Reads as words-of-reads
+use Rattle.nodes.proofs.payload_of.Reads as payload-of-reads
+use Rattle.nodes.proofs.define_of.Reads as define-of-reads
 use Rattle.nodes.proofs.child.Reads as child-reads
 use Rattle.routines.proofs.add_method.Reads as add-method-reads
 use Rattle.store.proofs.settle.Reads as settle-reads
 use Rattle.cycle.proofs.+addi+arguments+binary+block+body+both+call+class+elifs+expr_stmt+expression+fn_stmt+for_in+for_loop+function+if_stmt+let_stmt+logical+methods+minus+return_stmt+row+statement+try_catch+unary+while_loop.Proof.Order.{fn-stmt-below, methods-at}
-use Rattle.cycle.proofs.Way.{after-ticked, from, headed, inside, placed}
-use Rattle.cycle.proofs.Nodes.{a-define, define-stands}
+use Rattle.cycle.proofs.Way.{after-ticked, from, held, inside, placed}
+use Rattle.cycle.proofs.Nodes.{a-define}
 use Rattle.cycle.proofs.Sizes.{fun-size, funs-size, funs-size-none}
 use Rattle.cycle.proofs.Turns.{Turning, closed, none-turned, turned}
 use Rattle.cycle.proofs.Way.{_▹_, arrive, meanwhile, next-leaf, readable, small, spends, stand}
@@ -37,7 +37,7 @@ use lib.Dec.{lit<}
 use mathlib.Core.List.{List}
 use mathlib.Core.Path.{_∙_, _≡_, ap}
 use native.Mathlib.Omega.{arith}
-use Rattle.cycle.proofs.Counts.{few-words}
+use Rattle.nodes.proofs.Headers.{few-words}
 
 pub record Methoding (t w0 o0 : List ℕ) (p : Scope) (s0 : Step) (i from to mark op class : ℕ) (w o : List ℕ) (s : Step) (k : ℕ) : Type 0 where
   pub low : from ≤ k
@@ -116,7 +116,7 @@ module _ {t w0 : List ℕ} {p : Scope} {s0 : Step} {i f g skew op class : ℕ} (
 
 -- what each function that is called asks and promises; a member of the cycle at a smaller measure
 abbrev pub claims : ℕ → lts.Claims
-claims t = (payload-of-reads.Asked, payload-of-reads.Learnt, child-reads.Asked, child-reads.Learnt, words-of-reads.Asked, words-of-reads.Learnt, fn-stmt-below t, fn-stmt.Post, add-method-reads.Asked, add-method-reads.Learnt, visit-reads.Asked, visit-reads.Learnt, settle-reads.Asked, settle-reads.Learnt)
+claims t = (payload-of-reads.Asked, payload-of-reads.Learnt, child-reads.Asked, child-reads.Learnt, define-of-reads.Asked, define-of-reads.Learnt, fn-stmt-below t, fn-stmt.Post, add-method-reads.Asked, add-method-reads.Learnt, visit-reads.Asked, visit-reads.Learnt, settle-reads.Asked, settle-reads.Learnt)
 
 abbrev pub Inv-loop : lts.InvT-loop
 Inv-loop tree work₀ out₀ scope node from to skew mark op class payload last₀ k₀ work out last k = Methoding tree work₀ out₀ scope last₀ node from to mark op class work out last k
@@ -138,11 +138,11 @@ add-child t c =
 pub child-requires : (t : ℕ) → lts.Need-child-requires (claims t) (methods-at t) methods.Post Inv-loop μ-loop
 child-requires t c κs = rw ((c .before .before .payload-of) .ensures) (omega (arith, (c .loop-test) .taken, (c .before .before .before .before .before .before .before) .pre .1 .0 .ends, (c .before .before .before .before .before .before .before) .pre .1 .0 .behind .size))
 
-pub words-of-requires : (t : ℕ) → lts.Need-words-of-requires (claims t) (methods-at t) methods.Post Inv-loop μ-loop
-words-of-requires t c κs =
+pub define-of-requires : (t : ℕ) → lts.Need-define-of-requires (claims t) (methods-at t) methods.Post Inv-loop μ-loop
+define-of-requires t c κs =
     let e = placed ((c .before .before .before .before .before .before .before .before .before) .pre .1 .0) ((c .before .before .before .loop) .inv .low) (rw ((c .before .before .before .before .payload-of) .ensures) at ((c .before .child) .ensures .0)) in
     let g = child ((c .before .before .before .before .before .before .before .before .before) .pre .1) _ ((c .before .before .before .loop) .inv) ((c .before .before .loop-test) .taken) in
-    rw e (headed (g .0 .ready) (g .0 .known) (define-stands (g .0 .ready .lawful) (g .0 .known) (g .1) .0))
+    rw e (held (g .0 .ready) (g .0 .known) (g .1))
 
 pub fn-stmt-requires : (t : ℕ) → lts.Need-fn-stmt-requires (claims t) (methods-at t) methods.Post Inv-loop μ-loop
 fn-stmt-requires t c κs =
@@ -157,7 +157,7 @@ pub add-method-requires : (t : ℕ) → lts.Need-add-method-requires (claims t) 
 add-method-requires t c κs =
     let e = placed ((c .before .before .before .before .before .before .before .before .before .before .before .before .before .before .before .before .before .before) .pre .1 .0) ((c .before .before .before .before .before .before .before .before .before .before .before .before .loop) .inv .low) (rw ((c .before .before .before .before .before .before .before .before .before .before .before .before .before .payload-of) .ensures) at ((c .before .before .before .before .before .before .before .before .before .before .child) .ensures .0)) in
     let y = at-add ((c .before .before .before .before .before .before .before .before .before .before .before .before .before .before .before .before .before .before) .pre .1) _ ((c .before .before .before .before .before .before .before .before .before .before .before .before .loop) .inv) ((c .before .before .before .before .before .before .before .before .before .before .before .loop-test) .taken) (rw e at ((c .before .before .before .before .before .fn-stmt) .ensures)) in
-    (y .0, y .1, ((c .before .before .before .before .before .before .before .before .words-of) .ensures .1 .0 (λ z. omega arith)), y .2)
+    (y .0, y .1, rw ((c .before .before .before .before .before .before .before .before .define-of) .ensures .0, e) (omega (arith, defined ((c .before .before .before .before .before .before .before .before .before .before .before .before .before .before .before .before .before .before) .pre .1) _ ((c .before .before .before .before .before .before .before .before .before .before .before .before .loop) .inv) ((c .before .before .before .before .before .before .before .before .before .before .before .loop-test) .taken) .name)), y .2)
 
 pub visit-requires : (t : ℕ) → lts.Need-visit-requires (claims t) (methods-at t) methods.Post Inv-loop μ-loop
 visit-requires t c κs = omega (arith, (c .before .before .before .add-method) .ensures .moves .fine .sound .long)
@@ -171,7 +171,7 @@ loop-less t c = omega (arith, (c .before .before .before .before .before .before
 pub loop-again : (t : ℕ) → lts.Need-loop-again (claims t) (methods-at t) methods.Post Inv-loop μ-loop
 loop-again t c =
     let e = placed ((c .before .before .before .before .before .before .before .before .before .before .before .before .before .before .before .before .before .before .before .before .before .before .before .before .before) .pre .1 .0) ((c .before .before .before .before .before .before .before .before .before .before .before .before .before .before .before .before .before .before .before .loop) .inv .low) (rw ((c .before .before .before .before .before .before .before .before .before .before .before .before .before .before .before .before .before .before .before .before .payload-of) .ensures) at ((c .before .before .before .before .before .before .before .before .before .before .before .before .before .before .before .before .before .child) .ensures .0)) in
-    turn ((c .before .before .before .before .before .before .before .before .before .before .before .before .before .before .before .before .before .before .before .before .before .before .before .before .before) .pre .1) _ ((c .before .before .before .before .before .before .before .before .before .before .before .before .before .before .before .before .before .before .before .loop) .inv) ((c .before .before .before .before .before .before .before .before .before .before .before .before .before .before .before .before .before .before .loop-test) .taken) (rw e at ((c .before .before .before .before .before .before .before .before .before .before .before .before .fn-stmt) .ensures)) (rw ((c .before .before .before .before .before .before .before .before .before .before .before .before .before .before .before .words-of) .ensures .0, e) at ((c .before .before .before .before .before .before .add-method) .ensures)) ((c .before .before .visit) .ensures)
+    turn ((c .before .before .before .before .before .before .before .before .before .before .before .before .before .before .before .before .before .before .before .before .before .before .before .before .before) .pre .1) _ ((c .before .before .before .before .before .before .before .before .before .before .before .before .before .before .before .before .before .before .before .loop) .inv) ((c .before .before .before .before .before .before .before .before .before .before .before .before .before .before .before .before .before .before .loop-test) .taken) (rw e at ((c .before .before .before .before .before .before .before .before .before .before .before .before .fn-stmt) .ensures)) (rw ((c .before .before .before .before .before .before .before .before .before .before .before .before .before .before .before .define-of) .ensures .0, e) at ((c .before .before .before .before .before .before .add-method) .ensures)) ((c .before .before .visit) .ensures)
 
 pub settle-requires : (t : ℕ) → lts.Need-settle-requires (claims t) (methods-at t) methods.Post Inv-loop μ-loop
 settle-requires t c κs = tt

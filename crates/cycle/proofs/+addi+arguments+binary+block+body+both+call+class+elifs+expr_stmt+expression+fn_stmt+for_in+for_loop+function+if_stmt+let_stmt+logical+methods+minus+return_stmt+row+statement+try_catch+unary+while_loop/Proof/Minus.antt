@@ -5,13 +5,13 @@ use Rattle.cycle.proofs.expression.Reads as expression
 use Rattle.cycle.proofs.minus.Reads as minus
 use Rattle.cycle.proofs.+addi+arguments+binary+block+body+both+call+class+elifs+expr_stmt+expression+fn_stmt+for_in+for_loop+function+if_stmt+let_stmt+logical+methods+minus+return_stmt+row+statement+try_catch+unary+while_loop.Lts-minus as lts
 use Rattle.code.proofs.roll_back.Reads as roll-back-reads
-use Rattle.cycle.proofs.reading.words_of.Reads as words-of-reads
+use Rattle.nodes.proofs.binary_of.Reads as binary-of-reads
 use Rattle.store.proofs.next_register.Reads as next-register-reads
 use Rattle.cycle.proofs.+addi+arguments+binary+block+body+both+call+class+elifs+expr_stmt+expression+fn_stmt+for_in+for_loop+function+if_stmt+let_stmt+logical+methods+minus+return_stmt+row+statement+try_catch+unary+while_loop.Proof.Order.{both-below, expression-below, minus-at}
 use Rattle.cycle.proofs.Dropped.{Rolls, next-rolled, rolled, rolls}
-use Rattle.cycle.proofs.Nodes.{a-binary, binary-stands}
+use Rattle.cycle.proofs.Nodes.{a-binary}
 use Rattle.cycle.proofs.Sizes.{binary-size}
-use Rattle.cycle.proofs.Way.{Way, _▹_, arrive, ends, from, give-expr, headed, next, next-leaf, readable, stand}
+use Rattle.cycle.proofs.Way.{Way, _▹_, arrive, ends, from, give-expr, held, next, next-leaf, stand}
 use Rattle.cycle.specs.Cycle.{AskExpr, GivenExpr, LowersBoth, LowersExpr, LowersMinus, seen}
 use Rattle.forward.proofs.Chains.{minus-chain}
 use Rattle.forward.specs.Forward.{fwd-number}
@@ -57,16 +57,16 @@ module _ {t w : List ℕ} {p : Scope} {s : Step} {i : ℕ} (g : GivenExpr t w p 
 
 -- what each function that is called asks and promises; a member of the cycle at a smaller measure
 abbrev pub claims : ℕ → lts.Claims
-claims t = (words-of-reads.Asked, words-of-reads.Learnt, expression-below t, expression.Post, next-register-reads.Asked, next-register-reads.Learnt, roll-back-reads.Asked, roll-back-reads.Learnt, both-below t, both.Post)
+claims t = (binary-of-reads.Asked, binary-of-reads.Learnt, expression-below t, expression.Post, next-register-reads.Asked, next-register-reads.Learnt, roll-back-reads.Asked, roll-back-reads.Learnt, both-below t, both.Post)
 
-pub words-of-requires : (t : ℕ) → lts.Need-words-of-requires (claims t) (minus-at t) minus.Post
-words-of-requires t c κs = headed ((c .before .before .before .before) .pre .1 .0 .ready) ((c .before .before .before .before) .pre .1 .0 .known) (binary-stands ((c .before .before .before .before) .pre .1 .0 .ready .lawful) ((c .before .before .before .before) .pre .1 .0 .known) ((c .before .before .before .before) .pre .1 .1) .0)
+pub binary-of-requires : (t : ℕ) → lts.Need-binary-of-requires (claims t) (minus-at t) minus.Post
+binary-of-requires t c κs = held ((c .before .before .before .before) .pre .1 .0 .ready) ((c .before .before .before .before) .pre .1 .0 .known) ((c .before .before .before .before) .pre .1 .1)
 
 pub expression-requires : (t : ℕ) → lts.Need-expression-requires (claims t) (minus-at t) minus.Post
 expression-requires t c κs =
     let g = (c .before .before .before .before .before .before .before) .pre .1 .0 in
     let x = a-binary (g .ready .lawful) (g .known) ((c .before .before .before .before .before .before .before) .pre .1 .1) in
-    rw ((c .before .before .words-of) .ensures .0) (omega (arith, (c .before .before .before .before .before .before .before) .pre .0, x .right .below), right g x)
+    rw ((c .before .before .binary-of) .ensures) (omega (arith, (c .before .before .before .before .before .before .before) .pre .0, x .right .below), right g x)
 
 pub next-register-requires : (t : ℕ) → lts.Need-next-register-requires (claims t) (minus-at t) minus.Post
 next-register-requires t c κs = (c .before .before .before .before .before .expression) .ensures .does .moves .fine
@@ -77,7 +77,7 @@ roll-back-requires t c κs = tt
 pub both-requires : (t : ℕ) → lts.Need-both-requires (claims t) (minus-at t) minus.Post
 both-requires t c κs =
     let g = (c .before .before .before .before .before .before .before .before .before .before .before .before .before .before .before .before .before .before .before) .pre .1 .0 in
-    (omega (arith, (c .before .before .before .before .before .before .before .before .before .before .before .before .before .before .before .before .before .before .before) .pre .0), (all g (a-binary (g .ready .lawful) (g .known) ((c .before .before .before .before .before .before .before .before .before .before .before .before .before .before .before .before .before .before .before) .pre .1 .1)) (rw ((c .before .before .before .before .before .before .before .before .before .before .before .before .before .before .words-of) .ensures .0) at ((c .before .before .before .before .before .before .before .before .before .before .before .expression) .ensures)) ((c .before .before .before .before .before .next-register) .ensures .0) (rolls _ _ (longer g (a-binary (g .ready .lawful) (g .known) ((c .before .before .before .before .before .before .before .before .before .before .before .before .before .before .before .before .before .before .before) .pre .1 .1)) (rw ((c .before .before .before .before .before .before .before .before .before .before .before .before .before .before .words-of) .ensures .0) at ((c .before .before .before .before .before .before .before .before .before .before .before .expression) .ensures)) ((c .before .before .before .before .before .next-register) .ensures .0)) ((c .before .before .roll-back) .ensures)), (c .before .before .before .before .before .before .before .before .before .before .before .before .before .before .before .before .before .before .before) .pre .1 .1))
+    (omega (arith, (c .before .before .before .before .before .before .before .before .before .before .before .before .before .before .before .before .before .before .before) .pre .0), (all g (a-binary (g .ready .lawful) (g .known) ((c .before .before .before .before .before .before .before .before .before .before .before .before .before .before .before .before .before .before .before) .pre .1 .1)) (rw ((c .before .before .before .before .before .before .before .before .before .before .before .before .before .before .binary-of) .ensures) at ((c .before .before .before .before .before .before .before .before .before .before .before .expression) .ensures)) ((c .before .before .before .before .before .next-register) .ensures .0) (rolls _ _ (longer g (a-binary (g .ready .lawful) (g .known) ((c .before .before .before .before .before .before .before .before .before .before .before .before .before .before .before .before .before .before .before) .pre .1 .1)) (rw ((c .before .before .before .before .before .before .before .before .before .before .before .before .before .before .binary-of) .ensures) at ((c .before .before .before .before .before .before .before .before .before .before .before .expression) .ensures)) ((c .before .before .before .before .before .next-register) .ensures .0)) ((c .before .before .roll-back) .ensures)), (c .before .before .before .before .before .before .before .before .before .before .before .before .before .before .before .before .before .before .before) .pre .1 .1))
 
 pub same-length : (t : ℕ) → lts.Need-same-length (claims t) (minus-at t) minus.Post
 same-length t c = (c .before .before .before .before .both) .ensures .does .moves .kept .same ∙ (c .before .before .before .before .before .before .before .before .before .before .next-register) .ensures .0 .moves .kept .same ∙ (c .before .before .before .before .before .before .before .before .before .before .before .before .before .before .before .before .expression) .ensures .does .moves .kept .same
@@ -88,4 +88,4 @@ same-length-2 t c = (c .before .before .before .before .both) .ensures .does .sa
 pub returns : (t : ℕ) → lts.Need-returns (claims t) (minus-at t) minus.Post
 returns t c =
     let g = (c .before .before .before .before .before .before .before .before .before .before .before .before .before .before .before .before .before .before .before .before .before .before .before .before) .pre .1 .0 in
-    lowers g (a-binary (g .ready .lawful) (g .known) ((c .before .before .before .before .before .before .before .before .before .before .before .before .before .before .before .before .before .before .before .before .before .before .before .before) .pre .1 .1)) (rw ((c .before .before .before .before .before .before .before .before .before .before .before .before .before .before .before .before .before .before .before .words-of) .ensures .0) at ((c .before .before .before .before .before .before .before .before .before .before .before .before .before .before .before .before .expression) .ensures)) ((c .before .before .before .before .before .before .before .before .before .before .next-register) .ensures .0) (rolls _ _ (longer g (a-binary (g .ready .lawful) (g .known) ((c .before .before .before .before .before .before .before .before .before .before .before .before .before .before .before .before .before .before .before .before .before .before .before .before) .pre .1 .1)) (rw ((c .before .before .before .before .before .before .before .before .before .before .before .before .before .before .before .before .before .before .before .words-of) .ensures .0) at ((c .before .before .before .before .before .before .before .before .before .before .before .before .before .before .before .before .expression) .ensures)) ((c .before .before .before .before .before .before .before .before .before .before .next-register) .ensures .0)) ((c .before .before .before .before .before .before .before .roll-back) .ensures)) ((c .before .before .before .before .both) .ensures)
+    lowers g (a-binary (g .ready .lawful) (g .known) ((c .before .before .before .before .before .before .before .before .before .before .before .before .before .before .before .before .before .before .before .before .before .before .before .before) .pre .1 .1)) (rw ((c .before .before .before .before .before .before .before .before .before .before .before .before .before .before .before .before .before .before .before .binary-of) .ensures) at ((c .before .before .before .before .before .before .before .before .before .before .before .before .before .before .before .before .expression) .ensures)) ((c .before .before .before .before .before .before .before .before .before .before .next-register) .ensures .0) (rolls _ _ (longer g (a-binary (g .ready .lawful) (g .known) ((c .before .before .before .before .before .before .before .before .before .before .before .before .before .before .before .before .before .before .before .before .before .before .before .before) .pre .1 .1)) (rw ((c .before .before .before .before .before .before .before .before .before .before .before .before .before .before .before .before .before .before .before .binary-of) .ensures) at ((c .before .before .before .before .before .before .before .before .before .before .before .before .before .before .before .before .expression) .ensures)) ((c .before .before .before .before .before .before .before .before .before .before .next-register) .ensures .0)) ((c .before .before .before .before .before .before .before .roll-back) .ensures)) ((c .before .before .before .before .both) .ensures)

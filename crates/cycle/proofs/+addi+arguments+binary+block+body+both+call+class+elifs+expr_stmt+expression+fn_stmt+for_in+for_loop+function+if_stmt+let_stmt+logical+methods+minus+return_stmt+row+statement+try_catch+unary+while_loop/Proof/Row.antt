@@ -3,7 +3,7 @@ use Prim.Native.Nat.{ℕ, _+_, _-_, _*_, _<_, _≤_}
 use Rattle.cycle.proofs.row.Reads as row
 use Rattle.cycle.proofs.+addi+arguments+binary+block+body+both+call+class+elifs+expr_stmt+expression+fn_stmt+for_in+for_loop+function+if_stmt+let_stmt+logical+methods+minus+return_stmt+row+statement+try_catch+unary+while_loop.Lts-row as lts
 use Rattle.cycle.proofs.statement.Reads as statement′
-use Rattle.cycle.proofs.reading.payload_of.Reads as payload-of-reads
+use Rattle.nodes.proofs.payload_of.Reads as payload-of-reads
 use Rattle.nodes.proofs.child.Reads as child-reads
 use Rattle.cycle.proofs.+addi+arguments+binary+block+body+both+call+class+elifs+expr_stmt+expression+fn_stmt+for_in+for_loop+function+if_stmt+let_stmt+logical+methods+minus+return_stmt+row+statement+try_catch+unary+while_loop.Proof.Order.{row-at, statement-below}
 use Rattle.cycle.proofs.Way.{from, inside, placed}
@@ -27,7 +27,7 @@ use Rattle.store.specs.declared.Step.{Step}
 use mathlib.Core.List.{List}
 use mathlib.Core.Path.{_∙_, _≡_}
 use native.Mathlib.Omega.{arith}
-use Rattle.cycle.proofs.Counts.{few-words}
+use Rattle.nodes.proofs.Headers.{few-words}
 
 pub record Rowing (t w0 o0 : List ℕ) (p : Scope) (s0 : Step) (i from to : ℕ) (w o : List ℕ) (s : Step) (k : ℕ) : Type 0 where
   pub low : from ≤ k

@@ -13,7 +13,7 @@ use Rattle.cycle.proofs.statement.Reads as statement′
 use Rattle.cycle.proofs.+addi+arguments+binary+block+body+both+call+class+elifs+expr_stmt+expression+fn_stmt+for_in+for_loop+function+if_stmt+let_stmt+logical+methods+minus+return_stmt+row+statement+try_catch+unary+while_loop.Lts-statement as lts
 use Rattle.cycle.proofs.try_catch.Reads as try-catch
 use Rattle.cycle.proofs.while_loop.Reads as while-loop
-use Rattle.cycle.proofs.reading.tag_of.Reads as tag-of-reads
+use Rattle.nodes.proofs.tag_of.Reads as tag-of-reads
 use Rattle.routines.proofs.jump.Reads as jump-reads
 use Rattle.cycle.proofs.+addi+arguments+binary+block+body+both+call+class+elifs+expr_stmt+expression+fn_stmt+for_in+for_loop+function+if_stmt+let_stmt+logical+methods+minus+return_stmt+row+statement+try_catch+unary+while_loop.Proof.Order.{block-below, class-below, expr-stmt-below, fn-stmt-below, for-in-below, for-loop-below, if-stmt-below, let-stmt-below, return-stmt-below, statement-at, try-catch-below, while-loop-below}
 use borrow.Author.Needs.{needs}

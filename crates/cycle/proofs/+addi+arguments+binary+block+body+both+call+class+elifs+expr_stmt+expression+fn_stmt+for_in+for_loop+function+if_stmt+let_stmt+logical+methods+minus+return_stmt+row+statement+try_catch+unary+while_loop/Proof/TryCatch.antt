@@ -6,15 +6,15 @@ use Rattle.cycle.proofs.+addi+arguments+binary+block+body+both+call+cla
 use Rattle.routines.proofs.end_try.Reads as end-try-reads
 use Rattle.routines.proofs.end_try_body.Reads as end-try-body-reads
 use Rattle.routines.proofs.open_try_body.Reads as open-try-body-reads
-use Rattle.cycle.proofs.reading.words_of.Reads as words-of-reads
+use Rattle.nodes.proofs.try_of.Reads as try-of-reads
 use Rattle.routines.proofs.open_catch.Reads as open-catch-reads
 use Rattle.store.proofs.enter_block.Reads as enter-block-reads
 use Rattle.store.proofs.leave_block.Reads as leave-block-reads
 use Rattle.cycle.proofs.+addi+arguments+binary+block+body+both+call+class+elifs+expr_stmt+expression+fn_stmt+for_in+for_loop+function+if_stmt+let_stmt+logical+methods+minus+return_stmt+row+statement+try_catch+unary+while_loop.Proof.Order.{statement-below, try-catch-at}
-use Rattle.cycle.proofs.Nodes.{a-try, try-stands}
+use Rattle.cycle.proofs.Nodes.{a-try}
 use Rattle.cycle.proofs.Visited.{try-visits}
 use Rattle.cycle.proofs.Sizes.{try-size}
-use Rattle.cycle.proofs.Way.{_▹_, adds, arrive, ends, from, give-stmt, headed, meanwhile, next, next-leaf, next-left, readable, sets, stand, stand-at, to, twice}
+use Rattle.cycle.proofs.Way.{_▹_, adds, arrive, ends, from, give-stmt, held, meanwhile, next, next-leaf, next-left, sets, stand, stand-at, to, twice}
 use Rattle.cycle.specs.Cycle.{AskStmt, GivenStmt, LowersStmt, Ready, UnderStmt}
 use Rattle.forward.proofs.Chains.{try-chain}
 use Rattle.forward.specs.Forward.{end-try, end-try-body, fwd-unit, open-catch, open-try-body, sure}
@@ -98,10 +98,10 @@ module _ {t w : List ℕ} {p : Scope} {s : Step} {i : ℕ} (g : GivenStmt t w p 
 
 -- what each function that is called asks and promises; a member of the cycle at a smaller measure
 abbrev pub claims : ℕ → lts.Claims
-claims t = (words-of-reads.Asked, words-of-reads.Learnt, open-try-body-reads.Asked, open-try-body-reads.Learnt, statement-below t, statement′.Post, end-try-body-reads.Asked, end-try-body-reads.Learnt, enter-block-reads.Asked, enter-block-reads.Learnt, open-catch-reads.Asked, open-catch-reads.Learnt, leave-block-reads.Asked, leave-block-reads.Learnt, end-try-reads.Asked, end-try-reads.Learnt)
+claims t = (try-of-reads.Asked, try-of-reads.Learnt, open-try-body-reads.Asked, open-try-body-reads.Learnt, statement-below t, statement′.Post, end-try-body-reads.Asked, end-try-body-reads.Learnt, enter-block-reads.Asked, enter-block-reads.Learnt, open-catch-reads.Asked, open-catch-reads.Learnt, leave-block-reads.Asked, leave-block-reads.Learnt, end-try-reads.Asked, end-try-reads.Learnt)
 
-pub words-of-requires : (t : ℕ) → lts.Need-words-of-requires (claims t) (try-catch-at t) try-catch.Post
-words-of-requires t c κs = headed ((c .before .before .before .before) .pre .1 .0 .ready) ((c .before .before .before .before) .pre .1 .0 .known) (try-stands ((c .before .before .before .before) .pre .1 .0 .ready .lawful) ((c .before .before .before .before) .pre .1 .0 .known) ((c .before .before .before .before) .pre .1 .1))
+pub try-of-requires : (t : ℕ) → lts.Need-try-of-requires (claims t) (try-catch-at t) try-catch.Post
+try-of-requires t c κs = held ((c .before .before .before .before) .pre .1 .0 .ready) ((c .before .before .before .before) .pre .1 .0 .known) ((c .before .before .before .before) .pre .1 .1)
 
 pub open-try-body-requires : (t : ℕ) → lts.Need-open-try-body-requires (claims t) (try-catch-at t) try-catch.Post
 open-try-body-requires t c κs =
@@ -112,22 +112,22 @@ pub statement-requires : (t : ℕ) → lts.Need-statement-requires (claims t) (t
 statement-requires t c κs =
     let g = (c .before .before .before .before .before .before .before .before .before .before .before) .pre .1 .0 in
     let x = a-try (g .ready .lawful) (g .known) ((c .before .before .before .before .before .before .before .before .before .before .before) .pre .1 .1) in
-    rw ((c .before .before .before .before .before .before .words-of) .ensures .0) (omega (arith, (c .before .before .before .before .before .before .before .before .before .before .before) .pre .0, x .body .below), body g x ((c .before .before .before .before .open-try-body) .ensures))
+    rw ((c .before .before .before .before .before .before .try-of) .ensures) (omega (arith, (c .before .before .before .before .before .before .before .before .before .before .before) .pre .0, x .body .below), body g x ((c .before .before .before .before .open-try-body) .ensures))
 
 pub end-try-body-requires : (t : ℕ) → lts.Need-end-try-body-requires (claims t) (try-catch-at t) try-catch.Post
 end-try-body-requires t c κs =
     let g = (c .before .before .before .before .before .before .before .before .before .before .before .before .before .before .before .before .before) .pre .1 .0 in
-    at-body g (a-try (g .ready .lawful) (g .known) ((c .before .before .before .before .before .before .before .before .before .before .before .before .before .before .before .before .before) .pre .1 .1)) ((c .before .before .before .before .before .before .before .before .before .before .open-try-body) .ensures) (rw ((c .before .before .before .before .before .before .before .before .before .before .before .before .words-of) .ensures .0) at ((c .before .before .before .before .before .statement) .ensures))
+    at-body g (a-try (g .ready .lawful) (g .known) ((c .before .before .before .before .before .before .before .before .before .before .before .before .before .before .before .before .before) .pre .1 .1)) ((c .before .before .before .before .before .before .before .before .before .before .open-try-body) .ensures) (rw ((c .before .before .before .before .before .before .before .before .before .before .before .before .try-of) .ensures) at ((c .before .before .before .before .before .statement) .ensures))
 
 pub enter-block-requires : (t : ℕ) → lts.Need-enter-block-requires (claims t) (try-catch-at t) try-catch.Post
 enter-block-requires t c κs =
     let g = (c .before .before .before .before .before .before .before .before .before .before .before .before .before .before .before .before .before .before .before .before .before) .pre .1 .0 in
-    at-enter g (a-try (g .ready .lawful) (g .known) ((c .before .before .before .before .before .before .before .before .before .before .before .before .before .before .before .before .before .before .before .before .before) .pre .1 .1)) ((c .before .before .before .before .before .before .before .before .before .before .before .before .before .before .open-try-body) .ensures) (rw ((c .before .before .before .before .before .before .before .before .before .before .before .before .before .before .before .before .words-of) .ensures .0) at ((c .before .before .before .before .before .before .before .before .before .statement) .ensures)) ((c .before .before .before .end-try-body) .ensures)
+    at-enter g (a-try (g .ready .lawful) (g .known) ((c .before .before .before .before .before .before .before .before .before .before .before .before .before .before .before .before .before .before .before .before .before) .pre .1 .1)) ((c .before .before .before .before .before .before .before .before .before .before .before .before .before .before .open-try-body) .ensures) (rw ((c .before .before .before .before .before .before .before .before .before .before .before .before .before .before .before .before .try-of) .ensures) at ((c .before .before .before .before .before .before .before .before .before .statement) .ensures)) ((c .before .before .before .end-try-body) .ensures)
 
 pub open-catch-requires : (t : ℕ) → lts.Need-open-catch-requires (claims t) (try-catch-at t) try-catch.Post
 open-catch-requires t c κs =
     let g = (c .before .before .before .before .before .before .before .before .before .before .before .before .before .before .before .before .before .before .before .before .before .before .before .before .before) .pre .1 .0 in
-    let e = (c .before .before .before .before .before .before .before .before .before .before .before .before .before .before .before .before .before .before .before .before .words-of) .ensures .0 in
+    let e = (c .before .before .before .before .before .before .before .before .before .before .before .before .before .before .before .before .before .before .before .before .try-of) .ensures in
     let b = (c .before .before .before .enter-block) .ensures in
     let d3 = (c .before .before .before .before .before .before .before .end-try-body) .ensures in
     rw (b .0, e) (at-catch g (a-try (g .ready .lawful) (g .known) ((c .before .before .before .before .before .before .before .before .before .before .before .before .before .before .before .before .before .before .before .before .before .before .before .before .before) .pre .1 .1)) ((c .before .before .before .before .before .before .before .before .before .before .before .before .before .before .before .before .before .before .open-try-body) .ensures) (rw e at ((c .before .before .before .before .before .before .before .before .before .before .before .before .before .statement) .ensures)) d3 (b .1) (b .2 _ (d3 .moves .fine)))
@@ -136,7 +136,7 @@ pub statement-requires-2 : (t : ℕ) → lts.Need-statement-requires-2 (claims t
 statement-requires-2 t c κs =
     let g = (c .before .before .before .before .before .before .before .before .before .before .before .before .before .before .before .before .before .before .before .before .before .before .before .before .before .before .before .before .before .before) .pre .1 .0 in
     let x = a-try (g .ready .lawful) (g .known) ((c .before .before .before .before .before .before .before .before .before .before .before .before .before .before .before .before .before .before .before .before .before .before .before .before .before .before .before .before .before .before) .pre .1 .1) in
-    let e = (c .before .before .before .before .before .before .before .before .before .before .before .before .before .before .before .before .before .before .before .before .before .before .before .before .before .words-of) .ensures .0 in
+    let e = (c .before .before .before .before .before .before .before .before .before .before .before .before .before .before .before .before .before .before .before .before .before .before .before .before .before .try-of) .ensures in
     let b = (c .before .before .before .before .before .before .before .before .enter-block) .ensures in
     let d3 = (c .before .before .before .before .before .before .before .before .before .before .before .before .end-try-body) .ensures in
     rw (b .0, e)
@@ -148,7 +148,7 @@ leave-block-requires t c κs = rw ((c .before .before .before .before .before .b
 pub end-try-requires : (t : ℕ) → lts.Need-end-try-requires (claims t) (try-catch-at t) try-catch.Post
 end-try-requires t c κs =
     let g = (c .before .before .before .before .before .before .before .before .before .before .before .before .before .before .before .before .before .before .before .before .before .before .before .before .before .before .before .before .before .before .before .before .before .before .before .before .before .before .before .before) .pre .1 .0 in
-    let e = (c .before .before .before .before .before .before .before .before .before .before .before .before .before .before .before .before .before .before .before .before .before .before .before .before .before .before .before .before .before .before .before .before .before .before .before .words-of) .ensures .0 in
+    let e = (c .before .before .before .before .before .before .before .before .before .before .before .before .before .before .before .before .before .before .before .before .before .before .before .before .before .before .before .before .before .before .before .before .before .before .before .try-of) .ensures in
     let b = (c .before .before .before .before .before .before .before .before .before .before .before .before .before .before .before .before .before .before .enter-block) .ensures in
     let d3 = (c .before .before .before .before .before .before .before .before .before .before .before .before .before .before .before .before .before .before .before .before .before .before .end-try-body) .ensures in
     at-end g (a-try (g .ready .lawful) (g .known) ((c .before .before .before .before .before .before .before .before .before .before .before .before .before .before .before .before .before .before .before .before .before .before .before .before .before .before .before .before .before .before .before .before .before .before .before .before .before .before .before .before) .pre .1 .1)) ((c .before .before .before .before .before .before .before .before .before .before .before .before .before .before .before .before .before .before .before .before .before .before .before .before .before .before .before .before .before .before .before .before .before .open-try-body) .ensures) (rw e at ((c .before .before .before .before .before .before .before .before .before .before .before .before .before .before .before .before .before .before .before .before .before .before .before .before .before .before .before .before .statement) .ensures)) d3 (b .1) (b .2 _ (d3 .moves .fine)) (rw (b .0, e) at ((c .before .before .before .before .before .before .before .before .before .before .before .before .before .before .open-catch) .ensures))
@@ -165,7 +165,7 @@ same-length-2 t c = (c .before .before .before .before .before .before .before .
 pub returns : (t : ℕ) → lts.Need-returns (claims t) (try-catch-at t) try-catch.Post
 returns t c =
     let g = (c .before .before .before .before .before .before .before .before .before .before .before .before .before .before .before .before .before .before .before .before .before .before .before .before .before .before .before .before .before .before .before .before .before .before .before .before .before .before .before .before .before .before .before) .pre .1 .0 in
-    let e = (c .before .before .before .before .before .before .before .before .before .before .before .before .before .before .before .before .before .before .before .before .before .before .before .before .before .before .before .before .before .before .before .before .before .before .before .before .before .before .words-of) .ensures .0 in
+    let e = (c .before .before .before .before .before .before .before .before .before .before .before .before .before .before .before .before .before .before .before .before .before .before .before .before .before .before .before .before .before .before .before .before .before .before .before .before .before .before .try-of) .ensures in
     let b = (c .before .before .before .before .before .before .before .before .before .before .before .before .before .before .before .before .before .before .before .before .before .enter-block) .ensures in
     let d3 = (c .before .before .before .before .before .before .before .before .before .before .before .before .before .before .before .before .before .before .before .before .before .before .before .before .before .end-try-body) .ensures in
     lowers g (a-try (g .ready .lawful) (g .known) ((c .before .before .before .before .before .before .before .before .before .before .before .before .before .before .before .before .before .before .before .before .before .before .before .before .before .before .before .before .before .before .before .before .before .before .before .before .before .before .before .before .before .before .before) .pre .1 .1)) ((c .before .before .before .before .before .before .before .before .before .before .before .before .before .before .before .before .before .before .before .before .before .before .before .before .before .before .before .before .before .before .before .before .before .before .before .before .open-try-body) .ensures) (rw e at ((c .before .before .before .before .before .before .before .before .before .before .before .before .before .before .before .before .before .before .before .before .before .before .before .before .before .before .before .before .before .before .before .statement) .ensures)) d3 (b .1) (b .2 _ (d3 .moves .fine)) (rw (b .0, e) at ((c .before .before .before .before .before .before .before .before .before .before .before .before .before .before .before .before .before .open-catch) .ensures))

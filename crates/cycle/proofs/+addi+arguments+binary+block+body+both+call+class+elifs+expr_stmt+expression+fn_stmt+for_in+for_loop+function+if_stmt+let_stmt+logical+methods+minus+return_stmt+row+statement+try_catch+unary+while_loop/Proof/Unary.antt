@@ -5,13 +5,13 @@ use Rattle.cycle.proofs.unary.Reads as unary
 use Rattle.cycle.proofs.+addi+arguments+binary+block+body+both+call+class+elifs+expr_stmt+expression+fn_stmt+for_in+for_loop+function+if_stmt+let_stmt+logical+methods+minus+return_stmt+row+statement+try_catch+unary+while_loop.Lts-unary as lts
 use Rattle.code.proofs.emit.Reads as emit-reads
 use Rattle.cycle.proofs.operators.unary_opcode.Reads as unary-opcode-reads
-use Rattle.cycle.proofs.reading.three_of.Reads as three-of-reads
+use Rattle.nodes.proofs.unary_of.Reads as unary-of-reads
 use Rattle.cycle.proofs.+addi+arguments+binary+block+body+both+call+class+elifs+expr_stmt+expression+fn_stmt+for_in+for_loop+function+if_stmt+let_stmt+logical+methods+minus+return_stmt+row+statement+try_catch+unary+while_loop.Proof.Order.{expression-below, unary-at}
 use Rattle.store.specs.Cell.{Bytes}
-use Rattle.cycle.proofs.Nodes.{a-unary, unary-stands}
+use Rattle.cycle.proofs.Nodes.{a-unary}
 use Rattle.cycle.proofs.Visited.{unary-visits}
 use Rattle.cycle.proofs.Sizes.{unary-size}
-use Rattle.cycle.proofs.Way.{_▹_, arrive, ends, fits, from, give-expr, headed, keeps, next-leaf, readable, stand}
+use Rattle.cycle.proofs.Way.{_▹_, arrive, ends, fits, from, give-expr, held, keeps, next-leaf, stand}
 use Rattle.cycle.specs.Cycle.{AskExpr, GivenExpr, LowersExpr, UnderExpr}
 use Rattle.forward.proofs.Chains.{unary-chain}
 use Rattle.forward.specs.Forward.{emit, sure}
@@ -53,16 +53,16 @@ module _ {t w : List ℕ} {p : Scope} {s : Step} {i : ℕ} (g : GivenExpr t w p 
 
 -- what each function that is called asks and promises; a member of the cycle at a smaller measure
 abbrev pub claims : ℕ → lts.Claims
-claims t = (three-of-reads.Asked, three-of-reads.Learnt, expression-below t, expression.Post, unary-opcode-reads.Asked, unary-opcode-reads.Learnt, emit-reads.Asked, emit-reads.Learnt)
+claims t = (unary-of-reads.Asked, unary-of-reads.Learnt, expression-below t, expression.Post, unary-opcode-reads.Asked, unary-opcode-reads.Learnt, emit-reads.Asked, emit-reads.Learnt)
 
-pub three-of-requires : (t : ℕ) → lts.Need-three-of-requires (claims t) (unary-at t) unary.Post
-three-of-requires t c κs = headed ((c .before .before .before .before) .pre .1 .0 .ready) ((c .before .before .before .before) .pre .1 .0 .known) (unary-stands ((c .before .before .before .before) .pre .1 .0 .ready .lawful) ((c .before .before .before .before) .pre .1 .0 .known) ((c .before .before .before .before) .pre .1 .1) .0)
+pub unary-of-requires : (t : ℕ) → lts.Need-unary-of-requires (claims t) (unary-at t) unary.Post
+unary-of-requires t c κs = held ((c .before .before .before .before) .pre .1 .0 .ready) ((c .before .before .before .before) .pre .1 .0 .known) ((c .before .before .before .before) .pre .1 .1)
 
 pub expression-requires : (t : ℕ) → lts.Need-expression-requires (claims t) (unary-at t) unary.Post
 expression-requires t c κs =
     let g = (c .before .before .before .before .before .before .before) .pre .1 .0 in
     let x = a-unary (g .ready .lawful) (g .known) ((c .before .before .before .before .before .before .before) .pre .1 .1) in
-    rw ((c .before .before .three-of) .ensures .0) (omega (arith, (c .before .before .before .before .before .before .before) .pre .0, x .operand .below), operand g x)
+    rw ((c .before .before .unary-of) .ensures) (omega (arith, (c .before .before .before .before .before .before .before) .pre .0, x .operand .below), operand g x)
 
 pub unary-opcode-requires : (t : ℕ) → lts.Need-unary-opcode-requires (claims t) (unary-at t) unary.Post
 unary-opcode-requires t c κs = tt
@@ -70,7 +70,7 @@ unary-opcode-requires t c κs = tt
 pub emit-requires : (t : ℕ) → lts.Need-emit-requires (claims t) (unary-at t) unary.Post
 emit-requires t c κs =
     let g = (c .before .before .before .before .before .before .before .before .before .before .before .before .before .before) .pre .1 .0 in
-    at-emit g (a-unary (g .ready .lawful) (g .known) ((c .before .before .before .before .before .before .before .before .before .before .before .before .before .before) .pre .1 .1)) (rw ((c .before .before .before .before .before .before .before .before .before .three-of) .ensures .0) at ((c .before .before .before .before .before .before .expression) .ensures)) _ ((c .unary-opcode) .ensures .1)
+    at-emit g (a-unary (g .ready .lawful) (g .known) ((c .before .before .before .before .before .before .before .before .before .before .before .before .before .before) .pre .1 .1)) (rw ((c .before .before .before .before .before .before .before .before .before .unary-of) .ensures) at ((c .before .before .before .before .before .before .expression) .ensures)) _ ((c .unary-opcode) .ensures .1)
 
 pub same-length : (t : ℕ) → lts.Need-same-length (claims t) (unary-at t) unary.Post
 same-length t c = (c .before .before .emit) .ensures .moves .kept .same ∙ (c .before .before .before .before .before .before .before .before .before .expression) .ensures .does .moves .kept .same
@@ -81,5 +81,5 @@ same-length-2 t c = (c .before .before .before .before .before .before .before .
 pub returns : (t : ℕ) → lts.Need-returns (claims t) (unary-at t) unary.Post
 returns t c =
     let g = (c .before .before .before .before .before .before .before .before .before .before .before .before .before .before .before .before .before) .pre .1 .0 in
-    let e = (c .before .before .before .before .before .before .before .before .before .before .before .before .three-of) .ensures .0 in
+    let e = (c .before .before .before .before .before .before .before .before .before .before .before .before .unary-of) .ensures in
     lowers g (a-unary (g .ready .lawful) (g .known) ((c .before .before .before .before .before .before .before .before .before .before .before .before .before .before .before .before .before) .pre .1 .1)) (rw e at ((c .before .before .before .before .before .before .before .before .before .expression) .ensures)) (rw ((c .before .before .before .unary-opcode) .ensures .0, e) at ((c .before .before .emit) .ensures))

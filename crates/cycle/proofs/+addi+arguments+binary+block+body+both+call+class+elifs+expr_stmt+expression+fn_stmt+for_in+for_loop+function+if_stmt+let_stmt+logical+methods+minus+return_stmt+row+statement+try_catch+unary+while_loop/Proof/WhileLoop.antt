@@ -7,12 +7,12 @@ use Rattle.cycle.proofs.+addi+arguments+binary+block+body+both+call+cla
 use Rattle.routines.proofs.end_loop.Reads as end-loop-reads
 use Rattle.code.proofs.test_and_jump.Reads as test-and-jump-reads
 use Rattle.cycle.proofs.scopes.in_loop.Reads as in-loop-reads
-use Rattle.cycle.proofs.reading.three_of.Reads as three-of-reads
+use Rattle.nodes.proofs.while_of.Reads as while-of-reads
 use Rattle.cycle.proofs.+addi+arguments+binary+block+body+both+call+class+elifs+expr_stmt+expression+fn_stmt+for_in+for_loop+function+if_stmt+let_stmt+logical+methods+minus+return_stmt+row+statement+try_catch+unary+while_loop.Proof.Order.{expression-below, statement-below, while-loop-at}
-use Rattle.cycle.proofs.Nodes.{a-while, while-stands}
+use Rattle.cycle.proofs.Nodes.{a-while}
 use Rattle.cycle.proofs.Visited.{while-visits}
 use Rattle.cycle.proofs.Sizes.{while-size}
-use Rattle.cycle.proofs.Way.{_▹_, adds, arrive, ends, from, give-expr, give-looped, headed, meanwhile, next, next-leaf, readable, sets, stand, twice}
+use Rattle.cycle.proofs.Way.{_▹_, adds, arrive, ends, from, give-expr, give-looped, held, meanwhile, next, next-leaf, sets, stand, twice}
 use Rattle.cycle.specs.Cycle.{AskExpr, AskStmt, GivenStmt, LowersExpr, LowersStmt, UnderStmt}
 use Rattle.forward.proofs.Chains.{while-chain}
 use Rattle.forward.specs.Forward.{end-loop, sure, test-and-jump}
@@ -85,21 +85,21 @@ module _ {t w : List ℕ} {p : Scope} {s : Step} {i : ℕ} (g : GivenStmt t w p 
 
 -- what each function that is called asks and promises; a member of the cycle at a smaller measure
 abbrev pub claims : ℕ → lts.Claims
-claims t = (three-of-reads.Asked, three-of-reads.Learnt, expression-below t, expression.Post, test-and-jump-reads.Asked, test-and-jump-reads.Learnt, in-loop-reads.Asked, in-loop-reads.Learnt, statement-below t, statement′.Post, end-loop-reads.Asked, end-loop-reads.Learnt)
+claims t = (while-of-reads.Asked, while-of-reads.Learnt, expression-below t, expression.Post, test-and-jump-reads.Asked, test-and-jump-reads.Learnt, in-loop-reads.Asked, in-loop-reads.Learnt, statement-below t, statement′.Post, end-loop-reads.Asked, end-loop-reads.Learnt)
 
-pub three-of-requires : (t : ℕ) → lts.Need-three-of-requires (claims t) (while-loop-at t) while-loop.Post
-three-of-requires t c κs = headed ((c .before .before .before .before) .pre .1 .0 .ready) ((c .before .before .before .before) .pre .1 .0 .known) (while-stands ((c .before .before .before .before) .pre .1 .0 .ready .lawful) ((c .before .before .before .before) .pre .1 .0 .known) ((c .before .before .before .before) .pre .1 .1) .0)
+pub while-of-requires : (t : ℕ) → lts.Need-while-of-requires (claims t) (while-loop-at t) while-loop.Post
+while-of-requires t c κs = held ((c .before .before .before .before) .pre .1 .0 .ready) ((c .before .before .before .before) .pre .1 .0 .known) ((c .before .before .before .before) .pre .1 .1)
 
 pub expression-requires : (t : ℕ) → lts.Need-expression-requires (claims t) (while-loop-at t) while-loop.Post
 expression-requires t c κs =
     let g = (c .before .before .before .before .before .before .before) .pre .1 .0 in
     let x = a-while (g .ready .lawful) (g .known) ((c .before .before .before .before .before .before .before) .pre .1 .1) in
-    rw ((c .before .before .three-of) .ensures .0) (omega (arith, (c .before .before .before .before .before .before .before) .pre .0, x .condition .below), condition g x)
+    rw ((c .before .before .while-of) .ensures) (omega (arith, (c .before .before .before .before .before .before .before) .pre .0, x .condition .below), condition g x)
 
 pub test-and-jump-requires : (t : ℕ) → lts.Need-test-and-jump-requires (claims t) (while-loop-at t) while-loop.Post
 test-and-jump-requires t c κs =
     let g = (c .before .before .before .before .before .before .before .before .before .before .before .before .before) .pre .1 .0 in
-    at-test g (a-while (g .ready .lawful) (g .known) ((c .before .before .before .before .before .before .before .before .before .before .before .before .before) .pre .1 .1)) (rw ((c .before .before .before .before .before .before .before .before .three-of) .ensures .0) at ((c .before .before .before .before .before .expression) .ensures))
+    at-test g (a-while (g .ready .lawful) (g .known) ((c .before .before .before .before .before .before .before .before .before .before .before .before .before) .pre .1 .1)) (rw ((c .before .before .before .before .before .before .before .before .while-of) .ensures) at ((c .before .before .before .before .before .expression) .ensures))
 
 pub in-loop-requires : (t : ℕ) → lts.Need-in-loop-requires (claims t) (while-loop-at t) while-loop.Post
 in-loop-requires t c κs =
@@ -110,13 +110,13 @@ pub statement-requires : (t : ℕ) → lts.Need-statement-requires (claims t) (w
 statement-requires t c κs =
     let g = (c .before .before .before .before .before .before .before .before .before .before .before .before .before .before .before .before .before .before .before) .pre .1 .0 in
     let x = a-while (g .ready .lawful) (g .known) ((c .before .before .before .before .before .before .before .before .before .before .before .before .before .before .before .before .before .before .before) .pre .1 .1) in
-    let e = (c .before .before .before .before .before .before .before .before .before .before .before .before .before .before .three-of) .ensures .0 in
+    let e = (c .before .before .before .before .before .before .before .before .before .before .before .before .before .before .while-of) .ensures in
     rw ((c .in-loop) .ensures, e) (omega (arith, (c .before .before .before .before .before .before .before .before .before .before .before .before .before .before .before .before .before .before .before) .pre .0, x .body .below), body g x (rw e at ((c .before .before .before .before .before .before .before .before .before .before .before .expression) .ensures)) (rw e at ((c .before .before .before .before .before .test-and-jump) .ensures)))
 
 pub end-loop-requires : (t : ℕ) → lts.Need-end-loop-requires (claims t) (while-loop-at t) while-loop.Post
 end-loop-requires t c κs =
     let g = (c .before .before .before .before .before .before .before .before .before .before .before .before .before .before .before .before .before .before .before .before .before .before .before .before .before) .pre .1 .0 in
-    let e = (c .before .before .before .before .before .before .before .before .before .before .before .before .before .before .before .before .before .before .before .before .three-of) .ensures .0 in
+    let e = (c .before .before .before .before .before .before .before .before .before .before .before .before .before .before .before .before .before .before .before .before .while-of) .ensures in
     at-end g (a-while (g .ready .lawful) (g .known) ((c .before .before .before .before .before .before .before .before .before .before .before .before .before .before .before .before .before .before .before .before .before .before .before .before .before) .pre .1 .1)) (rw e at ((c .before .before .before .before .before .before .before .before .before .before .before .before .before .before .before .before .before .expression) .ensures)) (rw e at ((c .before .before .before .before .before .before .before .before .before .before .before .test-and-jump) .ensures)) (rw ((c .before .before .before .before .before .before .in-loop) .ensures, e) at ((c .before .before .before .before .before .statement) .ensures))
 
 pub same-length : (t : ℕ) → lts.Need-same-length (claims t) (while-loop-at t) while-loop.Post
@@ -128,5 +128,5 @@ same-length-2 t c = (c .before .before .before .before .before .before .before .
 pub returns : (t : ℕ) → lts.Need-returns (claims t) (while-loop-at t) while-loop.Post
 returns t c =
     let g = (c .before .before .before .before .before .before .before .before .before .before .before .before .before .before .before .before .before .before .before .before .before .before .before .before .before .before .before .before) .pre .1 .0 in
-    let e = (c .before .before .before .before .before .before .before .before .before .before .before .before .before .before .before .before .before .before .before .before .before .before .before .three-of) .ensures .0 in
+    let e = (c .before .before .before .before .before .before .before .before .before .before .before .before .before .before .before .before .before .before .before .before .before .before .before .while-of) .ensures in
     lowers g (a-while (g .ready .lawful) (g .known) ((c .before .before .before .before .before .before .before .before .before .before .before .before .before .before .before .before .before .before .before .before .before .before .before .before .before .before .before .before) .pre .1 .1)) (rw e at ((c .before .before .before .before .before .before .before .before .before .before .before .before .before .before .before .before .before .before .before .before .expression) .ensures)) (rw e at ((c .before .before .before .before .before .before .before .before .before .before .before .before .before .before .test-and-jump) .ensures)) (rw ((c .before .before .before .before .before .before .before .before .before .in-loop) .ensures, e) at ((c .before .before .before .before .before .before .before .before .statement) .ensures)) (rw e at ((c .before .before .end-loop) .ensures))

@@ -16,14 +16,14 @@ use Rattle.routines.proofs.binary_expr.small_operand.Tie as tie
 
 returns : tie.Need-returns
 returns c =
-    let start = c .before .before .before .before .before in
+    let start = c .before .before .before .before in
     let if1 = c .if1 in
     let tag-of = c .before .tag-of in
     plain-operand (fields (now (start .args .tree))) (start .args .node) (λ e. if1 .taken (tag-of .ensures ∙ e))
 
 payload-of-requires : tie.Need-payload-of-requires
 payload-of-requires c κs =
-    let start = c .before .before .before .before .before in
+    let start = c .before .before .before .before in
     readable (start .pre .0) (start .pre .1)
 
 small-requires : tie.Need-small-requires
@@ -32,7 +32,7 @@ small-requires c κs = (c .number-of) .ensures .1 .1
 returns-2 : tie.Need-returns-2
 unfolding small-operand
 returns-2 c =
-    let start = c .before .before .before .before .before .before .before .before .before .before .before in
+    let start = c .before .before .before .before .before .before .before .before .before .before in
     let tag-of = c .before .before .before .before .before .before .before .tag-of in
     let if1 = c .before .before .before .before .before .before .if1 in
     let bits-at = c .before .before .before .before .bits-at in
@@ -49,7 +49,7 @@ returns-2 c =
 returns-3 : tie.Need-returns-3
 unfolding small-operand
 returns-3 c =
-    let start = c .before .before .before .before .before .before .before .before .before .before .before .before in
+    let start = c .before .before .before .before .before .before .before .before .before .before .before in
     let tag-of = c .before .before .before .before .before .before .before .before .tag-of in
     let if1 = c .before .before .before .before .before .before .before .if1 in
     let bits-at = c .before .before .before .before .before .bits-at in
@@ -67,8 +67,6 @@ pub small-operand-spec : {M : Type 1} → statement M
 small-operand-spec =
     tie.close
     (tie.spec
-    (λ c. search needs)
-    (λ c. search needs)
     (λ c κs. search needs)
     returns
     payload-of-requires

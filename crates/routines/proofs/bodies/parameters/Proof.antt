@@ -4,18 +4,25 @@ use native.Mathlib.Omega.{arith}
 use borrow.Author.Needs.{needs}
 use Rattle.forward.proofs.Chains.{parameter-end}
 use Rattle.routines.proofs.PieceLine.{_▹_, room, settling, ends}
+use Rattle.routines.proofs.Tokens.{pair-there}
 use Rattle.routines.proofs.PairLoops.{Turned, all-parameters, no-turn, parameter-turn, all-turned}
 use Rattle.routines.proofs.bodies.parameters.Statement.{statement}
 use Rattle.routines.proofs.bodies.parameters.Tie as tie
 
 abbrev Inv-loop : tie.InvT-loop
-Inv-loop payload work₀ scope node from n last₀ k₀ work last k = Turned (all-parameters node) payload from n 1 work₀ scope last₀ work last k
+Inv-loop payload work₀ scope node from n wide last₀ k₀ work last k = Turned (all-parameters node) payload from n 1 work₀ scope last₀ work last k
 
 abbrev μ-loop : tie.MeasureT-loop
-μ-loop payload work₀ scope node from n last₀ k₀ work last k = n - k
+μ-loop payload work₀ scope node from n wide last₀ k₀ work last k = n - k
 
 loop-holds : tie.Need-loop-holds Inv-loop μ-loop
 loop-holds c = no-turn (c .before .before .pre .0) (c .before .before .pre .1)
+
+-- the width is the scope's
+pair-requires : tie.Need-pair-requires Inv-loop μ-loop
+pair-requires c κs =
+    let start = c .before .before .before .before in
+    rw (start .pre .3) (pair-there _ (start .pre .2) (omega (arith, c .loop-test .taken)), start .pre .2 .width)
 
 declare-parameter-requires : tie.Need-declare-parameter-requires Inv-loop μ-loop
 declare-parameter-requires c κs =
@@ -26,7 +33,7 @@ loop-again : tie.Need-loop-again Inv-loop μ-loop
 loop-again c =
     let start = c .before .before .before .before .before .before .before .before .before in
     let loop = c .before .before .before .before .before .before .loop in
-    parameter-turn (start .args .node) _ (loop .inv) (omega arith) (c .before .before .before .before .pair .ensures .0) (c .before .before .declare-parameter .ensures .0)
+    parameter-turn (start .args .node) _ (loop .inv) (omega arith) (rw (start .pre .3) at (c .before .before .before .before .pair .ensures .0)) (c .before .before .declare-parameter .ensures .0)
 
 returns : tie.Need-returns Inv-loop μ-loop
 returns c =
@@ -42,7 +49,7 @@ parameters-spec =
     Inv-loop
     μ-loop
     loop-holds
-    (λ c κs. let h = c .before .before .before .before .pre .2 in (h .0, omega (arith, h .1)))
+    pair-requires
     declare-parameter-requires
     (λ c. omega arith)
     (λ c. omega arith)

@@ -14,35 +14,34 @@ use Rattle.forward.proofs.Chains.{super-chain, super-none-chain}
 use Rattle.store.specs.Promise.{nothing, takes}
 use Rattle.store.proofs.Visiting.{ticked-runs}
 use Rattle.store.proofs.Compose.{known}
+use Rattle.nodes.specs.declared.statements.Class.{Class}
 use Rattle.store.specs.Cell.{Bytes}
-use Rattle.routines.proofs.Held.{inside, readable, lawful-kept, class-named, super-none, super-some}
+use Rattle.routines.proofs.Held.{inside, node, lawful-kept, super-none, super-some}
 use Rattle.routines.proofs.NodeLine.{one, counting, _▹_, room-after, always, small-emit, gives}
 use Rattle.routines.proofs.class_stmt.superclass.Statement.{statement}
 use Rattle.routines.proofs.class_stmt.superclass.Tie as tie
 
-payload-of-requires : tie.Need-payload-of-requires
-payload-of-requires c κs =
-    let start = c .before .before .before .before in
-    readable (start .pre .0 .lawful) (start .pre .0 .known)
+class-of-requires : tie.Need-class-of-requires
+class-of-requires c κs =
+    let start = c .before .before .before in
+    (node (start .pre .0 .lawful) (start .pre .0 .known), start .pre .0 .width, start .pre .1)
 
 visit-requires : tie.Need-visit-requires
 visit-requires c κs =
-    let start = c .before .before .before .before .before .before .before .before .before .before in
+    let start = c .before .before .before .before .before .before .before in
     omega (arith, start .pre .0 .fine .sound .long)
 
 variable-requires : tie.Need-variable-requires
 unfolding weight-super
 variable-requires c κs =
-    let start = c .before .before .before .before .before .before .before .before .before .before .before .before .before .before in
-    let word = c .before .before .before .before .before .before .word in
-    let third-place = c .before .before .before .before .before .before .before .third-place in
-    let payload-of = c .before .before .before .before .before .before .before .before .before .payload-of in
+    let start = c .before .before .before .before .before .before .before .before .before .before .before in
+    let class-of = c .before .before .before .before .before .before .before .class-of in
     let if1 = c .before .before .before .before .before .if1 in
     let visit = c .before .before .before .visit in
     let given = start .pre .0 in
     let fs = fields (now (start .args .tree)) in
     let held = class-node fs (given .lawful .shapes) (start .args .node) (inside (given .lawful) (given .known)) (start .pre .1) in
-    let parent = word .ensures .0 ∙ class-named (given .lawful) (given .known) (given .width) (payload-of .ensures) (start .pre .1) .third _ (third-place .ensures) in
+    let parent = ap (λ (x : Class). x .superclass) (class-of .ensures .0) in
     let below = held .superclass (λ e. if1 .taken (parent ∙ e)) in
     let is = super-some fs (word-of fs (start .args .node) 2) (λ e. if1 .taken (parent ∙ e)) in
     let line = counting (given .fine) (visit .ensures) in
@@ -51,17 +50,15 @@ variable-requires c κs =
 returns : tie.Need-returns
 unfolding lower-expr weight-super visits-super
 returns c =
-    let start = c .before .before .before .before .before .before .before .before .before .before .before .before .before .before .before .before .before in
-    let word = c .before .before .before .before .before .before .before .before .before .word in
-    let third-place = c .before .before .before .before .before .before .before .before .before .before .third-place in
-    let payload-of = c .before .before .before .before .before .before .before .before .before .before .before .before .payload-of in
+    let start = c .before .before .before .before .before .before .before .before .before .before .before .before .before .before in
+    let class-of = c .before .before .before .before .before .before .before .before .before .before .class-of in
     let if1 = c .before .before .before .before .before .before .before .before .if1 in
     let visit = c .before .before .before .before .before .before .visit in
     let variable = c .before .before .variable in
     let given = start .pre .0 in
     let fs = fields (now (start .args .tree)) in
     let held = class-node fs (given .lawful .shapes) (start .args .node) (inside (given .lawful) (given .known)) (start .pre .1) in
-    let parent = word .ensures .0 ∙ class-named (given .lawful) (given .known) (given .width) (payload-of .ensures) (start .pre .1) .third _ (third-place .ensures) in
+    let parent = ap (λ (x : Class). x .superclass) (class-of .ensures .0) in
     let some : word-of fs (start .args .node) 2 ≡ 65535 → ⊥ = λ e. if1 .taken (parent ∙ e) in
     let below = held .superclass some in
     let known = inside {i = word-of fs (start .args .node) 2} (given .lawful) (omega (arith, below .below, given .known)) in
@@ -74,7 +71,7 @@ returns c =
 
 emit-requires : tie.Need-emit-requires
 emit-requires c κs =
-    let start = c .before .before .before .before .before .before .before .before .before .before .before .before .before .before in
+    let start = c .before .before .before .before .before .before .before .before .before .before .before in
     let next-register = c .before .before .before .next-register in
     let line = one (next-register .ensures .0) in
     let register = next-register .result .result in
@@ -85,35 +82,26 @@ emit-requires c κs =
 returns-2 : tie.Need-returns-2
 unfolding weight-super visits-super
 returns-2 c =
-    let start = c .before .before .before .before .before .before .before .before .before .before .before .before .before .before .before .before .before in
-    let payload-of = c .before .before .before .before .before .before .before .before .before .before .before .before .payload-of in
-    let mark = c .before .before .before .before .before .before .before .before .before .before .before .mark in
-    let word = c .before .before .before .before .before .before .before .before .before .word in
-    let third-place = c .before .before .before .before .before .before .before .before .before .before .third-place in
+    let start = c .before .before .before .before .before .before .before .before .before .before .before .before .before .before in
+    let class-of = c .before .before .before .before .before .before .before .before .before .before .class-of in
     let if1 = c .before .before .before .before .before .before .before .before .if1 in
     let next-register = c .before .before .before .before .before .before .next-register in
     let emit = c .before .before .emit in
     let given = start .pre .0 in
     let fs = fields (now (start .args .tree)) in
-    let told = class-named (given .lawful) (given .known) (given .width) (payload-of .ensures) (start .pre .1) in
-    let parent = word .ensures .0 ∙ told .third _ (third-place .ensures) in
+    let parent = ap (λ (x : Class). x .superclass) (class-of .ensures .0) in
     let a = next-register .ensures .0 in
     let d = emit .ensures in
     rw (super-none fs (word-of fs (start .args .node) 2) (sym parent ∙ if1 .left))
     (gives nothing (one a ▹ one d) (omega arith) (omega arith) (omega arith) (λ z. omega arith) (omega arith)
-    (λ ps. super-none-chain _ _ _ _ (a .runs ps) _ (known _ _ _ ps) _ (rw (mark .ensures ∙ told .mark) at (d .runs ps)))
+    (λ ps. super-none-chain _ _ _ _ (a .runs ps) _ (known _ _ _ ps) _ (rw (class-of .ensures .0) at (d .runs ps)))
     (small-emit d (next-register .ensures .1)))
 
 pub superclass-spec : {M : Type 1} → statement M
 superclass-spec =
     tie.close
     (tie.spec
-    (λ c. search needs)
-    (λ c. search needs)
-    payload-of-requires
-    (λ c κs. lit< tt)
-    (λ c κs. search needs)
-    (λ c κs. search needs)
+    class-of-requires
     visit-requires
     variable-requires
     (λ c. search needs)

@@ -11,18 +11,18 @@ use Rattle.forward.proofs.Calls.{Chain}
 use Rattle.forward.proofs.Lines.{iterate-many-calls}
 use Rattle.forward.proofs.Chains.{iterate-many-chain}
 use Rattle.routines.proofs.PieceLine.{from, _▹_, room, here, ends}
-use Rattle.routines.proofs.Tokens.{one-token, two-tokens}
+use Rattle.routines.proofs.Tokens.{one-token, two-tokens, first-there}
 use Rattle.routines.proofs.enhanced_for_stmt.iterate.Statement.{statement}
 use Rattle.routines.proofs.enhanced_for_stmt.iterate.Tie as tie
 
 iterate-one-requires : tie.Need-iterate-one-requires
-iterate-one-requires c κs = let start = c .before .before .before .before .before in (start .pre .0, start .pre .1, c .before .word .ensures .1, start .pre .5, start .pre .6)
+iterate-one-requires c κs = let start = c .before .before .before .before .before in (start .pre .0, start .pre .1, c .before .child .ensures .1, start .pre .5, start .pre .6)
 
 returns : tie.Need-returns
 returns c =
     let start = c .before .before .before .before .before .before .before .before in
     let s = start .args in
-    let child = c .before .before .before .before .word .ensures in
+    let child = c .before .before .before .before .child .ensures in
     let one = rw (child .0) at (c .before .before .iterate-one .ensures) in
     rw (one-token (s .scope) (s .payload .now) (s .from) (s .n) (c .before .before .before .before .before .if1 .taken)) (one (s .node) _)
 
@@ -57,7 +57,7 @@ pub iterate-spec : {M : Type 1} → statement M
 iterate-spec =
     tie.close
     (tie.spec
-    (λ c κs. search needs)
+    (λ c κs. let start = c .before .before .before in first-there (start .pre .3) (start .pre .2))
     iterate-one-requires
     (λ c. search needs)
     returns

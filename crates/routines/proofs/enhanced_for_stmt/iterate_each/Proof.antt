@@ -5,6 +5,7 @@ use borrow.Author.Needs.{needs}
 use Rattle.forward.proofs.Chains.{iterate-each-end}
 use Rattle.store.proofs.Runs.{due}
 use Rattle.routines.proofs.PieceLine.{_▹_, room, here, settling, ends}
+use Rattle.routines.proofs.Tokens.{pair-there}
 use Rattle.routines.proofs.PairLoops.{Turned, all-names, no-turn, name-turn, name-byte, all-turned}
 use Rattle.routines.proofs.enhanced_for_stmt.iterate_each.Statement.{statement}
 use Rattle.routines.proofs.enhanced_for_stmt.iterate_each.Tie as tie
@@ -62,7 +63,7 @@ iterate-each-spec =
     Inv-loop
     μ-loop
     loop-holds
-    (λ c κs. let h = c .before .before .before .before .pre in (h .2, omega (arith, h .3)))
+    (λ c κs. let h = c .before .before .before .before .pre .2 in (pair-there _ h (omega (arith, c .loop-test .taken)), h .width))
     declare-parameter-requires
     (λ c. omega arith)
     emit-requires

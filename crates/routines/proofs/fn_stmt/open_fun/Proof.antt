@@ -1,5 +1,6 @@
 -- The function's own register and local, the parameters, GetCurrentFunc: forward's line `open-fun-calls`.
 use borrow.Author.Needs.{needs}
+use mathlib.Core.Path.{refl}
 use Rattle.routines.proofs.fn_stmt.open_fun.Statement.{statement}
 use Rattle.routines.proofs.fn_stmt.open_fun.Tie as tie
 use native.Mathlib.Omega.{arith}
@@ -13,7 +14,7 @@ parameters-requires : tie.Need-parameters-requires
 parameters-requires c κs =
     let start = c .before .before .before .before .before .before .before in
     let line = from (start .pre .0) (start .pre .1) ▹ c .before .before .before .declare-parameter .ensures .0 in
-    (line .moves .fine, room 0 0 line (search needs), start .pre .3)
+    (line .moves .fine, room 0 0 line (search needs), start .pre .3, refl)
 
 emit-requires : tie.Need-emit-requires
 emit-requires c κs =

@@ -1,5 +1,6 @@
 -- A register, then the parameters: forward's line `open-function-calls`.
 use borrow.Author.Needs.{needs}
+use mathlib.Core.Path.{refl}
 use Rattle.routines.proofs.function_expr.open_function.Statement.{statement}
 use Rattle.routines.proofs.function_expr.open_function.Tie as tie
 use Rattle.forward.proofs.Leaves.{open-function-chain}
@@ -9,7 +10,7 @@ parameters-requires : tie.Need-parameters-requires
 parameters-requires c κs =
     let start = c .before .before .before .before .before .before .before in
     let line = from (start .pre .0) (start .pre .1) ▹ c .before .before .before .next-register .ensures .0 in
-    (line .moves .fine, room 0 0 line (search needs), start .pre .2)
+    (line .moves .fine, room 0 0 line (search needs), start .pre .2, refl)
 
 returns : tie.Need-returns
 returns c =

@@ -14,35 +14,23 @@ use Rattle.store.specs.Promise.{uses}
 use Rattle.store.proofs.Compose.{known, room-by}
 use Rattle.store.proofs.Pools.{global-here}
 use Rattle.store.specs.Cell.{Bytes}
-use Rattle.routines.proofs.Held.{inside, readable, let-named}
+use Rattle.routines.proofs.Held.{inside, node}
 use Rattle.routines.proofs.NodeLine.{one, _▹_, room-after, always, small-put, gives}
 use Rattle.routines.proofs.let_stmt.let_only.Statement.{statement}
 use Rattle.routines.proofs.let_stmt.let_only.Tie as tie
 
-payload-of-requires : tie.Need-payload-of-requires
-payload-of-requires c κs =
-    let start = c .before .before .before .before in
-    readable (start .pre .0 .lawful) (start .pre .0 .known)
-
-child-requires : tie.Need-child-requires
-child-requires c κs =
-    let start = c .before .before .before .before .before in
-    let given = start .pre .0 in
-    omega (arith, let-named (given .lawful) (given .known) (given .width) (c .payload-of .ensures) (start .pre .1) .some)
-
-mark-there-requires : tie.Need-mark-there-requires
-mark-there-requires c κs =
-    let start = c .before .before .before .before .before .before in
-    let given = start .pre .0 in
-    (let-named (given .lawful) (given .known) (given .width) (c .before .payload-of .ensures) (start .pre .1) .some, lit< tt)
+let-of-requires : tie.Need-let-of-requires
+let-of-requires c κs =
+    let start = c .before .before .before in
+    (node (start .pre .0 .lawful) (start .pre .0 .known), start .pre .0 .width, start .pre .1)
 
 new-global-requires : tie.Need-new-global-requires
 new-global-requires c κs =
-    let start = c .before .before .before .before .before .before .before .before .before .before in
+    let start = c .before .before .before .before .before .before .before in
     let is-global-context = c .before .before .is-global-context in
     let if1 = c .before .if1 in
-    let child = c .before .before .before .before .child in
-    (start .pre .0 .fine, room-by 0 0 0 (omega arith) (omega arith) (start .pre .0 .room), global-here (start .args .scope) (sym (is-global-context .ensures .0) ∙ if1 .taken) .1, child .ensures .1)
+    let let-of = c .before .before .before .let-of in
+    (start .pre .0 .fine, room-by 0 0 0 (omega arith) (omega arith) (start .pre .0 .room), global-here (start .args .scope) (sym (is-global-context .ensures .0) ∙ if1 .taken) .1, let-of .ensures .1)
 
 next-register-requires : tie.Need-next-register-requires
 next-register-requires c κs =
@@ -53,7 +41,7 @@ emit-requires : tie.Need-emit-requires
 emit-requires c κs =
     let new-global = c .before .before .before .before .before .before .before .new-global in
     let next-register = c .before .before .before .next-register in
-    let start = c .before .before .before .before .before .before .before .before .before .before .before .before .before .before .before .before .before .before in
+    let start = c .before .before .before .before .before .before .before .before .before .before .before .before .before .before .before in
     let line = one (new-global .ensures 0) ▹ one (next-register .ensures .0) in
     let register = next-register .result .result in
     let small = next-register .ensures .1 in
@@ -65,7 +53,7 @@ put-wide-requires c κs =
     let new-global = c .before .before .before .before .before .before .before .before .before .before .before .new-global in
     let next-register = c .before .before .before .before .before .before .before .next-register in
     let emit = c .before .before .before .emit in
-    let start = c .before .before .before .before .before .before .before .before .before .before .before .before .before .before .before .before .before .before .before .before .before .before in
+    let start = c .before .before .before .before .before .before .before .before .before .before .before .before .before .before .before .before .before .before .before in
     let line = one (new-global .ensures 0) ▹ one (next-register .ensures .0) ▹ one (emit .ensures) in
     let register = next-register .result .result in
     let small = next-register .ensures .1 in
@@ -76,10 +64,8 @@ put-wide-requires c κs =
 returns : tie.Need-returns
 unfolding lower-stmt
 returns c =
-    let start = c .before .before .before .before .before .before .before .before .before .before .before .before .before .before .before .before .before .before .before .before .before .before .before .before .before in
-    let child = c .before .before .before .before .before .before .before .before .before .before .before .before .before .before .before .before .before .before .before .child in
-    let payload-of = c .before .before .before .before .before .before .before .before .before .before .before .before .before .before .before .before .before .before .before .before .payload-of in
-    let mark = c .before .before .before .before .before .before .before .before .before .before .before .before .before .before .before .before .before .before .mark-there in
+    let start = c .before .before .before .before .before .before .before .before .before .before .before .before .before .before .before .before .before .before .before .before .before .before in
+    let let-of = c .before .before .before .before .before .before .before .before .before .before .before .before .before .before .before .before .before .before .let-of in
     let new-global = c .before .before .before .before .before .before .before .before .before .before .before .before .before .before .new-global in
     let next-register = c .before .before .before .before .before .before .before .before .before .before .next-register in
     let emit = c .before .before .before .before .before .before .emit in
@@ -88,52 +74,44 @@ returns c =
     let if1 = c .before .before .before .before .before .before .before .before .before .before .before .before .before .before .before .before .if1 in
     let given = start .pre .0 in
     let held = let-node (fields (now (start .args .tree))) (given .lawful .shapes) (start .args .node) (inside (given .lawful) (given .known)) (start .pre .1) in
-    let told = let-named (given .lawful) (given .known) (given .width) (payload-of .ensures) (start .pre .1) in
-    let k = new-global .ensures (mark .result) in
+    let k = new-global .ensures (let-of .result .mark) in
     let a = next-register .ensures .0 in
     let b = emit .ensures in
     let d = put-wide .ensures in
     gives (uses 8 1 0) (one k ▹ one a ▹ one b ▹ one d) (omega arith) (omega arith) (omega arith) (λ z. omega arith) (omega arith)
-    (λ ps. rw (held .is-only (start .pre .2)) (rw (child .ensures .0 ∙ told .name, mark .ensures ∙ told .mark) at (let-only-chain _ _ _ _ _ (is-global-context .ensures .1 _ (start .args .step) (given .fine .sound) ps) .0 (if1 .taken) _ (k .runs ps) _ (known _ _ _ ps) _ (a .runs ps) _ (known _ _ _ ps) _ (b .runs ps) _ (d .runs ps))))
+    (λ ps. rw (held .is-only (start .pre .2)) (rw (let-of .ensures .0) at (let-only-chain _ _ _ _ _ (is-global-context .ensures .1 _ (start .args .step) (given .fine .sound) ps) .0 (if1 .taken) _ (k .runs ps) _ (known _ _ _ ps) _ (a .runs ps) _ (known _ _ _ ps) _ (b .runs ps) _ (d .runs ps))))
     (small-put d (lit< tt))
 
 allocate-register-requires : tie.Need-allocate-register-requires
 allocate-register-requires c κs =
     let next-register2 = c .before .before .before .next-register2 in
-    let start = c .before .before .before .before .before .before .before .before .before .before .before .before .before .before in
-    let child = c .before .before .before .before .before .before .before .before .child in
+    let start = c .before .before .before .before .before .before .before .before .before .before .before in
+    let let-of = c .before .before .before .before .before .before .before .let-of in
     let line = one (next-register2 .ensures .0) in
-    (line .moves .fine, room-after 0 1 1 line (start .pre .0 .room) (omega arith) (omega arith) (omega arith), child .ensures .1, always (next-register2 .result .outcome) (next-register2 .ensures .1))
+    (line .moves .fine, room-after 0 1 1 line (start .pre .0 .room) (omega arith) (omega arith) (omega arith), let-of .ensures .1, always (next-register2 .result .outcome) (next-register2 .ensures .1))
 
 returns-2 : tie.Need-returns-2
 unfolding lower-stmt
 returns-2 c =
-    let start = c .before .before .before .before .before .before .before .before .before .before .before .before .before .before .before .before .before in
-    let child = c .before .before .before .before .before .before .before .before .before .before .before .child in
-    let payload-of = c .before .before .before .before .before .before .before .before .before .before .before .before .payload-of in
-    let mark = c .before .before .before .before .before .before .before .before .before .before .mark-there in
+    let start = c .before .before .before .before .before .before .before .before .before .before .before .before .before .before in
+    let let-of = c .before .before .before .before .before .before .before .before .before .before .let-of in
     let next-register2 = c .before .before .before .before .before .before .next-register2 in
     let allocate-register = c .before .before .allocate-register in
     let is-global-context = c .before .before .before .before .before .before .before .before .before .is-global-context in
     let if1 = c .before .before .before .before .before .before .before .before .if1 in
     let given = start .pre .0 in
     let held = let-node (fields (now (start .args .tree))) (given .lawful .shapes) (start .args .node) (inside (given .lawful) (given .known)) (start .pre .1) in
-    let told = let-named (given .lawful) (given .known) (given .width) (payload-of .ensures) (start .pre .1) in
     let a = next-register2 .ensures .0 in
     let d = allocate-register .ensures in
     gives (uses 8 1 0) (one a ▹ one d) (omega arith) (omega arith) (omega arith) (λ z. omega arith) (omega arith)
-    (λ ps. rw (held .is-only (start .pre .2)) (rw (child .ensures .0 ∙ told .name, mark .ensures ∙ told .mark) at (let-only-chain _ (token (child .result) (mark .result)) _ _ _ (is-global-context .ensures .1 _ (start .args .step) (given .fine .sound) ps) .1 (if1 .left) _ (a .runs ps) _ (known _ _ _ ps) _ (d .runs ps))))
+    (λ ps. rw (held .is-only (start .pre .2)) (rw (let-of .ensures .0) at (let-only-chain _ (token (let-of .result .name) (let-of .result .mark)) _ _ _ (is-global-context .ensures .1 _ (start .args .step) (given .fine .sound) ps) .1 (if1 .left) _ (a .runs ps) _ (known _ _ _ ps) _ (d .runs ps))))
     (always (next-register2 .result .outcome) (next-register2 .ensures .1))
 
 pub let-only-spec : {M : Type 1} → statement M
 let-only-spec =
     tie.close
     (tie.spec
-    (λ c. search needs)
-    (λ c. search needs)
-    payload-of-requires
-    child-requires
-    mark-there-requires
+    let-of-requires
     (λ c κs. search needs)
     new-global-requires
     next-register-requires

@@ -19,19 +19,19 @@ use Rattle.routines.proofs.literal_expr.literal.Tie as tie
 
 tag-of-requires : tie.Need-tag-of-requires
 tag-of-requires c κs =
-    let start = c .before .before .before .before in
+    let start = c .before .before .before in
     readable (start .pre .0 .lawful) (start .pre .0 .known)
 
 payload-of-requires : tie.Need-payload-of-requires
 payload-of-requires c κs =
-    let start = c .before .before .before .before .before .before in
+    let start = c .before .before .before .before .before in
     readable (start .pre .0 .lawful) (start .pre .0 .known)
 
 put-wide-requires : tie.Need-put-wide-requires
 put-wide-requires c κs =
     let next-register = c .before .before .before .before .before .before .before .next-register in
     let add-constant = c .before .before .before .add-constant in
-    let start = c .before .before .before .before .before .before .before .before .before .before .before .before .before .before .before .before .before in
+    let start = c .before .before .before .before .before .before .before .before .before .before .before .before .before .before .before .before in
     let line = one (next-register .ensures .0) ▹ one (add-constant .ensures) in
     let register = next-register .result .result in
     let small = next-register .ensures .1 in
@@ -45,7 +45,7 @@ returns c =
     let next-register = c .before .before .before .before .before .before .before .before .before .before .next-register in
     let add-constant = c .before .before .before .before .before .before .add-constant in
     let put-wide = c .before .before .put-wide in
-    let start = c .before .before .before .before .before .before .before .before .before .before .before .before .before .before .before .before .before .before .before .before in
+    let start = c .before .before .before .before .before .before .before .before .before .before .before .before .before .before .before .before .before .before .before in
     let literal-of = c .before .before .before .before .before .before .before .before .before .before .before .before .literal-of in
     let tag-of = c .before .before .before .before .before .before .before .before .before .before .before .before .before .before .before .tag-of in
     let payload-of = c .before .before .before .before .before .before .before .before .before .before .before .before .before .payload-of in
@@ -63,8 +63,6 @@ pub literal-spec : {M : Type 1} → statement M
 literal-spec =
     tie.close
     (tie.spec
-    (λ c. search needs)
-    (λ c. search needs)
     tag-of-requires
     payload-of-requires
     (λ c κs. search needs)
