@@ -16,20 +16,29 @@ use Rattle.meaning.proofs.Weights.{accepted-size}
 use Rattle.meaning.proofs.Unfold.{last-items}
 use Rattle.meaning.proofs.Places.{none-of, unmarked, heads-none}
 use Rattle.meaning.proofs.Reading.{Program, program-node}
-use Rattle.nodes.specs.Offsets.{Readable, Filled}
+use Rattle.nodes.specs.Offsets.{Offsets, Readable}
 use Rattle.nodes.proofs.Headers.{offsets-kept}
+use Rattle.tree.specs.Used.{scratch-after}
+use Rattle.tree.proofs.Noted.{accepted-offsets}
 use Rattle.store.specs.Store.{main-scope, first-step}
 use Rattle.store.specs.Opening.{Begun}
 use Rattle.store.proofs.Compose.{room-by}
 use Rattle.lower.specs.Open.{Opened}
 use Rattle.cycle.specs.Cycle.{AskRow}
 
--- the store is begun beside the table of offsets, which stays
-pub opened : {t w0 w1 w2 : List ℕ} {n : ℕ} → Filled t w0 w1 → n ≡ length (fields t) → 12288 + 16 * n ≤ length w1 → Begun w1 n w2 → Opened t n w2
-opened f e l b =
-    record { offsets = offsets-kept (f .offsets) (b .same) (λ i h. b .offsets i (omega arith)); fine = b .fine; room = b .room; runs = b .runs; image = b .image; counts = b .counts }
+-- the check has noted the offsets of a tree that it has accepted, at the end of the work area
+pub check-offsets : (mode : ℕ) (t w : List ℕ) (n : ℕ) → checked mode t (length w) ≡ Accepted n → (w′ : List ℕ) → w′ ≡ scratch-after mode t w → length w′ ≡ length w → Offsets t w′
+check-offsets mode t w n e w′ el size =
+    let a = accepted mode t (length w) n e in
+    record { inside = omega (arith, a .room); each = λ i h. accepted-offsets mode t w n e w′ el size i (omega (arith, a .nodes)) }
 
 module _ (mode : ℕ) (t : List ℕ) (work n : ℕ) (e : checked mode t work ≡ Accepted n) where
+  -- the store is begun beside them, and they stay
+  pub opened : {w w′ : List ℕ} → length w ≡ work → Offsets t w → Begun w n w′ → Opened t n w′
+  opened size o b =
+      let a = accepted mode t work n e in
+      record { offsets = offsets-kept o (b .same) (λ i h. b .offsets i (omega (arith, a .nodes, a .room))); fine = b .fine; room = b .room; runs = b .runs; image = b .image; counts = b .counts }
+
   pub some-nodes : 1 ≤ n
   some-nodes = let a = accepted mode t work n e in omega (arith, a .nodes, a .some)
 

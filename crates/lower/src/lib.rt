@@ -1,7 +1,6 @@
 // The public call: a tree is checked, lowered and written as an image; afterwards the work area is zero, and so is the output behind the image.
 use meaning::Outcome;
 use meaning::Reply;
-use store::Step;
 ghost use mathlib.Core.Path.{_≡_};
 ghost use mathlib.Core.List.{_++_};
 ghost use Prim.Native.Nat.{ℕ, _-_, _≤_};
@@ -12,10 +11,8 @@ ghost use Rattle.meaning.specs.At.{extra};
 ghost use Rattle.meaning.specs.Check.{checked};
 ghost use Rattle.meaning.specs.declared.Outcome.the-variants.{Accepted};
 ghost use Rattle.meaning.specs.Answer.{finished, reply, output, work-area};
-ghost use Rattle.nodes.specs.Offsets.{Readable};
-ghost use Rattle.store.specs.Store.{first-step};
+ghost use Rattle.nodes.specs.Offsets.{Offsets, Readable};
 ghost use Rattle.image.specs.Finish.{Ending};
-ghost use Rattle.lower.specs.Open.{Opened};
 ghost use Rattle.lower.specs.Told.{counted, Counted, Countable};
 
 // Every word is zero.
@@ -41,15 +38,6 @@ fn clear_bytes(out: &mut [u8], from: usize)
     }
 }
 
-// The nodes' offsets and the store, for a tree that the check has accepted, in whichever mode.
-fn set_up(tree: &[u8], work: &mut [u32], n: usize) -> Step
-    requires { ⌜ ((mode : ℕ) × (checked mode (now tree) (length (now work)) ≡ Accepted n)) ⌝ }
-    ensures { λ r. ⌜ (r ≡ first-step) × Opened (now (tree .entry)) n (now (work .exit)) ⌝ }
-{
-    nodes::fill_offsets(tree, work, n);
-    store::begin(work, n)
-}
-
 // 1 where the last node says that marks have four bytes, else 0.
 fn width_of(tree: &[u8], work: &[u32], n: usize) -> usize
     requires { ⌜ Readable (now tree) (now work) (n - 1) × (n ≡ length (fields (now tree))) × (1 ≤ n) ⌝ }
@@ -61,12 +49,12 @@ fn width_of(tree: &[u8], work: &[u32], n: usize) -> usize
     0
 }
 
-// The main function's statements, its prototype, the constants.
+// The main function's statements, its prototype, the constants: of a tree that the check has accepted, and whose offsets it has noted.
 fn lower_checked(tree: &[u8], work: &mut [u32], out: &mut [u8], n: usize, mode: u64) -> Outcome
-    requires { ⌜ checked mode (now tree) (length (now work)) ≡ Accepted n ⌝ }
+    requires { ⌜ (checked mode (now tree) (length (now work)) ≡ Accepted n) × Offsets (now tree) (now work) ⌝ }
     ensures { λ r. ⌜ Ending (finished mode (now (tree .entry)) (length (now (work .entry))) (length (now (out .entry)))) (now (out .exit)) r × Counted (now (tree .entry)) (now (work .exit)) r ⌝ }
 {
-    let first = set_up(tree, work, n);
+    let first = store::begin(work, n);
     let wide = width_of(tree, work, n);
     let main = store::main_scope(mode as usize, wide, n);
     let last = n - 1;

@@ -4,6 +4,7 @@ use native.Mathlib.Omega.{arith}
 use lib.ListN.{length}
 use denote.Ref.{now}
 use Rattle.meaning.specs.Check.{checked}
+use Rattle.lower.proofs.Start.{check-offsets}
 use Rattle.lower.proofs.Whole.{not-begun}
 use borrow.Author.Needs.{needs}
 use Rattle.lower.proofs.lowered.Statement.{statement}
@@ -23,7 +24,8 @@ lower-checked-requires c κs =
     let check-in = c .before .before .before .before .before .before .before .check-in in
     let judged = c .before .before .before .judged in
     let a = start .args in
-    ap (checked (a .mode) (now (a .tree))) (check-in .kept .1 .0) ∙ sym (check-in .ensures .0) ∙ judged .given .1
+    let taken = sym (check-in .ensures .0) ∙ judged .given .1 in
+    (ap (checked (a .mode) (now (a .tree))) (check-in .kept .1 .0) ∙ taken, check-offsets (a .mode) (now (a .tree)) (now (a .work)) _ taken _ (check-in .ensures .1) (check-in .kept .1 .0))
 
 returns-2 : tie.Need-returns-2
 returns-2 c =
