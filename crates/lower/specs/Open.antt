@@ -9,7 +9,7 @@ use Rattle.store.specs.Layout.{visited}
 use Rattle.store.specs.Store.{run, main-scope, first-step, Image, Fine}
 use Rattle.store.specs.Promise.{Room}
 
--- the table of offsets is filled, and the words stand for what the definition starts from, with room for every node
+-- the table of offsets is there, and the words stand for what the definition starts from, with room for every node
 pub record Opened (t : List ℕ) (n : ℕ) (w : List ℕ) : Type 0 where
   pub offsets : Offsets t w
   pub fine : (mode wide : ℕ) → Fine w (main-scope mode wide n) first-step

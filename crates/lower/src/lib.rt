@@ -3,7 +3,7 @@ use meaning::Outcome;
 use meaning::Reply;
 ghost use mathlib.Core.Path.{_≡_};
 ghost use mathlib.Core.List.{_++_};
-ghost use Prim.Native.Nat.{ℕ, _-_, _≤_};
+ghost use Prim.Native.Nat.{_-_, _≤_};
 ghost use lib.ListN.{length, take, replicate};
 ghost use Rattle.meaning.specs.Fields.{fields};
 ghost use Rattle.meaning.specs.Grammar.{wide-marks};

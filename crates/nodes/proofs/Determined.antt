@@ -1,5 +1,5 @@
 -- Promise strength: any two outcomes that one promise allows are equal. `Post` is the promise itself, as it stands in src/: of what is lent (κs, args),
--- what is returned (r) and what is left behind each reference (s). `fill_offsets` is in Allowed.
+-- what is returned (r) and what is left behind each reference (s).
 use mathlib.Core.Path.{_≡_, sym, _∙_}
 use denote.Ref.{now}
 use Rattle.nodes.proofs.offsets.tag_of.Reads as tag-of

@@ -1,20 +1,17 @@
--- Field i of a tree stands at byte `header tree i`: what a reader of a node and the walk that fills the table go by.
+-- Field i of a tree stands at byte `header tree i`: what a reader of a node goes by.
 use mathlib.Core.Path.{_≡_, refl, sym, ap, _∙_}
 use mathlib.Core.Bool.{Bool, true, false}
 use mathlib.Core.List.{List}
-use Prim.Native.Nat.{ℕ, zero, suc, _+_, _-_, _*_, _/_, _<_, _≤_}
+use Prim.Native.Nat.{ℕ, zero, suc, _+_, _-_, _/_, _<_, _≤_}
 use native.Mathlib.Nat.{add-zero}
-use native.Mathlib.Numerals.{add-one}
 use native.Mathlib.Omega.{arith}
-use lib.ListN.{length, getD, take, drop, set, length-take, length-drop, length-set}
-use lib.Seq.{drop-drop, getD-drop, getD-set-same, getD-set-other}
-use borrow.Author.Count.{below-more}
+use lib.ListN.{length, getD, take, drop, length-take, length-drop}
+use lib.Seq.{drop-drop, getD-drop}
 use Rattle.meaning.specs.Fields.{word-at, span, whole, Field, front, rest, fields, field-at, header}
 use Rattle.meaning.specs.At.{tag-of, file-words}
-use Rattle.meaning.proofs.Lists.{tail-part}
 use Rattle.meaning.proofs.FieldLaws.{whole-true, fields-whole, fields-cut}
 use Rattle.nodes.proofs.Bytes.{words-count}
-use Rattle.nodes.specs.Offsets.{Offsets, Readable, Filled}
+use Rattle.nodes.specs.Offsets.{Offsets, Readable}
 
 -- where there is a field, a whole one stands at the front
 some-whole : (s : List ℕ) → 1 ≤ length (fields s) → whole s ≡ true
@@ -39,14 +36,6 @@ stands s (suc i) h =
     let r = stands (rest s) i (omega (arith, ap length (fields-whole s w))) in
     let d = drop-drop (header (rest s) i) (span s) s in
     record { entire = rw d at (r .entire); same = ap (λ (fs : List Field). field-at fs (suc i)) (fields-whole s w) ∙ (rw d at (r .same)) }
-
--- the next header stands a field's span further
-header-next : (s : List ℕ) (i : ℕ) → header s (suc i) ≡ header s i + span (drop (header s i) s)
-unfolding header
-header-next s zero = omega arith
-header-next s (suc i) =
-    let r = rw (drop-drop (header (rest s) i) (span s) s) at (header-next (rest s) i) in
-    omega arith
 
 -- the length that the header at n says
 pub size-drop : (s : List ℕ) (n : ℕ) → word-at (drop n s) 1 ≡ word-at s (n + 1)
@@ -97,51 +86,4 @@ pub offsets-kept : {tree work work' : List ℕ} → Offsets tree work → length
 offsets-kept {work = work} o l same = record {
   inside = omega (arith, o .inside);
   each = λ i h. rw l (same (length work - 1 - i) (omega (arith, o .inside)) ∙ o .each i h);
-}
-
--- the work area while the table is filled: i offsets are there, and t is the tree from the next header on
-pub record Filling (tree work work' : List ℕ) (n i at : ℕ) (t : List ℕ) : Type 0 where
-  pub few : i ≤ n
-  pub start : at ≡ header tree i
-  pub left : t ≡ drop at tree
-  pub low : at ≤ 65538 * i
-  pub length-same : length work' ≡ length work
-  pub each : (j : ℕ) → j < i → getD work' (length work - 1 - j) 0 ≡ header tree j
-  pub before : (j : ℕ) → j + i < length work → getD work' j 0 ≡ getD work j 0
-
-pub filling-start : (tree work : List ℕ) (n : ℕ) → Filling tree work work n 0 0 tree
-unfolding header
-filling-start tree work n = record {
-  few = omega arith;
-  start = refl;
-  left = refl;
-  low = omega arith;
-  length-same = refl;
-  each = λ j h. absurd (omega arith);
-  before = λ j h. refl;
-}
-
--- a whole field stands at the next header
-pub filling-whole : {tree work work' : List ℕ} {n i at : ℕ} {t : List ℕ} → Filling tree work work' n i at t → n ≡ length (fields tree) → i < n → span t ≤ length t
-filling-whole {tree} {i = i} {t = t} f e h = whole-true t (rw (f .left, f .start) (stands tree i (omega arith) .entire))
-
-pub filling-more : {tree work work' : List ℕ} {n i at : ℕ} {t : List ℕ} → Filling tree work work' n i at t → n ≤ length work → i < n
-    → (place : ℕ) → place ≡ length work - 1 - i → (k : ℕ) → k ≡ span t → k ≤ 65538 → Filling tree work (set work' place at) n (i + 1) (at + k) (take (length t - k) (drop k t))
-filling-more {tree} {work} {work'} {n} {i} {at} {t} f room h place p k e s = record {
-  few = omega arith;
-  start = rw add-one (omega (arith, header-next tree i, rw (f .left, f .start) at e, f .start));
-  left = tail-part k t ∙ (rw (f .left) (drop-drop k at tree));
-  low = omega (arith, f .low);
-  length-same = length-set work' place at ∙ f .length-same;
-  each = below-more (λ j. getD (set work' place at) (length work - 1 - j) 0 ≡ header tree j) i (λ j b. getD-set-other work' place (length work - 1 - j) at 0 (λ q. omega arith) ∙ f .each j b)
-      (rw (← p) (getD-set-same work' place at 0 (omega (arith, f .length-same)) ∙ f .start));
-  before = λ j b. getD-set-other work' place j at 0 (λ q. omega arith) ∙ f .before j (omega arith);
-}
-
--- the table is full
-pub filling-end : {tree work work' : List ℕ} {n i at : ℕ} {t : List ℕ} → Filling tree work work' n i at t → n ≡ length (fields tree) → n ≤ length work → n ≤ i
-    → Filled tree work work'
-filling-end f e room h = record {
-  offsets = record { inside = omega (arith, f .length-same); each = λ i b. rw (f .length-same) (f .each i (omega (arith, f .few))) };
-  before = λ j b. f .before j (omega (arith, f .few));
 }

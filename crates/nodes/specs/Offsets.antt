@@ -14,8 +14,3 @@ pub record Offsets (tree work : List ℕ) : Type 0 where
 pub record Readable (tree work : List ℕ) (node : ℕ) : Type 0 where
   pub offsets : Offsets tree work
   pub known : node < length (fields tree)
-
--- the work area after the table is filled: every word before the table is as it was
-pub record Filled (tree work work' : List ℕ) : Type 0 where
-  pub offsets : Offsets tree work'
-  pub before : (i : ℕ) → i + length (fields tree) < length work → getD work' i 0 ≡ getD work i 0

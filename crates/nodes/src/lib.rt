@@ -17,7 +17,6 @@ pub use expressions::logical_of;
 pub use expressions::unary_of;
 pub use expressions::variable_of;
 pub use offsets::count_of;
-pub use offsets::fill_offsets;
 pub use offsets::payload_of;
 pub use offsets::tag_of;
 pub use statements::Class;

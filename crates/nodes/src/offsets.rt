@@ -1,28 +1,10 @@
-// Where each node stands: the table of offsets at the end of the work area, and what a header says.
+// Where each node stands: the table of offsets at the end of the work area, which the check has noted, and what a header says.
 ghost use mathlib.Core.Path.{_≡_};
 ghost use Prim.Native.Nat.{_+_, _-_, _<_, _≤_};
 ghost use lib.ListN.{length, getD};
 ghost use Rattle.meaning.specs.Fields.{fields, field-at};
 ghost use Rattle.meaning.specs.At.{tag-of, count-of, file-words};
-ghost use Rattle.nodes.specs.Offsets.{Readable, Filled};
-
-// Fills the table of offsets. Each turn hands on the tree from the next header on.
-pub fn fill_offsets(tree: &[u8], work: &mut [u32], n: usize)
-    requires { ⌜ (n ≡ length (fields (now tree))) × (n ≤ 32768) × (n ≤ length (now work)) ⌝ }
-    ensures { λ r. ⌜ Filled (now (tree .entry)) (now (work .entry)) (now (work .exit)) ⌝ }
-{
-    let mut t = tree;
-    let mut at: usize = 0;
-    let mut i: usize = 0;
-    while i < n {
-        let place = work.len() - 1 - i;
-        work[place] = at as u32;
-        let k = 3 + fields::word(t, 1);
-        t = &t[k..];
-        at = at + k;
-        i = i + 1;
-    }
-}
+ghost use Rattle.nodes.specs.Offsets.{Readable};
 
 // The byte at which a node's header starts.
 fn start_of(work: &[u32], node: usize) -> usize
