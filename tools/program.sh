@@ -44,6 +44,7 @@ program_itself() { # WORDS..
     else
         stack=$(ulimit -s)
         case $stack in *[!0-9]*) stack=3145728 ;; esac
-        "$emulator" -s "$((stack * 1024))" "$kit/lib/ld-linux-x86-64.so.2" --library-path "$kit/lib" "$program" "$@"
+        # without string stores, by which the C library clears memory and which are emulated byte by byte
+        "$emulator" -cpu max,erms=off,fsrm=off -s "$((stack * 1024))" "$kit/lib/ld-linux-x86-64.so.2" --library-path "$kit/lib" "$program" "$@"
     fi
 }
