@@ -91,6 +91,7 @@ fn admit(scratch: &mut [u32], limits: &[u32; 36], i: usize, kind: usize, w: usiz
     ensures lawful { λ r. ⌜ r ≡ lawful (tags-in (now (scratch .entry))) i kind w ⌝ }
     ensures noted { λ r. ⌜ now (scratch .exit) ≡ cond r (note-word (now (scratch .entry)) i kind w) (now (scratch .entry)) ⌝ }
 {
+    // EXPR, STMT, ANY
     if kind == 6 {
         return expression(scratch, i, w);
     }
