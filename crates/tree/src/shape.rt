@@ -44,7 +44,15 @@ fn note(scratch: &mut [u32], i: usize, w: usize)
 }
 
 // The word w is lawful as a child of node i, of a kind whose tags are from `low` to `high` without `but`. That is noted.
-fn child(scratch: &mut [u32], i: usize, kind: usize, low: u32, high: u32, but: u32, w: usize) -> bool
+fn child(
+    scratch: &mut [u32],
+    i: usize,
+    kind: usize,
+    low: u32,
+    high: u32,
+    but: u32,
+    w: usize,
+) -> bool
     requires { ⌜ (i < 32768) × (i ≤ length (now scratch)) × (names kind w ≡ true) × (bound kind 0 ≡ low) × (bound kind 1 ≡ high) × (bound kind 2 ≡ but) ⌝ }
     ensures lawful { λ r. ⌜ r ≡ lawful (tags-in (now (scratch .entry))) i kind w ⌝ }
     ensures noted { λ r. ⌜ now (scratch .exit) ≡ cond r (note-word (now (scratch .entry)) i kind w) (now (scratch .entry)) ⌝ }
@@ -83,6 +91,7 @@ fn admit(scratch: &mut [u32], limits: &[u32; 36], i: usize, kind: usize, w: usiz
     ensures lawful { λ r. ⌜ r ≡ lawful (tags-in (now (scratch .entry))) i kind w ⌝ }
     ensures noted { λ r. ⌜ now (scratch .exit) ≡ cond r (note-word (now (scratch .entry)) i kind w) (now (scratch .entry)) ⌝ }
 {
+    // EXPR, STMT, ANY
     if kind == 6 {
         return expression(scratch, i, w);
     }
