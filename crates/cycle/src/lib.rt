@@ -321,17 +321,7 @@ fn if_stmt(
         x.elifs,
         wide,
     );
-    let last = row(
-        tree,
-        work,
-        out,
-        others,
-        scope,
-        node,
-        x.elifs,
-        x.end,
-        wide,
-    );
+    let last = row(tree, work, out, others, scope, node, x.elifs, x.end, wide);
     routines::end_if(work, last, scope, step.pc)
 }
 
@@ -530,7 +520,15 @@ fn function(
     let payload = nodes::payload_of(tree, work, node);
     let own = store::next_register(work, step, scope, node);
     let entered = store::enter_function(work, own, scope, node, NO_NAME);
-    let opened = routines::open_function(payload, work, entered.step, entered.scope, node, 1, x.params);
+    let opened = routines::open_function(
+        payload,
+        work,
+        entered.step,
+        entered.scope,
+        node,
+        1,
+        x.params,
+    );
     let last = body(
         tree,
         work,

@@ -1,13 +1,13 @@
 -- The pairs of a payload, one by one.
-use Prim.Native.Nat.{ℕ, zero, suc, _+_, _-_, _*_, _≤_, _<_}
-use mathlib.Core.Path.{_≡_, refl, sym, ap, ap₂, _∙_}
-use mathlib.Core.Bool.{Bool, true, false, cond}
+use Prim.Native.Nat.{ℕ, suc, _+_, _-_, _≤_, _<_}
+use mathlib.Core.Path.{_≡_, refl, ap, ap₂, _∙_}
+use mathlib.Core.Bool.{Bool, true, false}
 use mathlib.Core.List.{List, [], _∷_}
 use native.Mathlib.Omega.{arith}
 use lib.ListN.{length}
 use Rattle.meaning.specs.Fields.{words}
 use Rattle.meaning.specs.Read.{at, token}
-use Rattle.meaning.specs.At.{mark-at, extra, mark-words, pair-place, pairs-in}
+use Rattle.meaning.specs.At.{mark-at, mark-words, pair-place, pairs-in}
 use Rattle.meaning.specs.Syntax.{Token}
 use Rattle.store.specs.declared.Scope.{Scope}
 use Rattle.store.specs.Store.{is-wide}

@@ -61,7 +61,16 @@ pub fn superclass(tree: &[u8], work: &mut [u32], step: Step, scope: Scope, node:
         return variable(tree, work, step, scope, x.superclass);
     }
     let register = store::next_register(work, step, scope, node);
-    code::emit(work, register, scope, LOAD_NIL, register.result, 0, 0, x.mark)
+    code::emit(
+        work,
+        register,
+        scope,
+        LOAD_NIL,
+        register.result,
+        0,
+        0,
+        x.mark,
+    )
 }
 
 // Class, of the superclass that is the result.

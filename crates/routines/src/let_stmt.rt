@@ -36,7 +36,16 @@ pub fn let_only(tree: &[u8], work: &mut [u32], step: Step, scope: Scope, node: u
     if store::is_global_context(scope) {
         let constant = new_global(work, step, scope, node, x.name);
         let register = store::next_register(work, constant, scope, node);
-        let nil = code::emit(work, register, scope, LOAD_NIL, register.result, 0, 0, x.mark);
+        let nil = code::emit(
+            work,
+            register,
+            scope,
+            LOAD_NIL,
+            register.result,
+            0,
+            0,
+            x.mark,
+        );
         return code::put_wide(
             work,
             nil,

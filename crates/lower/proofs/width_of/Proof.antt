@@ -1,7 +1,6 @@
 -- The last node's tag, which is what `wide-marks` asks.
 use mathlib.Core.Path.{_≡_, sym, ap, _∙_}
 use Prim.Native.Nat.{ℕ, _-_}
-use native.Mathlib.Omega.{arith}
 use mathlib.Core.List.{List}
 use lib.ListN.{length}
 use denote.Ref.{now}

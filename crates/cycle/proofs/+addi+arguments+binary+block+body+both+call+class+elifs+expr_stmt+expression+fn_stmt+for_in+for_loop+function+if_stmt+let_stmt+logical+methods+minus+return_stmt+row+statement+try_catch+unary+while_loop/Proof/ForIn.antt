@@ -90,8 +90,7 @@ module _ {t w : List ℕ} {p : Scope} {s : Step} {i : ℕ} (g : GivenStmt t w p 
           → Fine w2 p s2 × Room w2 p s2 0 11 1 × (1 ≤ (count-of (fields t) i - 3) / 2) × HasPairs p payload (3 + p .wide) ((count-of (fields t) i - 3) / 2) × ((count-of (fields t) i - 3) / 2 < 65536) × while-going (s2 .outcome) ((s1 .result + 3 < 255) × (s2 .result < 256))
       at-head there few =
           let n = for-in-size x in
-          let y = stand 0 11 1 (from (g .ready) ▹ d1 .moves ▹ d2 .does .moves) (omega arith) (omega arith) (omega arith) (omega arith) in
-          (
+          let y = stand 0 11 1 (from (g .ready) ▹ d1 .moves ▹ d2 .does .moves) (omega arith) (omega arith) (omega arith) (omega arith) in (
             y .fine,
             y .room,
             omega (arith, x .size),

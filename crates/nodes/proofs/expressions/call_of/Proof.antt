@@ -25,7 +25,7 @@ narrow : (c : tie.After-payload-of) → c .before .before .before .args .wide �
 narrow c = few-wide (wide-marks (fields (now (c .before .before .before .args .tree)))) (c .before .before .before .pre .1)
 
 child-requires : tie.Need-child-requires
-child-requires c κs = omega (arith, holds (c) .0 .many)
+child-requires c κs = omega (arith, holds c .0 .many)
 
 mark-requires : tie.Need-mark-requires
 mark-requires c κs = omega (arith, holds (c .before) .0 .many)

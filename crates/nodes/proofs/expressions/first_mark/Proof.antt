@@ -1,13 +1,10 @@
 -- `nodes::expressions::first_mark` meets its contract: the mark of the first pair, if there is one.
 use mathlib.Core.Path.{_≡_, refl, _∙_}
-use mathlib.Core.Bool.{Bool, true, false, not}
+use mathlib.Core.Bool.{Bool, not}
 use mathlib.Core.List.{List}
 use Prim.Native.Nat.{ℕ, zero, suc, _+_, _<_, _≤_}
 use native.Mathlib.Omega.{arith}
-use lib.ListN.{length}
 use lib.Dec.{eqb}
-use denote.Ref.{now}
-use Rattle.meaning.specs.Fields.{words}
 use Rattle.meaning.specs.At.{mark-at, pairs-in, pair-place}
 use Rattle.meaning.specs.Functions.{first-mark}
 use Rattle.nodes.proofs.expressions.first_mark.Statement.{statement}

@@ -1,7 +1,6 @@
 -- `nodes::expressions::function_of` meets its contract, word by word.
 use mathlib.Core.Path.{refl, _∙_}
 use native.Mathlib.Omega.{arith}
-use lib.Dec.{lit<, lit≤}
 use denote.Ref.{now}
 use borrow.Author.Needs.{needs}
 use Prim.Native.Nat.{_≤_}

@@ -7,11 +7,8 @@ use borrow.Author.Needs.{needs}
 use Prim.Native.Nat.{_≤_}
 use Rattle.meaning.specs.Fields.{fields}
 use Rattle.meaning.specs.Grammar.{wide-marks}
-use mathlib.Core.Path.{_≡_, ap}
-use mathlib.Core.List.{List}
-use Prim.Native.Nat.{ℕ, _+_, _-_}
-use lib.ListN.{length}
-use Rattle.meaning.specs.Fields.{words}
+use mathlib.Core.Path.{_≡_}
+use Prim.Native.Nat.{_-_}
 use Rattle.meaning.specs.At.{count-of}
 use Rattle.nodes.proofs.Held.{Held, Rest, few-wide, class-held}
 use Rattle.nodes.proofs.statements.class_of.Statement.{statement}
@@ -24,7 +21,7 @@ narrow : (c : tie.After-payload-of) → c .before .before .before .args .wide �
 narrow c = few-wide (wide-marks (fields (now (c .before .before .before .args .tree)))) (c .before .before .before .pre .1)
 
 child-requires : tie.Need-child-requires
-child-requires c κs = omega (arith, holds (c) .0 .many)
+child-requires c κs = omega (arith, holds c .0 .many)
 
 mark-requires : tie.Need-mark-requires
 mark-requires c κs = omega (arith, holds (c .before) .0 .many)

@@ -18,16 +18,16 @@ narrow : (c : tie.After-payload-of) → c .before .before .before .args .wide �
 narrow c = few-wide (wide-marks (fields (now (c .before .before .before .args .tree)))) (c .before .before .before .pre .1)
 
 child-requires : tie.Need-child-requires
-child-requires c κs = omega (arith, holds (c)  .many)
+child-requires c κs = omega (arith, holds c .many)
 
 mark-requires : tie.Need-mark-requires
-mark-requires c κs = omega (arith, holds (c .before)  .many)
+mark-requires c κs = omega (arith, holds (c .before) .many)
 
 add-child : tie.Need-add-child
 add-child c = omega (arith, narrow (c .before .before))
 
 child-requires-2 : tie.Need-child-requires-2
-child-requires-2 c κs = omega (arith, holds (c .before .before)  .many)
+child-requires-2 c κs = omega (arith, holds (c .before .before) .many)
 
 returns : tie.Need-returns
 returns c =

@@ -1,17 +1,13 @@
 -- `nodes::statements::elif_of` meets its contract, word by word.
 use mathlib.Core.Path.{refl, _∙_}
 use native.Mathlib.Omega.{arith}
-use lib.Dec.{lit<, lit≤}
+use lib.Dec.{lit≤}
 use denote.Ref.{now}
 use borrow.Author.Needs.{needs}
 use Prim.Native.Nat.{_≤_}
 use Rattle.meaning.specs.Fields.{fields}
-use Rattle.meaning.specs.Grammar.{wide-marks}
-use mathlib.Core.Path.{_≡_, ap}
-use mathlib.Core.List.{List}
-use Prim.Native.Nat.{ℕ, _+_, _-_}
-use lib.ListN.{length}
-use Rattle.meaning.specs.Fields.{words}
+use mathlib.Core.Path.{_≡_}
+use Prim.Native.Nat.{_-_}
 use Rattle.meaning.specs.At.{count-of}
 use Rattle.nodes.proofs.Held.{Rest, elif-held}
 use Rattle.nodes.proofs.statements.elif_of.Statement.{statement}

@@ -27,7 +27,7 @@ narrow : (c : tie.After-payload-of) → c .before .before .before .args .wide �
 narrow c = few-wide (wide-marks (fields (now (c .before .before .before .args .tree)))) (c .before .before .before .pre .1)
 
 mark-requires : tie.Need-mark-requires
-mark-requires c κs = omega (arith, holds (c) .0 .many)
+mark-requires c κs = omega (arith, holds c .0 .many)
 
 add-child : tie.Need-add-child
 add-child c = omega (arith, narrow (c .before))

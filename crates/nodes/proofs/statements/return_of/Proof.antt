@@ -1,7 +1,7 @@
 -- `nodes::statements::return_of` meets its contract, word by word.
 use mathlib.Core.Path.{refl, _∙_}
 use native.Mathlib.Omega.{arith}
-use lib.Dec.{lit<, lit≤}
+use lib.Dec.{lit≤}
 use denote.Ref.{now}
 use borrow.Author.Needs.{needs}
 use Prim.Native.Nat.{_≤_}
@@ -18,7 +18,7 @@ narrow : (c : tie.After-payload-of) → c .before .before .before .args .wide �
 narrow c = few-wide (wide-marks (fields (now (c .before .before .before .args .tree)))) (c .before .before .before .pre .1)
 
 mark-requires : tie.Need-mark-requires
-mark-requires c κs = omega (arith, holds (c) .0 .many)
+mark-requires c κs = omega (arith, holds c .0 .many)
 
 add-perhaps : tie.Need-add-perhaps
 add-perhaps c = omega (arith, narrow (c .before))

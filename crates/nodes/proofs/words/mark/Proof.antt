@@ -1,6 +1,6 @@
 -- `nodes::words::mark` meets its contract: one word, of which 65,535 is none, or two.
 use mathlib.Core.Path.{_≡_, refl}
-use mathlib.Core.Bool.{not, cond}
+use mathlib.Core.Bool.{not}
 use mathlib.Core.List.{List}
 use Prim.Native.Nat.{ℕ, _+_, _*_, _<_}
 use native.Mathlib.Omega.{arith}

@@ -1,6 +1,4 @@
 -- `nodes::words::perhaps` meets its contract.
-use mathlib.Core.Path.{_∙_}
-use native.Mathlib.Omega.{arith}
 use borrow.Author.Needs.{needs}
 use borrow.Author.Tests.{lt-ltb, le-ltb}
 use Rattle.nodes.proofs.words.perhaps.Statement.{statement}
