@@ -3,7 +3,6 @@
 // the loops count those of elifs and methods.
 mod operators;
 mod reading;
-mod scopes;
 
 ghost use mathlib.Core.Path.{_≡_};
 ghost use Prim.Native.Nat.{_<_, _≤_};
@@ -26,7 +25,6 @@ use crate::reading::payload_of;
 use crate::reading::tag_of;
 use crate::reading::three_of;
 use crate::reading::words_of;
-use crate::scopes::in_loop;
 use instruction::OpCode;
 use meaning::NO_MARK;
 use meaning::Outcome;
@@ -174,7 +172,7 @@ fn for_loop(
     );
     let condition = expression(tree, work, out, first, scope, x.child2);
     let tested = code::test_and_jump(work, condition, scope, 0, x.a);
-    let body = statement(tree, work, out, tested, in_loop(scope), x.child4);
+    let body = statement(tree, work, out, tested, store::looped(scope), x.child4);
     let last = expression(tree, work, out, body, scope, x.child3);
     routines::end_loop(
         work,
@@ -218,7 +216,7 @@ fn for_in(
         counter.result,
         x.a,
     );
-    let body = statement(tree, work, out, head, in_loop(scope), x.child2);
+    let body = statement(tree, work, out, head, store::looped(scope), x.child2);
     routines::end_for_in(
         work,
         body,
@@ -300,7 +298,7 @@ fn while_loop(
     let x = three_of(tree, work, scope, node, 0);
     let condition = expression(tree, work, out, step, scope, x.child1);
     let tested = code::test_and_jump(work, condition, scope, 0, x.a);
-    let body = statement(tree, work, out, tested, in_loop(scope), x.child2);
+    let body = statement(tree, work, out, tested, store::looped(scope), x.child2);
     routines::end_loop(
         work,
         body,

@@ -5,7 +5,7 @@ use Rattle.cycle.proofs.for_in.Reads as for-in
 use Rattle.cycle.proofs.+addi+arguments+binary+block+body+both+call+class+elifs+expr_stmt+expression+fn_stmt+for_in+for_loop+function+if_stmt+let_stmt+logical+methods+minus+return_stmt+row+statement+try_catch+unary+while_loop.Lts-for_in as lts
 use Rattle.cycle.proofs.statement.Reads as statement′
 use Rattle.routines.proofs.end_for_in.Reads as end-for-in-reads
-use Rattle.cycle.proofs.scopes.in_loop.Reads as in-loop-reads
+use Rattle.store.proofs.looped.Reads as looped-reads
 use Rattle.cycle.proofs.reading.names_in.Reads as names-in-reads
 use Rattle.cycle.proofs.reading.payload_of.Reads as payload-of-reads
 use Rattle.cycle.proofs.reading.three_of.Reads as three-of-reads
@@ -154,7 +154,7 @@ module _ {t w : List ℕ} {p : Scope} {s : Step} {i : ℕ} (g : GivenStmt t w p 
 
 -- what each function that is called asks and promises; a member of the cycle at a smaller measure
 abbrev pub claims : ℕ → lts.Claims
-claims t = (three-of-reads.Asked, three-of-reads.Learnt, payload-of-reads.Asked, payload-of-reads.Learnt, open-for-in-reads.Asked, open-for-in-reads.Learnt, expression-below t, expression.Post, names-in-reads.Asked, names-in-reads.Learnt, head-for-in-reads.Asked, head-for-in-reads.Learnt, in-loop-reads.Asked, in-loop-reads.Learnt, statement-below t, statement′.Post, end-for-in-reads.Asked, end-for-in-reads.Learnt)
+claims t = (three-of-reads.Asked, three-of-reads.Learnt, payload-of-reads.Asked, payload-of-reads.Learnt, open-for-in-reads.Asked, open-for-in-reads.Learnt, expression-below t, expression.Post, names-in-reads.Asked, names-in-reads.Learnt, head-for-in-reads.Asked, head-for-in-reads.Learnt, looped-reads.Asked, looped-reads.Learnt, statement-below t, statement′.Post, end-for-in-reads.Asked, end-for-in-reads.Learnt)
 
 pub three-of-requires : (t : ℕ) → lts.Need-three-of-requires (claims t) (for-in-at t) for-in.Post
 three-of-requires t c κs = headed ((c .before .before .before .before) .pre .1 .0 .ready) ((c .before .before .before .before) .pre .1 .0 .known) (for-in-stands ((c .before .before .before .before) .pre .1 .0 .ready .lawful) ((c .before .before .before .before) .pre .1 .0 .known) ((c .before .before .before .before) .pre .1 .1) .0)
@@ -191,8 +191,8 @@ head-for-in-requires t c κs =
     let few = few-words _ _ (λ j. omega (arith, (c .before .before .before .before .before .before .before .before .before .before .before .before .before .before .before .before .before .before .before .shared-slice-known) .given j)) (inside (g .ready .lawful) (g .known)) in
     at-head g x (rw e at ((c .before .before .before .before .before .before .before .before .before .before .before .open-for-in) .ensures .0)) ((c .before .before .before .before .before .before .before .before .before .before .before .open-for-in) .ensures .1) (rw e at ((c .before .before .before .before .before .before .expression) .ensures)) _ (n .0) (omega (arith, n .0, n .1, few))
 
-pub in-loop-requires : (t : ℕ) → lts.Need-in-loop-requires (claims t) (for-in-at t) for-in.Post
-in-loop-requires t c κs =
+pub looped-requires : (t : ℕ) → lts.Need-looped-requires (claims t) (for-in-at t) for-in.Post
+looped-requires t c κs =
     let g = (c .before .before .before .before .before .before .before .before .before .before .before .before .before .before .before .before .before .before .before .before .before .before .before .before .before) .pre .1 .0 in
     (open-loops g (a-for-in (g .ready .lawful) (g .known) ((c .before .before .before .before .before .before .before .before .before .before .before .before .before .before .before .before .before .before .before .before .before .before .before .before .before) .pre .1 .1)), g .ready .fine .sound .few)
 
@@ -203,7 +203,7 @@ statement-requires t c κs =
     let k = for-in-stands (g .ready .lawful) (g .known) ((c .before .before .before .before .before .before .before .before .before .before .before .before .before .before .before .before .before .before .before .before .before .before .before .before .before .before) .pre .1 .1) in
     let e = (c .before .before .before .before .before .before .before .before .before .before .before .before .before .before .before .before .before .before .before .before .before .three-of) .ensures .0 in
     let m = all-names _ _ _ (g .ready) ((c .before .before .before .before .before .before .before .before .before .before .before .before .before .before .before .before .before .before .before .payload-of) .ensures) (k .1, k .2) ((c .before .before .before .before .before .before .before .names-in) .ensures) in
-    rw ((c .in-loop) .ensures, e)
+    rw ((c .looped) .ensures, e)
     (omega (arith, (c .before .before .before .before .before .before .before .before .before .before .before .before .before .before .before .before .before .before .before .before .before .before .before .before .before .before) .pre .0, x .body .below), body g x (rw e at ((c .before .before .before .before .before .before .before .before .before .before .before .before .before .before .before .before .before .open-for-in) .ensures .0)) ((c .before .before .before .before .before .before .before .before .before .before .before .before .before .before .before .before .before .open-for-in) .ensures .1) (rw e at ((c .before .before .before .before .before .before .before .before .before .before .before .before .expression) .ensures)) (rw (m, e) at ((c .before .before .before .before .before .head-for-in) .ensures)))
 
 pub end-for-in-requires : (t : ℕ) → lts.Need-end-for-in-requires (claims t) (for-in-at t) for-in.Post
@@ -213,7 +213,7 @@ end-for-in-requires t c κs =
     let k = for-in-stands (g .ready .lawful) (g .known) ((c .before .before .before .before .before .before .before .before .before .before .before .before .before .before .before .before .before .before .before .before .before .before .before .before .before .before .before .before .before .before .before .before) .pre .1 .1) in
     let e = (c .before .before .before .before .before .before .before .before .before .before .before .before .before .before .before .before .before .before .before .before .before .before .before .before .before .before .before .three-of) .ensures .0 in
     let m = all-names _ _ _ (g .ready) ((c .before .before .before .before .before .before .before .before .before .before .before .before .before .before .before .before .before .before .before .before .before .before .before .before .before .payload-of) .ensures) (k .1, k .2) ((c .before .before .before .before .before .before .before .before .before .before .before .before .before .names-in) .ensures) in
-    at-end g x (rw e at ((c .before .before .before .before .before .before .before .before .before .before .before .before .before .before .before .before .before .before .before .before .before .before .before .open-for-in) .ensures .0)) ((c .before .before .before .before .before .before .before .before .before .before .before .before .before .before .before .before .before .before .before .before .before .before .before .open-for-in) .ensures .1) (rw e at ((c .before .before .before .before .before .before .before .before .before .before .before .before .before .before .before .before .before .before .expression) .ensures)) (rw (m, e) at ((c .before .before .before .before .before .before .before .before .before .before .before .head-for-in) .ensures)) (rw ((c .before .before .before .before .before .before .in-loop) .ensures, e) at ((c .before .before .before .before .before .statement) .ensures))
+    at-end g x (rw e at ((c .before .before .before .before .before .before .before .before .before .before .before .before .before .before .before .before .before .before .before .before .before .before .before .open-for-in) .ensures .0)) ((c .before .before .before .before .before .before .before .before .before .before .before .before .before .before .before .before .before .before .before .before .before .before .before .open-for-in) .ensures .1) (rw e at ((c .before .before .before .before .before .before .before .before .before .before .before .before .before .before .before .before .before .before .expression) .ensures)) (rw (m, e) at ((c .before .before .before .before .before .before .before .before .before .before .before .head-for-in) .ensures)) (rw ((c .before .before .before .before .before .before .looped) .ensures, e) at ((c .before .before .before .before .before .statement) .ensures))
 
 pub same-length : (t : ℕ) → lts.Need-same-length (claims t) (for-in-at t) for-in.Post
 same-length t c = (c .before .before .end-for-in) .ensures .moves .kept .same ∙ (c .before .before .before .before .before .before .before .before .statement) .ensures .does .moves .kept .same ∙ (c .before .before .before .before .before .before .before .before .before .before .before .before .before .before .head-for-in) .ensures .moves .kept .same ∙ (c .before .before .before .before .before .before .before .before .before .before .before .before .before .before .before .before .before .before .before .before .before .expression) .ensures .does .moves .kept .same ∙ (c .before .before .before .before .before .before .before .before .before .before .before .before .before .before .before .before .before .before .before .before .before .before .before .before .before .before .open-for-in) .ensures .0 .moves .kept .same
@@ -228,4 +228,4 @@ returns t c =
     let k = for-in-stands (g .ready .lawful) (g .known) ((c .before .before .before .before .before .before .before .before .before .before .before .before .before .before .before .before .before .before .before .before .before .before .before .before .before .before .before .before .before .before .before .before .before .before .before) .pre .1 .1) in
     let e = (c .before .before .before .before .before .before .before .before .before .before .before .before .before .before .before .before .before .before .before .before .before .before .before .before .before .before .before .before .before .before .three-of) .ensures .0 in
     let m = all-names _ _ _ (g .ready) ((c .before .before .before .before .before .before .before .before .before .before .before .before .before .before .before .before .before .before .before .before .before .before .before .before .before .before .before .before .payload-of) .ensures) (k .1, k .2) ((c .before .before .before .before .before .before .before .before .before .before .before .before .before .before .before .before .names-in) .ensures) in
-    lowers g x (rw e at ((c .before .before .before .before .before .before .before .before .before .before .before .before .before .before .before .before .before .before .before .before .before .before .before .before .before .before .open-for-in) .ensures .0)) ((c .before .before .before .before .before .before .before .before .before .before .before .before .before .before .before .before .before .before .before .before .before .before .before .before .before .before .open-for-in) .ensures .1) (rw e at ((c .before .before .before .before .before .before .before .before .before .before .before .before .before .before .before .before .before .before .before .before .before .expression) .ensures)) (rw (m, e) at ((c .before .before .before .before .before .before .before .before .before .before .before .before .before .before .head-for-in) .ensures)) (rw ((c .before .before .before .before .before .before .before .before .before .in-loop) .ensures, e) at ((c .before .before .before .before .before .before .before .before .statement) .ensures)) (rw e at ((c .before .before .end-for-in) .ensures))
+    lowers g x (rw e at ((c .before .before .before .before .before .before .before .before .before .before .before .before .before .before .before .before .before .before .before .before .before .before .before .before .before .before .open-for-in) .ensures .0)) ((c .before .before .before .before .before .before .before .before .before .before .before .before .before .before .before .before .before .before .before .before .before .before .before .before .before .before .open-for-in) .ensures .1) (rw e at ((c .before .before .before .before .before .before .before .before .before .before .before .before .before .before .before .before .before .before .before .before .before .expression) .ensures)) (rw (m, e) at ((c .before .before .before .before .before .before .before .before .before .before .before .before .before .before .head-for-in) .ensures)) (rw ((c .before .before .before .before .before .before .before .before .before .looped) .ensures, e) at ((c .before .before .before .before .before .before .before .before .statement) .ensures)) (rw e at ((c .before .before .end-for-in) .ensures))
