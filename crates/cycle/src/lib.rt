@@ -2,7 +2,6 @@
 // A function is the straight line of its calls. Each passes a refused step on; the two dispatchers return it at once, and count a visit of any other;
 // the loops count those of elifs and methods.
 mod operators;
-mod scopes;
 
 ghost use mathlib.Core.Path.{_≡_};
 ghost use Prim.Native.Nat.{_<_, _≤_};
@@ -14,7 +13,6 @@ use crate::operators::binary_opcode;
 use crate::operators::immediate;
 use crate::operators::or_flag;
 use crate::operators::unary_opcode;
-use crate::scopes::in_loop;
 use instruction::OpCode;
 use meaning::NO_MARK;
 use meaning::Outcome;
@@ -135,7 +133,7 @@ fn for_loop(
     );
     let condition = expression(tree, work, out, first, scope, x.condition);
     let tested = code::test_and_jump(work, condition, scope, 0, x.mark);
-    let body = statement(tree, work, out, tested, in_loop(scope), x.body);
+    let body = statement(tree, work, out, tested, store::looped(scope), x.body);
     let last = expression(tree, work, out, body, scope, x.increment);
     routines::end_loop(
         work,
@@ -178,7 +176,7 @@ fn for_in(
         counter.result,
         x.mark,
     );
-    let body = statement(tree, work, out, head, in_loop(scope), x.body);
+    let body = statement(tree, work, out, head, store::looped(scope), x.body);
     routines::end_for_in(
         work,
         body,
@@ -258,7 +256,7 @@ fn while_loop(
     let x = nodes::while_of(tree, work, node, scope.wide);
     let condition = expression(tree, work, out, step, scope, x.condition);
     let tested = code::test_and_jump(work, condition, scope, 0, x.mark);
-    let body = statement(tree, work, out, tested, in_loop(scope), x.body);
+    let body = statement(tree, work, out, tested, store::looped(scope), x.body);
     routines::end_loop(
         work,
         body,

@@ -5,7 +5,7 @@ use Rattle.cycle.proofs.for_in.Reads as for-in
 use Rattle.cycle.proofs.+addi+arguments+binary+block+body+both+call+class+elifs+expr_stmt+expression+fn_stmt+for_in+for_loop+function+if_stmt+let_stmt+logical+methods+minus+return_stmt+row+statement+try_catch+unary+while_loop.Lts-for_in as lts
 use Rattle.cycle.proofs.statement.Reads as statement′
 use Rattle.routines.proofs.end_for_in.Reads as end-for-in-reads
-use Rattle.cycle.proofs.scopes.in_loop.Reads as in-loop-reads
+use Rattle.store.proofs.looped.Reads as looped-reads
 use Rattle.nodes.proofs.payload_of.Reads as payload-of-reads
 use Rattle.nodes.proofs.for_in_of.Reads as for-in-of-reads
 use Rattle.routines.proofs.head_for_in.Reads as head-for-in-reads
@@ -144,7 +144,7 @@ module _ {t w : List ℕ} {p : Scope} {s : Step} {i : ℕ} (g : GivenStmt t w p 
 
 -- what each function that is called asks and promises; a member of the cycle at a smaller measure
 abbrev pub claims : ℕ → lts.Claims
-claims t = (for-in-of-reads.Asked, for-in-of-reads.Learnt, payload-of-reads.Asked, payload-of-reads.Learnt, open-for-in-reads.Asked, open-for-in-reads.Learnt, expression-below t, expression.Post, head-for-in-reads.Asked, head-for-in-reads.Learnt, in-loop-reads.Asked, in-loop-reads.Learnt, statement-below t, statement′.Post, end-for-in-reads.Asked, end-for-in-reads.Learnt)
+claims t = (for-in-of-reads.Asked, for-in-of-reads.Learnt, payload-of-reads.Asked, payload-of-reads.Learnt, open-for-in-reads.Asked, open-for-in-reads.Learnt, expression-below t, expression.Post, head-for-in-reads.Asked, head-for-in-reads.Learnt, looped-reads.Asked, looped-reads.Learnt, statement-below t, statement′.Post, end-for-in-reads.Asked, end-for-in-reads.Learnt)
 
 pub for-in-of-requires : (t : ℕ) → lts.Need-for-in-of-requires (claims t) (for-in-at t) for-in.Post
 for-in-of-requires t c κs = held ((c .before .before .before .before) .pre .1 .0 .ready) ((c .before .before .before .before) .pre .1 .0 .known) ((c .before .before .before .before) .pre .1 .1)
@@ -176,8 +176,8 @@ head-for-in-requires t c κs =
     let e = (c .before .before .before .before .before .before .before .before .before .before .before .before .before .before .for-in-of) .ensures .0 in
     rw e (at-head g x (rw e at ((c .before .before .before .before .before .before .before .before .before .before .open-for-in) .ensures .0)) ((c .before .before .before .before .before .before .before .before .before .before .open-for-in) .ensures .1) (rw e at ((c .before .before .before .before .before .expression) .ensures)) (all-there _ _ (g .ready) ((c .before .before .before .before .before .before .before .before .before .before .before .before .payload-of) .ensures) (k .1, k .2)) (rw e at ((c .before .before .before .before .before .before .before .before .before .before .before .before .before .before .for-in-of) .ensures .1)))
 
-pub in-loop-requires : (t : ℕ) → lts.Need-in-loop-requires (claims t) (for-in-at t) for-in.Post
-in-loop-requires t c κs =
+pub looped-requires : (t : ℕ) → lts.Need-looped-requires (claims t) (for-in-at t) for-in.Post
+looped-requires t c κs =
     let g = (c .before .before .before .before .before .before .before .before .before .before .before .before .before .before .before .before .before .before .before .before .before .before .before .before) .pre .1 .0 in
     (open-loops g (a-for-in (g .ready .lawful) (g .known) ((c .before .before .before .before .before .before .before .before .before .before .before .before .before .before .before .before .before .before .before .before .before .before .before .before) .pre .1 .1)), g .ready .fine .sound .few)
 
@@ -188,7 +188,7 @@ statement-requires t c κs =
     let k = for-in-stands (g .ready .lawful) (g .known) ((c .before .before .before .before .before .before .before .before .before .before .before .before .before .before .before .before .before .before .before .before .before .before .before .before .before) .pre .1 .1) in
     let e = (c .before .before .before .before .before .before .before .before .before .before .before .before .before .before .before .before .before .before .before .before .for-in-of) .ensures .0 in
     let m = all-names _ _ (g .ready) ((c .before .before .before .before .before .before .before .before .before .before .before .before .before .before .before .before .before .before .payload-of) .ensures) (k .1, k .2) in
-    rw ((c .in-loop) .ensures, e)
+    rw ((c .looped) .ensures, e)
     (omega (arith, (c .before .before .before .before .before .before .before .before .before .before .before .before .before .before .before .before .before .before .before .before .before .before .before .before .before) .pre .0, x .body .below), body g x (rw e at ((c .before .before .before .before .before .before .before .before .before .before .before .before .before .before .before .before .open-for-in) .ensures .0)) ((c .before .before .before .before .before .before .before .before .before .before .before .before .before .before .before .before .open-for-in) .ensures .1) (rw e at ((c .before .before .before .before .before .before .before .before .before .before .before .expression) .ensures)) (rw (e, m) at ((c .before .before .before .before .before .head-for-in) .ensures)))
 
 pub end-for-in-requires : (t : ℕ) → lts.Need-end-for-in-requires (claims t) (for-in-at t) for-in.Post
@@ -198,7 +198,7 @@ end-for-in-requires t c κs =
     let k = for-in-stands (g .ready .lawful) (g .known) ((c .before .before .before .before .before .before .before .before .before .before .before .before .before .before .before .before .before .before .before .before .before .before .before .before .before .before .before .before .before .before .before) .pre .1 .1) in
     let e = (c .before .before .before .before .before .before .before .before .before .before .before .before .before .before .before .before .before .before .before .before .before .before .before .before .before .before .for-in-of) .ensures .0 in
     let m = all-names _ _ (g .ready) ((c .before .before .before .before .before .before .before .before .before .before .before .before .before .before .before .before .before .before .before .before .before .before .before .before .payload-of) .ensures) (k .1, k .2) in
-    at-end g x (rw e at ((c .before .before .before .before .before .before .before .before .before .before .before .before .before .before .before .before .before .before .before .before .before .before .open-for-in) .ensures .0)) ((c .before .before .before .before .before .before .before .before .before .before .before .before .before .before .before .before .before .before .before .before .before .before .open-for-in) .ensures .1) (rw e at ((c .before .before .before .before .before .before .before .before .before .before .before .before .before .before .before .before .before .expression) .ensures)) (rw (e, m) at ((c .before .before .before .before .before .before .before .before .before .before .before .head-for-in) .ensures)) (rw ((c .before .before .before .before .before .before .in-loop) .ensures, e) at ((c .before .before .before .before .before .statement) .ensures))
+    at-end g x (rw e at ((c .before .before .before .before .before .before .before .before .before .before .before .before .before .before .before .before .before .before .before .before .before .before .open-for-in) .ensures .0)) ((c .before .before .before .before .before .before .before .before .before .before .before .before .before .before .before .before .before .before .before .before .before .before .open-for-in) .ensures .1) (rw e at ((c .before .before .before .before .before .before .before .before .before .before .before .before .before .before .before .before .before .expression) .ensures)) (rw (e, m) at ((c .before .before .before .before .before .before .before .before .before .before .before .head-for-in) .ensures)) (rw ((c .before .before .before .before .before .before .looped) .ensures, e) at ((c .before .before .before .before .before .statement) .ensures))
 
 pub same-length : (t : ℕ) → lts.Need-same-length (claims t) (for-in-at t) for-in.Post
 same-length t c = (c .before .before .end-for-in) .ensures .moves .kept .same ∙ (c .before .before .before .before .before .before .before .before .statement) .ensures .does .moves .kept .same ∙ (c .before .before .before .before .before .before .before .before .before .before .before .before .before .before .head-for-in) .ensures .moves .kept .same ∙ (c .before .before .before .before .before .before .before .before .before .before .before .before .before .before .before .before .before .before .before .before .expression) .ensures .does .moves .kept .same ∙ (c .before .before .before .before .before .before .before .before .before .before .before .before .before .before .before .before .before .before .before .before .before .before .before .before .before .open-for-in) .ensures .0 .moves .kept .same
@@ -213,4 +213,4 @@ returns t c =
     let k = for-in-stands (g .ready .lawful) (g .known) ((c .before .before .before .before .before .before .before .before .before .before .before .before .before .before .before .before .before .before .before .before .before .before .before .before .before .before .before .before .before .before .before .before .before .before) .pre .1 .1) in
     let e = (c .before .before .before .before .before .before .before .before .before .before .before .before .before .before .before .before .before .before .before .before .before .before .before .before .before .before .before .before .before .for-in-of) .ensures .0 in
     let m = all-names _ _ (g .ready) ((c .before .before .before .before .before .before .before .before .before .before .before .before .before .before .before .before .before .before .before .before .before .before .before .before .before .before .before .payload-of) .ensures) (k .1, k .2) in
-    lowers g x (rw e at ((c .before .before .before .before .before .before .before .before .before .before .before .before .before .before .before .before .before .before .before .before .before .before .before .before .before .open-for-in) .ensures .0)) ((c .before .before .before .before .before .before .before .before .before .before .before .before .before .before .before .before .before .before .before .before .before .before .before .before .before .open-for-in) .ensures .1) (rw e at ((c .before .before .before .before .before .before .before .before .before .before .before .before .before .before .before .before .before .before .before .before .expression) .ensures)) (rw (e, m) at ((c .before .before .before .before .before .before .before .before .before .before .before .before .before .before .head-for-in) .ensures)) (rw ((c .before .before .before .before .before .before .before .before .before .in-loop) .ensures, e) at ((c .before .before .before .before .before .before .before .before .statement) .ensures)) (rw e at ((c .before .before .end-for-in) .ensures))
+    lowers g x (rw e at ((c .before .before .before .before .before .before .before .before .before .before .before .before .before .before .before .before .before .before .before .before .before .before .before .before .before .open-for-in) .ensures .0)) ((c .before .before .before .before .before .before .before .before .before .before .before .before .before .before .before .before .before .before .before .before .before .before .before .before .before .open-for-in) .ensures .1) (rw e at ((c .before .before .before .before .before .before .before .before .before .before .before .before .before .before .before .before .before .before .before .before .expression) .ensures)) (rw (e, m) at ((c .before .before .before .before .before .before .before .before .before .before .before .before .before .before .head-for-in) .ensures)) (rw ((c .before .before .before .before .before .before .before .before .before .looped) .ensures, e) at ((c .before .before .before .before .before .before .before .before .statement) .ensures)) (rw e at ((c .before .before .end-for-in) .ensures))

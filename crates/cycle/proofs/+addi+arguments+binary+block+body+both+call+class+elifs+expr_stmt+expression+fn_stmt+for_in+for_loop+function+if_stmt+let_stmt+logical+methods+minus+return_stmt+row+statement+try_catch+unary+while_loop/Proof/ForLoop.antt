@@ -7,7 +7,7 @@ use Rattle.cycle.proofs.row.Reads as row
 use Rattle.cycle.proofs.statement.Reads as statement′
 use Rattle.routines.proofs.end_loop.Reads as end-loop-reads
 use Rattle.code.proofs.test_and_jump.Reads as test-and-jump-reads
-use Rattle.cycle.proofs.scopes.in_loop.Reads as in-loop-reads
+use Rattle.store.proofs.looped.Reads as looped-reads
 use Rattle.nodes.proofs.initializer_end.Reads as initializer-end-reads
 use Rattle.nodes.proofs.for_of.Reads as for-of-reads
 use Rattle.cycle.proofs.+addi+arguments+binary+block+body+both+call+class+elifs+expr_stmt+expression+fn_stmt+for_in+for_loop+function+if_stmt+let_stmt+logical+methods+minus+return_stmt+row+statement+try_catch+unary+while_loop.Proof.Order.{expression-below, for-loop-at, row-below, statement-below}
@@ -132,7 +132,7 @@ module _ {t w : List ℕ} {p : Scope} {s : Step} {i : ℕ} (g : GivenStmt t w p 
 
 -- what each function that is called asks and promises; a member of the cycle at a smaller measure
 abbrev pub claims : ℕ → lts.Claims
-claims t = (for-of-reads.Asked, for-of-reads.Learnt, initializer-end-reads.Asked, initializer-end-reads.Learnt, row-below t, row.Post, expression-below t, expression.Post, test-and-jump-reads.Asked, test-and-jump-reads.Learnt, in-loop-reads.Asked, in-loop-reads.Learnt, statement-below t, statement′.Post, end-loop-reads.Asked, end-loop-reads.Learnt)
+claims t = (for-of-reads.Asked, for-of-reads.Learnt, initializer-end-reads.Asked, initializer-end-reads.Learnt, row-below t, row.Post, expression-below t, expression.Post, test-and-jump-reads.Asked, test-and-jump-reads.Learnt, looped-reads.Asked, looped-reads.Learnt, statement-below t, statement′.Post, end-loop-reads.Asked, end-loop-reads.Learnt)
 
 pub for-of-requires : (t : ℕ) → lts.Need-for-of-requires (claims t) (for-loop-at t) for-loop.Post
 for-of-requires t c κs = held ((c .before .before .before .before) .pre .1 .0 .ready) ((c .before .before .before .before) .pre .1 .0 .known) ((c .before .before .before .before) .pre .1 .1)
@@ -158,8 +158,8 @@ test-and-jump-requires t c κs =
     let e = (c .before .before .before .before .before .before .before .before .before .before .before .before .before .before .before .before .for-of) .ensures in
     at-test g (a-for (g .ready .lawful) (g .known) ((c .before .before .before .before .before .before .before .before .before .before .before .before .before .before .before .before .before .before .before .before .before) .pre .1 .1)) (rw ((c .before .before .before .before .before .before .before .before .before .before .before .before .before .initializer-end) .ensures, e) at ((c .before .before .before .before .before .before .before .before .before .before .before .before .row) .ensures)) (rw e at ((c .before .before .before .before .before .expression) .ensures))
 
-pub in-loop-requires : (t : ℕ) → lts.Need-in-loop-requires (claims t) (for-loop-at t) for-loop.Post
-in-loop-requires t c κs =
+pub looped-requires : (t : ℕ) → lts.Need-looped-requires (claims t) (for-loop-at t) for-loop.Post
+looped-requires t c κs =
     let g = (c .before .before .before .before .before .before .before .before .before .before .before .before .before .before .before .before .before .before .before .before .before .before .before .before .before .before) .pre .1 .0 in
     (open-loops g (a-for (g .ready .lawful) (g .known) ((c .before .before .before .before .before .before .before .before .before .before .before .before .before .before .before .before .before .before .before .before .before .before .before .before .before .before) .pre .1 .1)), g .ready .fine .sound .few)
 
@@ -168,7 +168,7 @@ statement-requires t c κs =
     let g = (c .before .before .before .before .before .before .before .before .before .before .before .before .before .before .before .before .before .before .before .before .before .before .before .before .before .before .before) .pre .1 .0 in
     let x = a-for (g .ready .lawful) (g .known) ((c .before .before .before .before .before .before .before .before .before .before .before .before .before .before .before .before .before .before .before .before .before .before .before .before .before .before .before) .pre .1 .1) in
     let e = (c .before .before .before .before .before .before .before .before .before .before .before .before .before .before .before .before .before .before .before .before .before .before .for-of) .ensures in
-    rw ((c .in-loop) .ensures, e)
+    rw ((c .looped) .ensures, e)
     (omega (arith, (c .before .before .before .before .before .before .before .before .before .before .before .before .before .before .before .before .before .before .before .before .before .before .before .before .before .before .before) .pre .0, x .body .below), body g x (rw ((c .before .before .before .before .before .before .before .before .before .before .before .before .before .before .before .before .before .before .before .initializer-end) .ensures, e) at ((c .before .before .before .before .before .before .before .before .before .before .before .before .before .before .before .before .before .before .row) .ensures)) (rw e at ((c .before .before .before .before .before .before .before .before .before .before .before .expression) .ensures)) (rw e at ((c .before .before .before .before .before .test-and-jump) .ensures)))
 
 pub expression-requires-2 : (t : ℕ) → lts.Need-expression-requires-2 (claims t) (for-loop-at t) for-loop.Post
@@ -177,13 +177,13 @@ expression-requires-2 t c κs =
     let x = a-for (g .ready .lawful) (g .known) ((c .before .before .before .before .before .before .before .before .before .before .before .before .before .before .before .before .before .before .before .before .before .before .before .before .before .before .before .before .before .before .before .before .before .before) .pre .1 .1) in
     let e = (c .before .before .before .before .before .before .before .before .before .before .before .before .before .before .before .before .before .before .before .before .before .before .before .before .before .before .before .before .before .for-of) .ensures in
     rw e
-    (omega (arith, (c .before .before .before .before .before .before .before .before .before .before .before .before .before .before .before .before .before .before .before .before .before .before .before .before .before .before .before .before .before .before .before .before .before .before) .pre .0, x .increment .below), increment g x (rw ((c .before .before .before .before .before .before .before .before .before .before .before .before .before .before .before .before .before .before .before .before .before .before .before .before .before .before .initializer-end) .ensures, e) at ((c .before .before .before .before .before .before .before .before .before .before .before .before .before .before .before .before .before .before .before .before .before .before .before .before .before .row) .ensures)) (rw e at ((c .before .before .before .before .before .before .before .before .before .before .before .before .before .before .before .before .before .before .expression) .ensures)) (rw e at ((c .before .before .before .before .before .before .before .before .before .before .before .before .test-and-jump) .ensures)) (rw ((c .before .before .before .before .before .before .before .in-loop) .ensures, e) at ((c .before .before .before .before .before .before .statement) .ensures)))
+    (omega (arith, (c .before .before .before .before .before .before .before .before .before .before .before .before .before .before .before .before .before .before .before .before .before .before .before .before .before .before .before .before .before .before .before .before .before .before) .pre .0, x .increment .below), increment g x (rw ((c .before .before .before .before .before .before .before .before .before .before .before .before .before .before .before .before .before .before .before .before .before .before .before .before .before .before .initializer-end) .ensures, e) at ((c .before .before .before .before .before .before .before .before .before .before .before .before .before .before .before .before .before .before .before .before .before .before .before .before .before .row) .ensures)) (rw e at ((c .before .before .before .before .before .before .before .before .before .before .before .before .before .before .before .before .before .before .expression) .ensures)) (rw e at ((c .before .before .before .before .before .before .before .before .before .before .before .before .test-and-jump) .ensures)) (rw ((c .before .before .before .before .before .before .before .looped) .ensures, e) at ((c .before .before .before .before .before .before .statement) .ensures)))
 
 pub end-loop-requires : (t : ℕ) → lts.Need-end-loop-requires (claims t) (for-loop-at t) for-loop.Post
 end-loop-requires t c κs =
     let g = (c .before .before .before .before .before .before .before .before .before .before .before .before .before .before .before .before .before .before .before .before .before .before .before .before .before .before .before .before .before .before .before .before .before .before .before .before .before .before .before .before) .pre .1 .0 in
     let e = (c .before .before .before .before .before .before .before .before .before .before .before .before .before .before .before .before .before .before .before .before .before .before .before .before .before .before .before .before .before .before .before .before .before .before .before .for-of) .ensures in
-    at-end g (a-for (g .ready .lawful) (g .known) ((c .before .before .before .before .before .before .before .before .before .before .before .before .before .before .before .before .before .before .before .before .before .before .before .before .before .before .before .before .before .before .before .before .before .before .before .before .before .before .before .before) .pre .1 .1)) (rw ((c .before .before .before .before .before .before .before .before .before .before .before .before .before .before .before .before .before .before .before .before .before .before .before .before .before .before .before .before .before .before .before .before .initializer-end) .ensures, e) at ((c .before .before .before .before .before .before .before .before .before .before .before .before .before .before .before .before .before .before .before .before .before .before .before .before .before .before .before .before .before .before .before .row) .ensures)) (rw e at ((c .before .before .before .before .before .before .before .before .before .before .before .before .before .before .before .before .before .before .before .before .before .before .before .before .expression) .ensures)) (rw e at ((c .before .before .before .before .before .before .before .before .before .before .before .before .before .before .before .before .before .before .test-and-jump) .ensures)) (rw ((c .before .before .before .before .before .before .before .before .before .before .before .before .before .in-loop) .ensures, e) at ((c .before .before .before .before .before .before .before .before .before .before .before .before .statement) .ensures)) (rw e at ((c .before .before .before .before .before .expression2) .ensures))
+    at-end g (a-for (g .ready .lawful) (g .known) ((c .before .before .before .before .before .before .before .before .before .before .before .before .before .before .before .before .before .before .before .before .before .before .before .before .before .before .before .before .before .before .before .before .before .before .before .before .before .before .before .before) .pre .1 .1)) (rw ((c .before .before .before .before .before .before .before .before .before .before .before .before .before .before .before .before .before .before .before .before .before .before .before .before .before .before .before .before .before .before .before .before .initializer-end) .ensures, e) at ((c .before .before .before .before .before .before .before .before .before .before .before .before .before .before .before .before .before .before .before .before .before .before .before .before .before .before .before .before .before .before .before .row) .ensures)) (rw e at ((c .before .before .before .before .before .before .before .before .before .before .before .before .before .before .before .before .before .before .before .before .before .before .before .before .expression) .ensures)) (rw e at ((c .before .before .before .before .before .before .before .before .before .before .before .before .before .before .before .before .before .before .test-and-jump) .ensures)) (rw ((c .before .before .before .before .before .before .before .before .before .before .before .before .before .looped) .ensures, e) at ((c .before .before .before .before .before .before .before .before .before .before .before .before .statement) .ensures)) (rw e at ((c .before .before .before .before .before .expression2) .ensures))
 
 pub same-length : (t : ℕ) → lts.Need-same-length (claims t) (for-loop-at t) for-loop.Post
 same-length t c = (c .before .before .end-loop) .ensures .moves .kept .same ∙ (c .before .before .before .before .before .before .before .before .expression2) .ensures .does .moves .kept .same ∙ (c .before .before .before .before .before .before .before .before .before .before .before .before .before .before .before .statement) .ensures .does .moves .kept .same ∙ (c .before .before .before .before .before .before .before .before .before .before .before .before .before .before .before .before .before .before .before .before .before .test-and-jump) .ensures .moves .kept .same ∙ (c .before .before .before .before .before .before .before .before .before .before .before .before .before .before .before .before .before .before .before .before .before .before .before .before .before .before .before .expression) .ensures .does .moves .kept .same ∙ (c .before .before .before .before .before .before .before .before .before .before .before .before .before .before .before .before .before .before .before .before .before .before .before .before .before .before .before .before .before .before .before .before .before .before .row) .ensures .does .moves .kept .same
@@ -195,4 +195,4 @@ pub returns : (t : ℕ) → lts.Need-returns (claims t) (for-loop-at t) for-loop
 returns t c =
     let g = (c .before .before .before .before .before .before .before .before .before .before .before .before .before .before .before .before .before .before .before .before .before .before .before .before .before .before .before .before .before .before .before .before .before .before .before .before .before .before .before .before .before .before .before) .pre .1 .0 in
     let e = (c .before .before .before .before .before .before .before .before .before .before .before .before .before .before .before .before .before .before .before .before .before .before .before .before .before .before .before .before .before .before .before .before .before .before .before .before .before .before .for-of) .ensures in
-    lowers g (a-for (g .ready .lawful) (g .known) ((c .before .before .before .before .before .before .before .before .before .before .before .before .before .before .before .before .before .before .before .before .before .before .before .before .before .before .before .before .before .before .before .before .before .before .before .before .before .before .before .before .before .before .before) .pre .1 .1)) (rw ((c .before .before .before .before .before .before .before .before .before .before .before .before .before .before .before .before .before .before .before .before .before .before .before .before .before .before .before .before .before .before .before .before .before .before .before .initializer-end) .ensures, e) at ((c .before .before .before .before .before .before .before .before .before .before .before .before .before .before .before .before .before .before .before .before .before .before .before .before .before .before .before .before .before .before .before .before .before .before .row) .ensures)) (rw e at ((c .before .before .before .before .before .before .before .before .before .before .before .before .before .before .before .before .before .before .before .before .before .before .before .before .before .before .before .expression) .ensures)) (rw e at ((c .before .before .before .before .before .before .before .before .before .before .before .before .before .before .before .before .before .before .before .before .before .test-and-jump) .ensures)) (rw ((c .before .before .before .before .before .before .before .before .before .before .before .before .before .before .before .before .in-loop) .ensures, e) at ((c .before .before .before .before .before .before .before .before .before .before .before .before .before .before .before .statement) .ensures)) (rw e at ((c .before .before .before .before .before .before .before .before .expression2) .ensures)) (rw e at ((c .before .before .end-loop) .ensures))
+    lowers g (a-for (g .ready .lawful) (g .known) ((c .before .before .before .before .before .before .before .before .before .before .before .before .before .before .before .before .before .before .before .before .before .before .before .before .before .before .before .before .before .before .before .before .before .before .before .before .before .before .before .before .before .before .before) .pre .1 .1)) (rw ((c .before .before .before .before .before .before .before .before .before .before .before .before .before .before .before .before .before .before .before .before .before .before .before .before .before .before .before .before .before .before .before .before .before .before .before .initializer-end) .ensures, e) at ((c .before .before .before .before .before .before .before .before .before .before .before .before .before .before .before .before .before .before .before .before .before .before .before .before .before .before .before .before .before .before .before .before .before .before .row) .ensures)) (rw e at ((c .before .before .before .before .before .before .before .before .before .before .before .before .before .before .before .before .before .before .before .before .before .before .before .before .before .before .before .expression) .ensures)) (rw e at ((c .before .before .before .before .before .before .before .before .before .before .before .before .before .before .before .before .before .before .before .before .before .test-and-jump) .ensures)) (rw ((c .before .before .before .before .before .before .before .before .before .before .before .before .before .before .before .before .looped) .ensures, e) at ((c .before .before .before .before .before .before .before .before .before .before .before .before .before .before .before .statement) .ensures)) (rw e at ((c .before .before .before .before .before .before .before .before .expression2) .ensures)) (rw e at ((c .before .before .end-loop) .ensures))

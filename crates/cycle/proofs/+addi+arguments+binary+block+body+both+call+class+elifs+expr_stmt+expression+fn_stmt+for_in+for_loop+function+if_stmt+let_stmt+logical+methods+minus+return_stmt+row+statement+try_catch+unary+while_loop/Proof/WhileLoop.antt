@@ -6,7 +6,7 @@ use Rattle.cycle.proofs.while_loop.Reads as while-loop
 use Rattle.cycle.proofs.+addi+arguments+binary+block+body+both+call+class+elifs+expr_stmt+expression+fn_stmt+for_in+for_loop+function+if_stmt+let_stmt+logical+methods+minus+return_stmt+row+statement+try_catch+unary+while_loop.Lts-while_loop as lts
 use Rattle.routines.proofs.end_loop.Reads as end-loop-reads
 use Rattle.code.proofs.test_and_jump.Reads as test-and-jump-reads
-use Rattle.cycle.proofs.scopes.in_loop.Reads as in-loop-reads
+use Rattle.store.proofs.looped.Reads as looped-reads
 use Rattle.nodes.proofs.while_of.Reads as while-of-reads
 use Rattle.cycle.proofs.+addi+arguments+binary+block+body+both+call+class+elifs+expr_stmt+expression+fn_stmt+for_in+for_loop+function+if_stmt+let_stmt+logical+methods+minus+return_stmt+row+statement+try_catch+unary+while_loop.Proof.Order.{expression-below, statement-below, while-loop-at}
 use Rattle.cycle.proofs.Nodes.{a-while}
@@ -85,7 +85,7 @@ module _ {t w : List ℕ} {p : Scope} {s : Step} {i : ℕ} (g : GivenStmt t w p 
 
 -- what each function that is called asks and promises; a member of the cycle at a smaller measure
 abbrev pub claims : ℕ → lts.Claims
-claims t = (while-of-reads.Asked, while-of-reads.Learnt, expression-below t, expression.Post, test-and-jump-reads.Asked, test-and-jump-reads.Learnt, in-loop-reads.Asked, in-loop-reads.Learnt, statement-below t, statement′.Post, end-loop-reads.Asked, end-loop-reads.Learnt)
+claims t = (while-of-reads.Asked, while-of-reads.Learnt, expression-below t, expression.Post, test-and-jump-reads.Asked, test-and-jump-reads.Learnt, looped-reads.Asked, looped-reads.Learnt, statement-below t, statement′.Post, end-loop-reads.Asked, end-loop-reads.Learnt)
 
 pub while-of-requires : (t : ℕ) → lts.Need-while-of-requires (claims t) (while-loop-at t) while-loop.Post
 while-of-requires t c κs = held ((c .before .before .before .before) .pre .1 .0 .ready) ((c .before .before .before .before) .pre .1 .0 .known) ((c .before .before .before .before) .pre .1 .1)
@@ -101,8 +101,8 @@ test-and-jump-requires t c κs =
     let g = (c .before .before .before .before .before .before .before .before .before .before .before .before .before) .pre .1 .0 in
     at-test g (a-while (g .ready .lawful) (g .known) ((c .before .before .before .before .before .before .before .before .before .before .before .before .before) .pre .1 .1)) (rw ((c .before .before .before .before .before .before .before .before .while-of) .ensures) at ((c .before .before .before .before .before .expression) .ensures))
 
-pub in-loop-requires : (t : ℕ) → lts.Need-in-loop-requires (claims t) (while-loop-at t) while-loop.Post
-in-loop-requires t c κs =
+pub looped-requires : (t : ℕ) → lts.Need-looped-requires (claims t) (while-loop-at t) while-loop.Post
+looped-requires t c κs =
     let g = (c .before .before .before .before .before .before .before .before .before .before .before .before .before .before .before .before .before .before) .pre .1 .0 in
     (open-loops g (a-while (g .ready .lawful) (g .known) ((c .before .before .before .before .before .before .before .before .before .before .before .before .before .before .before .before .before .before) .pre .1 .1)), g .ready .fine .sound .few)
 
@@ -111,13 +111,13 @@ statement-requires t c κs =
     let g = (c .before .before .before .before .before .before .before .before .before .before .before .before .before .before .before .before .before .before .before) .pre .1 .0 in
     let x = a-while (g .ready .lawful) (g .known) ((c .before .before .before .before .before .before .before .before .before .before .before .before .before .before .before .before .before .before .before) .pre .1 .1) in
     let e = (c .before .before .before .before .before .before .before .before .before .before .before .before .before .before .while-of) .ensures in
-    rw ((c .in-loop) .ensures, e) (omega (arith, (c .before .before .before .before .before .before .before .before .before .before .before .before .before .before .before .before .before .before .before) .pre .0, x .body .below), body g x (rw e at ((c .before .before .before .before .before .before .before .before .before .before .before .expression) .ensures)) (rw e at ((c .before .before .before .before .before .test-and-jump) .ensures)))
+    rw ((c .looped) .ensures, e) (omega (arith, (c .before .before .before .before .before .before .before .before .before .before .before .before .before .before .before .before .before .before .before) .pre .0, x .body .below), body g x (rw e at ((c .before .before .before .before .before .before .before .before .before .before .before .expression) .ensures)) (rw e at ((c .before .before .before .before .before .test-and-jump) .ensures)))
 
 pub end-loop-requires : (t : ℕ) → lts.Need-end-loop-requires (claims t) (while-loop-at t) while-loop.Post
 end-loop-requires t c κs =
     let g = (c .before .before .before .before .before .before .before .before .before .before .before .before .before .before .before .before .before .before .before .before .before .before .before .before .before) .pre .1 .0 in
     let e = (c .before .before .before .before .before .before .before .before .before .before .before .before .before .before .before .before .before .before .before .before .while-of) .ensures in
-    at-end g (a-while (g .ready .lawful) (g .known) ((c .before .before .before .before .before .before .before .before .before .before .before .before .before .before .before .before .before .before .before .before .before .before .before .before .before) .pre .1 .1)) (rw e at ((c .before .before .before .before .before .before .before .before .before .before .before .before .before .before .before .before .before .expression) .ensures)) (rw e at ((c .before .before .before .before .before .before .before .before .before .before .before .test-and-jump) .ensures)) (rw ((c .before .before .before .before .before .before .in-loop) .ensures, e) at ((c .before .before .before .before .before .statement) .ensures))
+    at-end g (a-while (g .ready .lawful) (g .known) ((c .before .before .before .before .before .before .before .before .before .before .before .before .before .before .before .before .before .before .before .before .before .before .before .before .before) .pre .1 .1)) (rw e at ((c .before .before .before .before .before .before .before .before .before .before .before .before .before .before .before .before .before .expression) .ensures)) (rw e at ((c .before .before .before .before .before .before .before .before .before .before .before .test-and-jump) .ensures)) (rw ((c .before .before .before .before .before .before .looped) .ensures, e) at ((c .before .before .before .before .before .statement) .ensures))
 
 pub same-length : (t : ℕ) → lts.Need-same-length (claims t) (while-loop-at t) while-loop.Post
 same-length t c = (c .before .before .end-loop) .ensures .moves .kept .same ∙ (c .before .before .before .before .before .before .before .before .statement) .ensures .does .moves .kept .same ∙ (c .before .before .before .before .before .before .before .before .before .before .before .before .before .before .test-and-jump) .ensures .moves .kept .same ∙ (c .before .before .before .before .before .before .before .before .before .before .before .before .before .before .before .before .before .before .before .before .expression) .ensures .does .moves .kept .same
@@ -129,4 +129,4 @@ pub returns : (t : ℕ) → lts.Need-returns (claims t) (while-loop-at t) while-
 returns t c =
     let g = (c .before .before .before .before .before .before .before .before .before .before .before .before .before .before .before .before .before .before .before .before .before .before .before .before .before .before .before .before) .pre .1 .0 in
     let e = (c .before .before .before .before .before .before .before .before .before .before .before .before .before .before .before .before .before .before .before .before .before .before .before .while-of) .ensures in
-    lowers g (a-while (g .ready .lawful) (g .known) ((c .before .before .before .before .before .before .before .before .before .before .before .before .before .before .before .before .before .before .before .before .before .before .before .before .before .before .before .before) .pre .1 .1)) (rw e at ((c .before .before .before .before .before .before .before .before .before .before .before .before .before .before .before .before .before .before .before .before .expression) .ensures)) (rw e at ((c .before .before .before .before .before .before .before .before .before .before .before .before .before .before .test-and-jump) .ensures)) (rw ((c .before .before .before .before .before .before .before .before .before .in-loop) .ensures, e) at ((c .before .before .before .before .before .before .before .before .statement) .ensures)) (rw e at ((c .before .before .end-loop) .ensures))
+    lowers g (a-while (g .ready .lawful) (g .known) ((c .before .before .before .before .before .before .before .before .before .before .before .before .before .before .before .before .before .before .before .before .before .before .before .before .before .before .before .before) .pre .1 .1)) (rw e at ((c .before .before .before .before .before .before .before .before .before .before .before .before .before .before .before .before .before .before .before .before .expression) .ensures)) (rw e at ((c .before .before .before .before .before .before .before .before .before .before .before .before .before .before .test-and-jump) .ensures)) (rw ((c .before .before .before .before .before .before .before .before .before .looped) .ensures, e) at ((c .before .before .before .before .before .before .before .before .statement) .ensures)) (rw e at ((c .before .before .end-loop) .ensures))
