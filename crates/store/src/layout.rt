@@ -56,6 +56,3 @@ pub(crate) fn beyond(nodes: usize) -> usize
 {
     12288 + 15 * nodes
 }
-
-// The nodes' offsets in the tree: fifteen words for each node.
-pub const OFFSETS: usize = 12288;

@@ -37,7 +37,6 @@ pub use global::is_global_context;
 pub use global::is_global_var;
 pub use layout::HELD;
 pub use layout::NAMES;
-pub use layout::OFFSETS;
 pub use layout::REGISTERS;
 pub use local::allocate_register;
 pub use local::declare_parameter;
