@@ -76,7 +76,7 @@ fn expr_stmt(
     scope: Scope,
     node: usize,
 ) -> Step
-    requires { ⌜ GivenStmt (now tree) (now work) scope step node × (tag-of (fields (now tree)) node ≡ 16) ⌝ }
+    requires { ⌜ GivenStmt (now tree) (now work) scope step node × (tag-of (fields (now tree)) node ≡ 0x10) ⌝ }
     ensures { λ r. ⌜ UnderStmt (now (tree .entry)) node (now (work .entry)) (now (out .entry)) scope step (now (work .exit)) (now (out .exit)) r ⌝ }
 {
     let value = nodes::expr_stmt_of(tree, work, node);
@@ -92,7 +92,7 @@ fn try_catch(
     scope: Scope,
     node: usize,
 ) -> Step
-    requires { ⌜ GivenStmt (now tree) (now work) scope step node × (tag-of (fields (now tree)) node ≡ 27) ⌝ }
+    requires { ⌜ GivenStmt (now tree) (now work) scope step node × (tag-of (fields (now tree)) node ≡ 0x1B) ⌝ }
     ensures { λ r. ⌜ UnderStmt (now (tree .entry)) node (now (work .entry)) (now (out .entry)) scope step (now (work .exit)) (now (out .exit)) r ⌝ }
 {
     let x = nodes::try_of(tree, work, node, scope.wide);
@@ -115,7 +115,7 @@ fn for_loop(
     scope: Scope,
     node: usize,
 ) -> Step
-    requires { ⌜ GivenStmt (now tree) (now work) scope step node × (tag-of (fields (now tree)) node ≡ 20) ⌝ }
+    requires { ⌜ GivenStmt (now tree) (now work) scope step node × (tag-of (fields (now tree)) node ≡ 0x14) ⌝ }
     ensures { λ r. ⌜ UnderStmt (now (tree .entry)) node (now (work .entry)) (now (out .entry)) scope step (now (work .exit)) (now (out .exit)) r ⌝ }
 {
     let wide = scope.wide;
@@ -157,7 +157,7 @@ fn for_in(
     scope: Scope,
     node: usize,
 ) -> Step
-    requires { ⌜ GivenStmt (now tree) (now work) scope step node × (tag-of (fields (now tree)) node ≡ 21) ⌝ }
+    requires { ⌜ GivenStmt (now tree) (now work) scope step node × (tag-of (fields (now tree)) node ≡ 0x15) ⌝ }
     ensures { λ r. ⌜ UnderStmt (now (tree .entry)) node (now (work .entry)) (now (out .entry)) scope step (now (work .exit)) (now (out .exit)) r ⌝ }
 {
     let wide = scope.wide;
@@ -197,7 +197,7 @@ fn let_stmt(
     scope: Scope,
     node: usize,
 ) -> Step
-    requires { ⌜ GivenStmt (now tree) (now work) scope step node × (tag-of (fields (now tree)) node ≡ 17) ⌝ }
+    requires { ⌜ GivenStmt (now tree) (now work) scope step node × (tag-of (fields (now tree)) node ≡ 0x11) ⌝ }
     ensures { λ r. ⌜ UnderStmt (now (tree .entry)) node (now (work .entry)) (now (out .entry)) scope step (now (work .exit)) (now (out .exit)) r ⌝ }
 {
     let x = nodes::let_of(tree, work, node, scope.wide);
@@ -231,7 +231,7 @@ fn block(
     scope: Scope,
     node: usize,
 ) -> Step
-    requires { ⌜ GivenStmt (now tree) (now work) scope step node × (tag-of (fields (now tree)) node ≡ 18) ⌝ }
+    requires { ⌜ GivenStmt (now tree) (now work) scope step node × (tag-of (fields (now tree)) node ≡ 0x12) ⌝ }
     ensures { λ r. ⌜ UnderStmt (now (tree .entry)) node (now (work .entry)) (now (out .entry)) scope step (now (work .exit)) (now (out .exit)) r ⌝ }
 {
     let n = nodes::count_of(tree, work, node, 0);
@@ -250,7 +250,7 @@ fn while_loop(
     scope: Scope,
     node: usize,
 ) -> Step
-    requires { ⌜ GivenStmt (now tree) (now work) scope step node × (tag-of (fields (now tree)) node ≡ 19) ⌝ }
+    requires { ⌜ GivenStmt (now tree) (now work) scope step node × (tag-of (fields (now tree)) node ≡ 0x13) ⌝ }
     ensures { λ r. ⌜ UnderStmt (now (tree .entry)) node (now (work .entry)) (now (out .entry)) scope step (now (work .exit)) (now (out .exit)) r ⌝ }
 {
     let x = nodes::while_of(tree, work, node, scope.wide);
@@ -279,7 +279,7 @@ fn return_stmt(
     scope: Scope,
     node: usize,
 ) -> Step
-    requires { ⌜ GivenStmt (now tree) (now work) scope step node × (tag-of (fields (now tree)) node ≡ 24) ⌝ }
+    requires { ⌜ GivenStmt (now tree) (now work) scope step node × (tag-of (fields (now tree)) node ≡ 0x18) ⌝ }
     ensures { λ r. ⌜ UnderStmt (now (tree .entry)) node (now (work .entry)) (now (out .entry)) scope step (now (work .exit)) (now (out .exit)) r ⌝ }
 {
     let x = nodes::return_of(tree, work, node, scope.wide);
@@ -299,7 +299,7 @@ fn if_stmt(
     scope: Scope,
     node: usize,
 ) -> Step
-    requires { ⌜ GivenStmt (now tree) (now work) scope step node × (tag-of (fields (now tree)) node ≡ 25) ⌝ }
+    requires { ⌜ GivenStmt (now tree) (now work) scope step node × (tag-of (fields (now tree)) node ≡ 0x19) ⌝ }
     ensures { λ r. ⌜ UnderStmt (now (tree .entry)) node (now (work .entry)) (now (out .entry)) scope step (now (work .exit)) (now (out .exit)) r ⌝ }
 {
     let wide = scope.wide;
@@ -415,7 +415,7 @@ fn class(
     scope: Scope,
     node: usize,
 ) -> Step
-    requires { ⌜ GivenStmt (now tree) (now work) scope step node × (tag-of (fields (now tree)) node ≡ 29) × (depth-of scope ≤ 7) ⌝ }
+    requires { ⌜ GivenStmt (now tree) (now work) scope step node × (tag-of (fields (now tree)) node ≡ 0x1D) × (depth-of scope ≤ 7) ⌝ }
     ensures { λ r. ⌜ UnderStmt (now (tree .entry)) node (now (work .entry)) (now (out .entry)) scope step (now (work .exit)) (now (out .exit)) r ⌝ }
 {
     let wide = scope.wide;
@@ -510,7 +510,7 @@ fn function(
     scope: Scope,
     node: usize,
 ) -> Step
-    requires { ⌜ GivenExpr (now tree) (now work) scope step node × (tag-of (fields (now tree)) node ≡ 9) × (depth-of scope ≤ 7) ⌝ }
+    requires { ⌜ GivenExpr (now tree) (now work) scope step node × (tag-of (fields (now tree)) node ≡ 0x09) × (depth-of scope ≤ 7) ⌝ }
     ensures { λ r. ⌜ UnderExpr (now (tree .entry)) node (now (work .entry)) (now (out .entry)) scope step (now (work .exit)) (now (out .exit)) r ⌝ }
 {
     let wide = scope.wide;
@@ -581,7 +581,7 @@ fn binary(
     scope: Scope,
     node: usize,
 ) -> Step
-    requires { ⌜ GivenExpr (now tree) (now work) scope step node × (tag-of (fields (now tree)) node ≡ 6) ⌝ }
+    requires { ⌜ GivenExpr (now tree) (now work) scope step node × (tag-of (fields (now tree)) node ≡ 0x06) ⌝ }
     ensures { λ r. ⌜ UnderExpr (now (tree .entry)) node (now (work .entry)) (now (out .entry)) scope step (now (work .exit)) (now (out .exit)) r ⌝ }
 {
     let x = nodes::binary_of(tree, work, node, scope.wide);
@@ -606,7 +606,7 @@ fn addi(
     node: usize,
     k: u32,
 ) -> Step
-    requires { ⌜ GivenExpr (now tree) (now work) scope step node × (tag-of (fields (now tree)) node ≡ 6) × (k < 256) ⌝ }
+    requires { ⌜ GivenExpr (now tree) (now work) scope step node × (tag-of (fields (now tree)) node ≡ 0x06) × (k < 256) ⌝ }
     ensures { λ r. ⌜ LowersAddi (now (tree .entry)) node k (now (work .entry)) (now (out .entry)) scope step (now (work .exit)) (now (out .exit)) r ⌝ }
 {
     let x = nodes::binary_of(tree, work, node, scope.wide);
@@ -624,7 +624,7 @@ fn minus(
     scope: Scope,
     node: usize,
 ) -> Step
-    requires { ⌜ GivenExpr (now tree) (now work) scope step node × (tag-of (fields (now tree)) node ≡ 6) ⌝ }
+    requires { ⌜ GivenExpr (now tree) (now work) scope step node × (tag-of (fields (now tree)) node ≡ 0x06) ⌝ }
     ensures { λ r. ⌜ LowersMinus (now (tree .entry)) node (now (work .entry)) (now (out .entry)) scope step (now (work .exit)) (now (out .exit)) r ⌝ }
 {
     let x = nodes::binary_of(tree, work, node, scope.wide);
@@ -643,7 +643,7 @@ fn both(
     scope: Scope,
     node: usize,
 ) -> Step
-    requires { ⌜ GivenExpr (now tree) (now work) scope step node × (tag-of (fields (now tree)) node ≡ 6) ⌝ }
+    requires { ⌜ GivenExpr (now tree) (now work) scope step node × (tag-of (fields (now tree)) node ≡ 0x06) ⌝ }
     ensures { λ r. ⌜ LowersBoth (now (tree .entry)) node (now (work .entry)) (now (out .entry)) scope step (now (work .exit)) (now (out .exit)) r ⌝ }
 {
     let x = nodes::binary_of(tree, work, node, scope.wide);
@@ -671,7 +671,7 @@ fn call(
     scope: Scope,
     node: usize,
 ) -> Step
-    requires { ⌜ GivenExpr (now tree) (now work) scope step node × (tag-of (fields (now tree)) node ≡ 8) ⌝ }
+    requires { ⌜ GivenExpr (now tree) (now work) scope step node × (tag-of (fields (now tree)) node ≡ 0x08) ⌝ }
     ensures { λ r. ⌜ UnderExpr (now (tree .entry)) node (now (work .entry)) (now (out .entry)) scope step (now (work .exit)) (now (out .exit)) r ⌝ }
 {
     let x = nodes::call_of(tree, work, node, scope.wide);
@@ -719,7 +719,7 @@ fn logical(
     scope: Scope,
     node: usize,
 ) -> Step
-    requires { ⌜ GivenExpr (now tree) (now work) scope step node × (tag-of (fields (now tree)) node ≡ 7) ⌝ }
+    requires { ⌜ GivenExpr (now tree) (now work) scope step node × (tag-of (fields (now tree)) node ≡ 0x07) ⌝ }
     ensures { λ r. ⌜ UnderExpr (now (tree .entry)) node (now (work .entry)) (now (out .entry)) scope step (now (work .exit)) (now (out .exit)) r ⌝ }
 {
     let x = nodes::logical_of(tree, work, node, scope.wide);
@@ -738,7 +738,7 @@ fn unary(
     scope: Scope,
     node: usize,
 ) -> Step
-    requires { ⌜ GivenExpr (now tree) (now work) scope step node × (tag-of (fields (now tree)) node ≡ 5) ⌝ }
+    requires { ⌜ GivenExpr (now tree) (now work) scope step node × (tag-of (fields (now tree)) node ≡ 0x05) ⌝ }
     ensures { λ r. ⌜ UnderExpr (now (tree .entry)) node (now (work .entry)) (now (out .entry)) scope step (now (work .exit)) (now (out .exit)) r ⌝ }
 {
     let x = nodes::unary_of(tree, work, node, scope.wide);

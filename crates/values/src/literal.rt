@@ -13,12 +13,6 @@ pub enum Immediate {
     Not,
 }
 
-fn wide(x: u8) -> u64
-    ensures { λ r. ⌜ (r ≡ x) × (r < 256) ⌝ }
-{
-    x as u64
-}
-
 // Word k of a payload, 0 where it has no such word.
 fn word_or_none(p: &[u8], k: usize) -> u64
     requires { ⌜ k < 32768 ⌝ }
@@ -26,7 +20,7 @@ fn word_or_none(p: &[u8], k: usize) -> u64
 {
     let start = 2 * k;
     if start + 2 <= p.len() {
-        return wide(p[start]) * 256 + wide(p[start + 1]);
+        return fields::word(p, start) as u64;
     }
     0
 }

@@ -1,21 +1,17 @@
 -- The payload has a word k where two bytes stand at 2 k.
 use borrow.Author.Needs.{needs}
-use mathlib.Core.Path.{_≡_, _∙_}
-use Prim.Native.Nat.{_+_, _*_}
+use mathlib.Core.Path.{_∙_}
 use native.Mathlib.Omega.{arith}
 use denote.Ref.{now}
-use Rattle.meaning.specs.Fields.{word-at}
 use Rattle.values.proofs.Numbers.{word-there, word-none}
 use Rattle.values.proofs.literal.word_or_none.Statement.{statement}
 use Rattle.values.proofs.literal.word_or_none.Tie as tie
 
 returns : tie.Need-returns
 returns c =
-    let t = c .before .before .before .before in
+    let t = c .before in
     let a = t .before .before .args in
-    let high = c .before .before .wide .ensures in
-    let e : c .before .before .wide .result * 256 + c .wide2 .result ≡ word-at (now (a .p)) (2 * a .k) = omega (arith, high, c .wide2 .ensures) in
-    (e ∙ word-there (now (a .p)) (a .k) (t .if1 .taken), omega (arith, high, c .wide2 .ensures))
+    (c .word .ensures .0 ∙ word-there (now (a .p)) (a .k) (t .if1 .taken), c .word .ensures .1)
 
 returns-2 : tie.Need-returns-2
 returns-2 c = (word-none _ _ (c .if1 .left), omega arith)
@@ -26,12 +22,6 @@ word-or-none-spec =
     (tie.spec
     (λ c. search needs)
     (λ c. search needs)
-    (λ c. search needs)
     (λ c κs. search needs)
-    (λ c. search needs)
-    (λ c. search needs)
-    (λ c. search needs)
-    (λ c κs. search needs)
-    (λ c. search needs)
     returns
     returns-2)
