@@ -84,11 +84,11 @@ AskArguments t w p s i register =
     Children t w p s i 2 (count-of (fields t) i) (wide-of p) (size-exprs (exprs-at (fields t) i 2 (count-of (fields t) i))) (2 * (count-of (fields t) i - 2)) (ExprBelow (fields t) i)
     × (register ≤ 1024) × while-going (outcome-of s) (register + (count-of (fields t) i - 2) ≤ 255)
 
--- the body of a function, from word `from` on; it opens a block, and its Return takes two words
-abbrev pub AskBody : (t w : List ℕ) → Scope → Step → (i from skew : ℕ) → Type 0
-AskBody t w p s i from skew =
+-- the body of a function, from word `from` on to the end; it opens a block, and its Return takes two words
+abbrev pub AskBody : (t w : List ℕ) → Scope → Step → (i from to skew : ℕ) → Type 0
+AskBody t w p s i from to skew =
     Children t w p s i from (count-of (fields t) i) skew (size-stmts (stmts-at (fields t) i from (count-of (fields t) i))) 2 (StmtBelow (fields t) i)
-    × (block-of p + 1 + size-stmts (stmts-at (fields t) i from (count-of (fields t) i)) ≤ nodes-of p + 1 + depth-of p) × (from ≤ count-of (fields t) i) × Small s
+    × (block-of p + 1 + size-stmts (stmts-at (fields t) i from (count-of (fields t) i)) ≤ nodes-of p + 1 + depth-of p) × (from ≤ count-of (fields t) i) × Small s × (to ≡ count-of (fields t) i)
 
 -- ---- what is promised
 

@@ -390,6 +390,7 @@ fn fn_stmt(
         entered.scope,
         node,
         3 + 2 * x.params,
+        x.end,
         wide + x.params * wide,
     );
     routines::end_fun(
@@ -535,6 +536,7 @@ fn function(
         entered.scope,
         node,
         1 + 2 * x.params,
+        x.end,
         x.params * wide,
     );
     routines::end_function(
@@ -559,15 +561,15 @@ fn body(
     scope: Scope,
     node: usize,
     from: usize,
+    to: usize,
     skew: usize,
 ) -> Step
-    requires { ⌜ AskBody (now tree) (now work) scope step node from skew ⌝ }
+    requires { ⌜ AskBody (now tree) (now work) scope step node from to skew ⌝ }
     ensures { λ r. ⌜ LowersBody (now (tree .entry)) node from (now (work .entry)) (now (out .entry)) scope step (now (work .exit)) (now (out .exit)) r ⌝ }
 {
-    let n = nodes::count_of(tree, work, node, skew);
     let inside = store::enter_block(work, scope);
-    let last = row(tree, work, out, step, inside, node, from, n, skew);
-    let ended = routines::end_body(work, last, inside, n - from, step.pc, node);
+    let last = row(tree, work, out, step, inside, node, from, to, skew);
+    let ended = routines::end_body(work, last, inside, to - from, step.pc, node);
     store::leave_block(work, scope);
     ended
 }

@@ -159,16 +159,17 @@ module _ {t w : List ℕ} {i : ℕ} (h : Node t w i) {q : List ℕ} (p : q ≡ f
 
     pub function-held : tag-of fs i ≡ 0x09
         → (at (words q) 0 ≡ word-of fs i 0) × (tokens-at fs i 1 (1 + 2 * word-of fs i 0) ≡ pairs-in (not (eqb wide 0)) (words q) 1 (word-of fs i 0)) × (1 + pair-place (not (eqb wide 0)) (word-of fs i 0) ≤ length (words q))
+        × (length (words q) ≡ count-of fs i + cond (not (eqb wide 0)) (word-of fs i 0) 0)
     function-held z =
         let n = function-node fs (h .shapes) i (h .readable .known) z .size in
         let s = function-places fs i shape (ap items-of z) n in
-        rw (p, e, wide-is) (sym (s .0), s .1, omega (arith, n, s .2 .size))
+        rw (p, e, wide-is) (sym (s .0), s .1, omega (arith, n, s .2 .size), s .2 .size)
 
-    pub define-held : tag-of fs i ≡ 0x1C → Held fs i q wide 1 3
+    pub define-held : tag-of fs i ≡ 0x1C → Held fs i q wide 1 3 × (length (words q) ≡ count-of fs i + (wide + cond (not (eqb wide 0)) (word-of fs i 2) 0))
     define-held z =
         let n = define-node fs (h .shapes) i (h .readable .known) z .size in
         let s = define-places fs i shape (ap items-of z) n in
-        held fs i 1 3 (s .0) (omega (arith, n, s .2 .size)) e p
+        (held fs i 1 3 (s .0) (omega (arith, n, s .2 .size)) e p, rw (p, e, wide-is) (s .2 .size))
 
     pub for-in-held : tag-of fs i ≡ 0x15 → Held fs i q wide 0 3 × (cond (not (eqb wide 0)) ((length (words q) - 4) / 3) ((length (words q) - 3) / 2) ≡ (count-of fs i - 3) / 2) × ((count-of fs i - 3) / 2 ≤ length (words q))
     for-in-held z =

@@ -61,9 +61,9 @@ logical-of fs i = record { op = word-of fs i 0; mark = word-of fs i 1; left = wo
 abbrev pub call-of : List Field → (node : ℕ) → Call
 call-of fs i = record { callee = word-of fs i 0; mark = word-of fs i 1; arguments = count-of fs i - 2 }
 
--- 09 function: k, k pairs n m, body..; how many parameters, and the mark of the first, if there is one
+-- 09 function: k, k pairs n m, body..; how many parameters, the mark of the first, if there is one, and where the body ends
 abbrev pub function-of : List Field → (node : ℕ) → Function
-function-of fs i = record { params = word-of fs i 0; mark = first-mark (tokens-at fs i 1 (1 + 2 * word-of fs i 0)) }
+function-of fs i = record { params = word-of fs i 0; mark = first-mark (tokens-at fs i 1 (1 + 2 * word-of fs i 0)); end = count-of fs i }
 
 -- ---- statements
 
@@ -118,9 +118,9 @@ elif-of fs i = record { condition = word-of fs i 0; end = count-of fs i }
 abbrev pub try-of : List Field → (node : ℕ) → Try
 try-of fs i = record { body = word-of fs i 0; name = word-of fs i 1; mark = word-of fs i 2; catch = word-of fs i 3 }
 
--- 1C function statement: n m k, k pairs n m, body..; how many parameters
+-- 1C function statement: n m k, k pairs n m, body..; how many parameters, and where the body ends
 abbrev pub define-of : List Field → (node : ℕ) → Define
-define-of fs i = record { name = word-of fs i 0; mark = word-of fs i 1; params = word-of fs i 2 }
+define-of fs i = record { name = word-of fs i 0; mark = word-of fs i 1; params = word-of fs i 2; end = count-of fs i }
 
 -- 1D class: n m superclass s, s methods, static methods..; how many methods, and where the static ones end
 abbrev pub class-of : List Field → (node : ℕ) → Class

@@ -12,6 +12,7 @@ use crate::offsets::payload_of;
 use crate::words::child;
 use crate::words::count;
 use crate::words::mark;
+use crate::words::more_words;
 use meaning::NO_MARK;
 
 // 04 variable: n m
@@ -116,10 +117,11 @@ pub fn call_of(tree: &[u8], work: &[u32], node: usize, wide: usize) -> Call
     }
 }
 
-// 09 function: k, k pairs n m, body..; how many parameters, and the mark of the first
+// 09 function: k, k pairs n m, body..; how many parameters, the mark of the first, and where the body ends
 pub struct Function {
     pub params: usize,
     pub mark: u32,
+    pub end: usize,
 }
 
 // The mark of the first of n pairs from word 1 on, or none.
@@ -143,5 +145,6 @@ pub fn function_of(tree: &[u8], work: &[u32], node: usize, wide: usize) -> Funct
     Function {
         params,
         mark: first_mark(payload, params, wide),
+        end: count(payload) - more_words(params, wide),
     }
 }

@@ -12,6 +12,7 @@ use crate::offsets::payload_of;
 use crate::words::child;
 use crate::words::count;
 use crate::words::mark;
+use crate::words::more_words;
 use crate::words::perhaps;
 
 // 10 expression: x; its value.
@@ -220,11 +221,12 @@ pub fn try_of(tree: &[u8], work: &[u32], node: usize, wide: usize) -> Try
     }
 }
 
-// 1C function statement: n m k, k pairs n m, body..; how many parameters
+// 1C function statement: n m k, k pairs n m, body..; how many parameters, and where the body ends
 pub struct Define {
     pub name: usize,
     pub mark: u32,
     pub params: usize,
+    pub end: usize,
 }
 
 // A function statement.
@@ -233,10 +235,12 @@ pub fn define_of(tree: &[u8], work: &[u32], node: usize, wide: usize) -> Define
     ensures { λ r. ⌜ (r ≡ define-of (fields (now (tree .entry))) node) × (r .params < 65536) ⌝ }
 {
     let payload = payload_of(tree, work, node);
+    let params = child(payload, 2 + wide);
     Define {
         name: child(payload, 0),
         mark: mark(payload, 1, wide),
-        params: child(payload, 2 + wide),
+        params: params,
+        end: count(payload) - (wide + more_words(params, wide)),
     }
 }
 

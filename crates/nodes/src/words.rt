@@ -1,6 +1,6 @@
 // The words of a node's payload. Where marks are wide, `wide` is 1, the words that a mark takes more; else it is 0.
 ghost use mathlib.Core.Path.{_≡_};
-ghost use mathlib.Core.Bool.{not};
+ghost use mathlib.Core.Bool.{not, cond};
 ghost use Prim.Native.Nat.{_+_, _*_, _<_, _≤_};
 ghost use lib.ListN.{length};
 ghost use lib.Dec.{eqb};
@@ -49,6 +49,13 @@ pub(crate) fn mark(payload: &[u8], k: usize, wide: usize) -> u32
         return first;
     }
     first * 65536 + child(payload, k + 1) as u32
+}
+
+// The words of the file that n marks take more than n words.
+pub(crate) fn more_words(n: usize, wide: usize) -> usize
+    ensures { λ r. ⌜ (r ≡ cond (not (eqb wide 0)) n 0) × (r ≤ n) ⌝ }
+{
+    if wide == 0 { 0 } else { n }
 }
 
 // The name of pair k of those from word `from` on: a pair takes two words, or three where marks are wide.

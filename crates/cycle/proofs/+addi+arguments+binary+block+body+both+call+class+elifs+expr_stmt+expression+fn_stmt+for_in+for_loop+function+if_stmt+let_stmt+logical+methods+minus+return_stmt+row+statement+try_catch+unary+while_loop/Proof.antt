@@ -200,7 +200,6 @@ pub +addi+arguments+binary+block+body+both+call+class+elifs+expr-stmt+expression
     (λ t. body-lts.spec (body-proof.claims t)
     (body-at t)
     body.Post
-    (body-proof.count-of-requires t)
     (body-proof.enter-block-requires t)
     (body-proof.row-requires t)
     (body-proof.sub-end-body t)

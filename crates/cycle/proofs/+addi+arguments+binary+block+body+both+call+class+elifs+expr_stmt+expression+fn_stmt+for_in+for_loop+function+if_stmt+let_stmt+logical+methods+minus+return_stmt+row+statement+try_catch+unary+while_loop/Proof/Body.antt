@@ -4,12 +4,11 @@ use Rattle.cycle.proofs.body.Reads as body
 use Rattle.cycle.proofs.+addi+arguments+binary+block+body+both+call+class+elifs+expr_stmt+expression+fn_stmt+for_in+for_loop+function+if_stmt+let_stmt+logical+methods+minus+return_stmt+row+statement+try_catch+unary+while_loop.Lts-body as lts
 use Rattle.cycle.proofs.row.Reads as row
 use Rattle.routines.proofs.end_body.Reads as end-body-reads
-use Rattle.nodes.proofs.count_of.Reads as count-of-reads
 use Rattle.store.proofs.enter_block.Reads as enter-block-reads
 use Rattle.store.proofs.leave_block.Reads as leave-block-reads
 use Rattle.cycle.proofs.+addi+arguments+binary+block+body+both+call+class+elifs+expr_stmt+expression+fn_stmt+for_in+for_loop+function+if_stmt+let_stmt+logical+methods+minus+return_stmt+row+statement+try_catch+unary+while_loop.Proof.Order.{body-at, row-below}
 use Rattle.cycle.proofs.Sizes.{stmts-count}
-use Rattle.cycle.proofs.Way.{_▹_, counted, ends, from, give-row, meanwhile, next, next-leaf, next-left, readable, spends, stand, stand-at, to}
+use Rattle.cycle.proofs.Way.{_▹_, ends, from, give-row, meanwhile, next, next-leaf, next-left, spends, stand, stand-at, to}
 use Rattle.cycle.specs.Cycle.{AskBody, AskRow, LowersBody, LowersRow, Ready}
 use Rattle.forward.proofs.Chains.{body-chain}
 use Rattle.forward.proofs.FunctionsForward.{rows}
@@ -29,7 +28,7 @@ use mathlib.Core.List.{List}
 use mathlib.Core.Path.{_∙_, refl}
 use native.Mathlib.Omega.{arith}
 
-module _ {t w : List ℕ} {p : Scope} {s : Step} {i f d : ℕ} (g : AskBody t w p s i f d) where
+module _ {t w : List ℕ} {p : Scope} {s : Step} {i f e d : ℕ} (g : AskBody t w p s i f e d) where
   at-enter : Sound w p × (p .block < p .nodes + 10)
   at-enter = (g .0 .ready .fine .sound, omega (arith, g .1, g .0 .ready .fine .sound .deep))
 
@@ -65,28 +64,25 @@ module _ {t w : List ℕ} {p : Scope} {s : Step} {i f d : ℕ} (g : AskBody t w 
 
 -- what each function that is called asks and promises; a member of the cycle at a smaller measure
 abbrev pub claims : ℕ → lts.Claims
-claims t = (count-of-reads.Asked, count-of-reads.Learnt, enter-block-reads.Asked, enter-block-reads.Learnt, row-below t, row.Post, end-body-reads.Asked, end-body-reads.Learnt, leave-block-reads.Asked, leave-block-reads.Learnt)
-
-pub count-of-requires : (t : ℕ) → lts.Need-count-of-requires (claims t) (body-at t) body.Post
-count-of-requires t c κs = counted (readable ((c .before .before .before .before) .pre .1 .0 .ready) ((c .before .before .before .before) .pre .1 .0 .known)) ((c .before .before .before .before) .pre .1 .0 .behind)
+claims t = (enter-block-reads.Asked, enter-block-reads.Learnt, row-below t, row.Post, end-body-reads.Asked, end-body-reads.Learnt, leave-block-reads.Asked, leave-block-reads.Learnt)
 
 pub enter-block-requires : (t : ℕ) → lts.Need-enter-block-requires (claims t) (body-at t) body.Post
-enter-block-requires t c κs = at-enter ((c .before .before .before .before .before .before) .pre .1)
+enter-block-requires t c κs = at-enter ((c .before .before .before .before) .pre .1)
 
 pub row-requires : (t : ℕ) → lts.Need-row-requires (claims t) (body-at t) body.Post
 row-requires t c κs =
-    let g = (c .before .before .before .before .before .before .before .before .before .before .before) .pre .1 in
+    let g = (c .before .before .before .before .before .before .before .before .before) .pre .1 in
     let e = (c .before .before .before .before .enter-block) .ensures in
-    rw (e .0, (c .before .before .before .before .before .before .count-of) .ensures .0) (omega (arith, (c .before .before .before .before .before .before .before .before .before .before .before) .pre .0), stmts g (e .1) (e .2 _ (g .0 .ready .fine)))
+    rw (e .0, (c .before .before .before .before .before .before .before .before .before) .pre .1 .4) (omega (arith, (c .before .before .before .before .before .before .before .before .before) .pre .0), stmts g (e .1) (e .2 _ (g .0 .ready .fine)))
 
 pub sub-end-body : (t : ℕ) → lts.Need-sub-end-body (claims t) (body-at t) body.Post
-sub-end-body t c = omega (arith, (c .before .before .before .before .before .before .before .before .before .before .before .before .count-of) .ensures .0, (c .before .before .before .before .before .before .before .before .before .before .before .before .before .before .before .before .before) .pre .1 .2)
+sub-end-body t c = omega (arith, (c .before .before .before .before .before .before .before .before .before .before .before .before .before .before .before) .pre .1 .4, (c .before .before .before .before .before .before .before .before .before .before .before .before .before .before .before) .pre .1 .2)
 
 pub end-body-requires : (t : ℕ) → lts.Need-end-body-requires (claims t) (body-at t) body.Post
 end-body-requires t c κs =
-    let g = (c .before .before .before .before .before .before .before .before .before .before .before .before .before .before .before .before .before) .pre .1 in
+    let g = (c .before .before .before .before .before .before .before .before .before .before .before .before .before .before .before) .pre .1 in
     let e = (c .before .before .before .before .before .before .before .before .before .before .enter-block) .ensures in
-    rw (e .0) (at-end g (e .1) (e .2 _ (g .0 .ready .fine)) (rw (e .0, (c .before .before .before .before .before .before .before .before .before .before .before .before .count-of) .ensures .0) at ((c .before .before .before .before .before .row) .ensures)))
+    rw (e .0) (at-end g (e .1) (e .2 _ (g .0 .ready .fine)) (rw (e .0, (c .before .before .before .before .before .before .before .before .before .before .before .before .before .before .before) .pre .1 .4) at ((c .before .before .before .before .before .row) .ensures)))
 
 pub leave-block-requires : (t : ℕ) → lts.Need-leave-block-requires (claims t) (body-at t) body.Post
 leave-block-requires t c κs = rw ((c .before .before .before .before .before .before .before .before .before .before .before .before .before .before .enter-block) .ensures .0) at ((c .before .before .before .end-body) .ensures .moves .fine .sound)
@@ -99,6 +95,6 @@ same-length-2 t c = (c .before .before .before .before .before .before .before .
 
 pub returns : (t : ℕ) → lts.Need-returns (claims t) (body-at t) body.Post
 returns t c =
-    let g = (c .before .before .before .before .before .before .before .before .before .before .before .before .before .before .before .before .before .before .before .before .before .before .before .before) .pre .1 in
+    let g = (c .before .before .before .before .before .before .before .before .before .before .before .before .before .before .before .before .before .before .before .before .before .before) .pre .1 in
     let e = (c .before .before .before .before .before .before .before .before .before .before .before .before .before .before .before .before .before .enter-block) .ensures in
-    lowers g (e .1) (e .2 _ (g .0 .ready .fine)) (rw (e .0, (c .before .before .before .before .before .before .before .before .before .before .before .before .before .before .before .before .before .before .before .count-of) .ensures .0) at ((c .before .before .before .before .before .before .before .before .before .before .before .before .row) .ensures)) (rw (e .0, (c .before .before .before .before .before .before .before .before .before .before .before .before .before .before .before .before .before .before .before .count-of) .ensures .0) at ((c .before .before .before .before .before .before .end-body) .ensures)) ((c .before .before .leave-block) .ensures)
+    lowers g (e .1) (e .2 _ (g .0 .ready .fine)) (rw (e .0, (c .before .before .before .before .before .before .before .before .before .before .before .before .before .before .before .before .before .before .before .before .before .before) .pre .1 .4) at ((c .before .before .before .before .before .before .before .before .before .before .before .before .row) .ensures)) (rw (e .0, (c .before .before .before .before .before .before .before .before .before .before .before .before .before .before .before .before .before .before .before .before .before .before) .pre .1 .4) at ((c .before .before .before .before .before .before .end-body) .ensures)) ((c .before .before .leave-block) .ensures)

@@ -70,11 +70,11 @@ module _ {t w : List ℕ} {p : Scope} {s : Step} {i : ℕ} (g : AskFun t w p s i
 
       module _ {w3 : List ℕ} {s3 : Step}
           (d3 : Leaf w2 (inner p) s2 w3 (inner p) s3 (both (some-registers (1 + word-of (fields t) i 2)) (uses (3 + word-of (fields t) i 2) (1 + word-of (fields t) i 2) 0)) (open-fun i (token (word-of (fields t) i 0) (word-of (fields t) i 1)) (tokens-at (fields t) i 3 (3 + 2 * word-of (fields t) i 2))) × Small s3) where
-        ask-body : {d : ℕ} → Behind (fields t) i (3 + 2 * word-of (fields t) i 2) d → AskBody t w3 (inner p) s3 i (3 + 2 * word-of (fields t) i 2) d
+        ask-body : {d : ℕ} → Behind (fields t) i (3 + 2 * word-of (fields t) i 2) d → AskBody t w3 (inner p) s3 i (3 + 2 * word-of (fields t) i 2) (count-of (fields t) i) d
         ask-body b =
             let n = fun-size x in
             let y = stand (size-stmts (stmts-at (fields t) i (3 + 2 * word-of (fields t) i 2) (count-of (fields t) i))) 2 0 (from at-open ▹ d3 .0 .moves) (omega arith) (omega arith) (omega arith) (omega arith) in
-            (record { ready = y; known = g .0 .known; ends = omega arith; each = x .body; behind = b }, omega (arith, g .0 .ready .blocks), x .size, d3 .1)
+            (record { ready = y; known = g .0 .known; ends = omega arith; each = x .body; behind = b }, omega (arith, g .0 .ready .blocks), x .size, d3 .1, refl)
 
         module _ {o w4 o4 : List ℕ} {s4 : Step} (d4 : LowersBody t i (3 + 2 * word-of (fields t) i 2) w3 o (inner p) s3 w4 o4 s4) where
           at-end : Fine w4 (inner p) s4 × Leavable w4 p × Owing w4 p (cut-step s4 (s1 .pc)) 4 1 (2 - (p .depth + p .block)) × while-going (s4 .outcome) ((s1 .pc ≤ s4 .pc) × (s1 .result < 255))

@@ -68,11 +68,11 @@ module _ {t w : List ℕ} {p : Scope} {s : Step} {i : ℕ} (g : GivenExpr t w p 
 
       module _ {w3 : List ℕ} {s3 : Step}
           (d3 : Leaf w2 (inner p) s2 w3 (inner p) s3 (both (some-registers (1 + word-of (fields t) i 0)) (uses (word-of (fields t) i 0) (word-of (fields t) i 0) 0)) (open-function i (tokens-at (fields t) i 1 (1 + 2 * word-of (fields t) i 0))) × Small s3) where
-        ask-body : {d : ℕ} → Behind (fields t) i (1 + 2 * word-of (fields t) i 0) d → AskBody t w3 (inner p) s3 i (1 + 2 * word-of (fields t) i 0) d
+        ask-body : {d : ℕ} → Behind (fields t) i (1 + 2 * word-of (fields t) i 0) d → AskBody t w3 (inner p) s3 i (1 + 2 * word-of (fields t) i 0) (count-of (fields t) i) d
         ask-body b =
             let n = function-size x in
             let y = stand (size-stmts (stmts-at (fields t) i (1 + 2 * word-of (fields t) i 0) (count-of (fields t) i))) 2 0 (from at-open ▹ d3 .0 .moves) (omega arith) (omega arith) (omega arith) (omega arith) in
-            (record { ready = y; known = g .known; ends = omega arith; each = x .body; behind = b }, omega (arith, g .ready .blocks), x .size, d3 .1)
+            (record { ready = y; known = g .known; ends = omega arith; each = x .body; behind = b }, omega (arith, g .ready .blocks), x .size, d3 .1, refl)
 
         module _ {o w4 o4 : List ℕ} {s4 : Step} (d4 : LowersBody t i (1 + 2 * word-of (fields t) i 0) w3 o (inner p) s3 w4 o4 s4) where
           at-end : Fine w4 (inner p) s4 × Leavable w4 p × Room w4 p (cut-step s4 (s1 .pc)) 0 2 0 × while-going (s4 .outcome) ((s1 .pc ≤ s4 .pc) × (s1 .result < 255))
