@@ -9,7 +9,7 @@ use Rattle.store.specs.declared.Step.{Step}
 use Rattle.store.specs.declared.Scope.{Scope}
 use Rattle.store.specs.Table.{tab}
 use Rattle.store.specs.Layout.{inst-at}
-use Rattle.store.specs.Store.{open-at, state-of, config-of, run, refused-step, prototype-more, code-tag, Written, image-by, written-by, Image, Fine}
+use Rattle.store.specs.Store.{top-of, open-at, state-of, config-of, run, refused-step, prototype-more, code-tag, Written, image-by, written-by, Image, Fine}
 use Rattle.store.specs.Promise.{nothing}
 use Rattle.store.proofs.Tables.{tab-length, tab-take, tab-drop}
 use Rattle.store.proofs.Regions.{below-256}
@@ -61,7 +61,7 @@ module _ {w : List ℕ} {p : Scope} {s : Step} {x : ℕ} (first node params : �
   count = s .pc - first
 
   abbrev f : ℕ → Instruction
-  f = inst-at w (p .nodes)
+  f = inst-at w (top-of p)
 
   whole : first + (s .pc - first) ≡ s .pc
   whole = omega arith
@@ -88,26 +88,26 @@ module _ {w : List ℕ} {p : Scope} {s : Step} {x : ℕ} (first node params : �
   many-runs h ps e = refused-runs Prototypes ps (too-many f first count node params (s .result) (state-of w p s ps) h e ∙ ap (λ k. adding first node params (config (tab f k) (s .result) (state-of w p s ps))) whole)
 
   pub added-runs : (end : ℕ) → s .pc - first ≤ 32766 → ¬ (s .functions ≡ 256) → (ps : List Proto) → s .functions ≡ length ps
-      → run w p (prototype-more s first end) (ps ++ proto-of w (p .nodes) (p .depth) first (s .pc - first) params ∷ []) ≡ bind (run w p s ps) (adding first node params)
+      → run w p (prototype-more s first end) (ps ++ proto-of w (top-of p) (p .depth) first (s .pc - first) params ∷ []) ≡ bind (run w p s ps) (adding first node params)
   unfolding run config-of state-of open-at fwd-by add-prototype if-then on
   added-runs end h ne ps e =
       let n : length (tab (λ i. f (first + i)) (s .pc - first)) ≡ s .pc - first = tab-length (λ i. f (first + i)) (s .pc - first) in
       sym (opened ps (adding first node params) ∙ rw (dropped-code, taken-code, n, le-ltb 32767 (s .pc - first + 1) (omega arith), ne-eqb (length ps) 256 (rw e at ne), sym e))
 
   abbrev bytes : List ℕ
-  bytes = proto-bytes (code-tag p) (proto-of w (p .nodes) (p .depth) first (s .pc - first) params ∷ [])
+  bytes = proto-bytes (code-tag p) (proto-of w (top-of p) (p .depth) first (s .pc - first) params ∷ [])
 
   -- written where it fits
-  pub added-image : {o o' : List ℕ} {end : ℕ} → Placed o x bytes o' end → (ps : List Proto) → Image p o s ps → Image p o' (prototype-more s first end) (ps ++ proto-of w (p .nodes) (p .depth) first (s .pc - first) params ∷ [])
+  pub added-image : {o o' : List ℕ} {end : ℕ} → Placed o x bytes o' end → (ps : List Proto) → Image p o s ps → Image p o' (prototype-more s first end) (ps ++ proto-of w (top-of p) (p .depth) first (s .pc - first) params ∷ [])
   added-image {o} {o'} {end} placed ps i = by-written (was-written p o s ps on i)
     where
-      all : proto-bytes (code-tag p) (ps ++ proto-of w (p .nodes) (p .depth) first (s .pc - first) params ∷ []) ≡ proto-bytes (code-tag p) ps ++ bytes
-      all = protos-append (code-tag p) ps (proto-of w (p .nodes) (p .depth) first (s .pc - first) params ∷ [])
+      all : proto-bytes (code-tag p) (ps ++ proto-of w (top-of p) (p .depth) first (s .pc - first) params ∷ []) ≡ proto-bytes (code-tag p) ps ++ bytes
+      all = protos-append (code-tag p) ps (proto-of w (top-of p) (p .depth) first (s .pc - first) params ∷ [])
 
-      by-written : Written (code-tag p) o x (s .functions) ps → Written (code-tag p) o' end (s .functions + 1) (ps ++ proto-of w (p .nodes) (p .depth) first (s .pc - first) params ∷ [])
+      by-written : Written (code-tag p) o x (s .functions) ps → Written (code-tag p) o' end (s .functions + 1) (ps ++ proto-of w (top-of p) (p .depth) first (s .pc - first) params ∷ [])
       by-written h =
           record {
-            counted = omega (arith, h .counted, length-append ps (proto-of w (p .nodes) (p .depth) first (s .pc - first) params ∷ []));
+            counted = omega (arith, h .counted, length-append ps (proto-of w (top-of p) (p .depth) first (s .pc - first) params ∷ []));
             sized = omega (arith, placed .ends, h .sized, length-append (proto-bytes (code-tag p) ps) bytes) ∙ sym (ap length all);
             bytes = λ fits.
                 let z = placed .fits (omega (arith, placed .same)) in
@@ -117,7 +117,7 @@ module _ {w : List ℕ} {p : Scope} {s : Step} {x : ℕ} (first node params : �
   pub added-fine : {o o' : List ℕ} {end : ℕ} → Placed o x bytes o' end → s .pc - first ≤ 32766 → ¬ (s .functions ≡ 256) → Fine w p (prototype-more s first end)
   added-fine placed h ne =
       let wr : x ≤ 370000 * s .functions = rw on at (fine .written) in
-      let n = proto-size (code-tag p) w (p .nodes) (p .depth) first (s .pc - first) params in
+      let n = proto-size (code-tag p) w (top-of p) (p .depth) first (s .pc - first) params in
       let few = few-bytes (s .pc - first + 1) (3 + inst-size (code-tag p)) (omega arith) (short-inst (code-tag p)) in
       let small = below-256 (getD w (3074 + 8 * p .depth) 0) in
       record {
@@ -177,9 +177,9 @@ module _ {w o : List ℕ} {p : Scope} {s : Step} {x : ℕ} (first node params : 
   adds-many h e = adds-refused Prototypes (λ ps i. many-runs first node params fine on le h ps (sym (was-written p o s ps on i .counted) ∙ e))
 
   pub adds-done : {o' : List ℕ} {end tag : ℕ} → s .pc - first ≤ 32766 → ¬ (s .functions ≡ 256) → tag ≡ code-tag p
-      → Placed o x (proto-bytes tag (proto-of w (p .nodes) (p .depth) first (s .pc - first) params ∷ [])) o' end → Adds first w o p s o' (prototype-more s first end) node params
+      → Placed o x (proto-bytes tag (proto-of w (top-of p) (p .depth) first (s .pc - first) params ∷ [])) o' end → Adds first w o p s o' (prototype-more s first end) node params
   adds-done {o'} {end} h ne e placed-so =
-      let placed = subst (λ t. Placed o x (proto-bytes t (proto-of w (p .nodes) (p .depth) first (s .pc - first) params ∷ [])) o' end) e placed-so in
+      let placed = subst (λ t. Placed o x (proto-bytes t (proto-of w (top-of p) (p .depth) first (s .pc - first) params ∷ [])) o' end) e placed-so in
       record {
         fine = added-fine first node params fine on le placed h ne;
         same = placed .same;
@@ -191,7 +191,7 @@ module _ {w o : List ℕ} {p : Scope} {s : Step} {x : ℕ} (first node params : 
         index = omega (arith, fine .functions);
         does = λ ps i.
             record {
-              protos = ps ++ proto-of w (p .nodes) (p .depth) first (s .pc - first) params ∷ [];
+              protos = ps ++ proto-of w (top-of p) (p .depth) first (s .pc - first) params ∷ [];
               image = added-image first node params fine on le placed ps i;
               runs = added-runs first node params fine on le end h ne ps (was-written p o s ps on i .counted);
             };

@@ -8,8 +8,8 @@ use lib.ListN.{length, set, length-append}
 use Rattle.store.specs.declared.Step.{Step}
 use Rattle.store.specs.declared.Scope.{Scope}
 use Rattle.store.specs.Table.{tab}
-use Rattle.store.specs.Layout.{first-local, edge, top, inst-at}
-use Rattle.store.specs.Store.{state-of, config-of, run-by, run, while-going, result-limit, advanced, refused-step, Fine}
+use Rattle.store.specs.Layout.{first-local, edge, inst-at}
+use Rattle.store.specs.Store.{top-of, state-of, config-of, run-by, run, while-going, result-limit, advanced, refused-step, Fine}
 use Rattle.store.specs.Promise.{uses, Cost, Room, Leaf}
 use Rattle.store.proofs.Tables.{tab-length}
 use Rattle.store.proofs.Regions.{Same, Only, below, same-count, constants-same, globals-same}
@@ -31,7 +31,7 @@ pub met : {P : Type 0} {o : Outcome} {x : ℕ} → o ≡ Accepted x → while-go
 met {o = o} e h = due o h (goes e)
 
 -- the potential leaves room for a words
-pub room-for : {w : List ℕ} {p : Scope} {s : Step} {x : ℕ} (a : ℕ) → Fine w p s → s .outcome ≡ Accepted x → Room w p s 0 a 0 → first-local (p .nodes) + 2 * s .pc + edge w (p .nodes) (p .block) + a ≤ top (p .nodes)
+pub room-for : {w : List ℕ} {p : Scope} {s : Step} {x : ℕ} (a : ℕ) → Fine w p s → s .outcome ≡ Accepted x → Room w p s 0 a 0 → first-local (p .nodes) + 2 * s .pc + edge w (p .nodes) (p .block) + a ≤ top-of p
 room-for {w} {p} {s} a fine on room = omega (arith, met on (room .roomy) .words, taken-few w (p .depth), shallow s fine on)
 
 -- ---- the code alone
@@ -51,11 +51,11 @@ result-due {w} {p} {s} fine = cases (s .outcome) (fine .result)
     cases (Refused k n) small = tt
 
 -- what is written starts with the code that there is
-pub starts : {w : List ℕ} {p : Scope} {s : Step} → Fine w p s → Spelled w w (p .nodes) (first-local (p .nodes) + edge w (p .nodes) (p .block)) (s .pc) (tab (inst-at w (p .nodes)) (s .pc))
-starts {w} {p} {s} fine = spelled w (p .nodes) (first-local (p .nodes) + edge w (p .nodes) (p .block)) (s .pc) (omega (arith, fine .room)) (omega (arith, fine .sound .long))
+pub starts : {w : List ℕ} {p : Scope} {s : Step} → Fine w p s → Spelled w w (top-of p) (first-local (p .nodes) + edge w (p .nodes) (p .block)) (s .pc) (tab (inst-at w (top-of p)) (s .pc))
+starts {w} {p} {s} fine = spelled w (top-of p) (first-local (p .nodes) + edge w (p .nodes) (p .block)) (s .pc) (omega (arith, fine .room)) (omega (arith, fine .sound .long))
 
-module _ {w w' : List ℕ} {p : Scope} {s : Step} {x : ℕ} (fine : Fine w p s) (on : s .outcome ≡ Accepted x) (only : Only w w' (first-local (p .nodes) + edge w (p .nodes) (p .block)) (top (p .nodes))) where
-  clear : Clear w p (first-local (p .nodes) + edge w (p .nodes) (p .block)) (top (p .nodes))
+module _ {w w' : List ℕ} {p : Scope} {s : Step} {x : ℕ} (fine : Fine w p s) (on : s .outcome ≡ Accepted x) (only : Only w w' (first-local (p .nodes) + edge w (p .nodes) (p .block)) (top-of p)) where
+  clear : Clear w p (first-local (p .nodes) + edge w (p .nodes) (p .block)) (top-of p)
   clear = (λ c h k l. absurd (omega arith), λ c h l. h)
 
   frames : Same w w' 3072 4168
@@ -74,8 +74,8 @@ module _ {w w' : List ℕ} {p : Scope} {s : Step} {x : ℕ} (fine : Fine w p s) 
 
 -- k instructions l are there at last, and the operation wants them and the result v
 pub coded : {w w' : List ℕ} {p : Scope} {s : Step} {x k : ℕ} {l : List Instruction} (v a : ℕ) (op : Config → Run)
-    → Fine w p s → s .outcome ≡ Accepted x → Spelled w w' (p .nodes) (first-local (p .nodes) + edge w (p .nodes) (p .block)) k l → s .pc ≤ k → 2 * k ≤ 2 * s .pc + a → v < 1024
-    → ((t : State) → going (config l v t) ≡ op (config (tab (inst-at w (p .nodes)) (s .pc)) (s .result) t))
+    → Fine w p s → s .outcome ≡ Accepted x → Spelled w w' (top-of p) (first-local (p .nodes) + edge w (p .nodes) (p .block)) k l → s .pc ≤ k → 2 * k ≤ 2 * s .pc + a → v < 1024
+    → ((t : State) → going (config l v t) ≡ op (config (tab (inst-at w (top-of p)) (s .pc)) (s .result) t))
     → Leaf w p s w' p (advanced s k v) (uses a 0 0) op
 unfolding run config-of state-of bind
 coded {w} {w'} {p} {s} {k = k} v a op fine on written le most small wants =
@@ -108,7 +108,7 @@ coded {w} {w'} {p} {s} {k = k} v a op fine on written le most small wants =
     }
 
 -- an operation that comes to the same
-pub leaf-as : {w w' : List ℕ} {p q : Scope} {s r : Step} {u : Cost} (op op' : Config → Run) → ((t : State) → op (config (tab (inst-at w (p .nodes)) (s .pc)) (s .result) t) ≡ op' (config (tab (inst-at w (p .nodes)) (s .pc)) (s .result) t))
+pub leaf-as : {w w' : List ℕ} {p q : Scope} {s r : Step} {u : Cost} (op op' : Config → Run) → ((t : State) → op (config (tab (inst-at w (top-of p)) (s .pc)) (s .result) t) ≡ op' (config (tab (inst-at w (top-of p)) (s .pc)) (s .result) t))
     → Leaf w p s w' q r u op → Leaf w p s w' q r u op'
 unfolding run config-of bind
 leaf-as {w} {w'} {p} {q} {s} {r} op op' same leaf = record { moves = leaf .moves; runs = λ ps. leaf .runs ps ∙ cases ps (s .outcome); image = leaf .image }
@@ -119,7 +119,7 @@ leaf-as {w} {w'} {p} {q} {s} {r} op op' same leaf = record { moves = leaf .moves
 
 -- a step that refuses
 pub refusing : {w : List ℕ} {p : Scope} {s : Step} {x : ℕ} (u : Cost) (op : Config → Run) (cause : Cause) (node : ℕ) → Fine w p s → s .outcome ≡ Accepted x
-    → ((t : State) → stopped cause node ≡ op (config (tab (inst-at w (p .nodes)) (s .pc)) (s .result) t))
+    → ((t : State) → stopped cause node ≡ op (config (tab (inst-at w (top-of p)) (s .pc)) (s .result) t))
     → Leaf w p s w p (refused-step s cause node) u op
 unfolding run config-of state-of bind
 refusing {w} {p} {s} u op cause node fine on wants =

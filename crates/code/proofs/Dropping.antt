@@ -8,7 +8,7 @@ use Rattle.store.specs.declared.Step.{Step}
 use Rattle.store.specs.declared.Scope.{Scope}
 use Rattle.store.specs.Table.{tab}
 use Rattle.store.specs.Layout.{inst-at}
-use Rattle.store.specs.Store.{state-of, config-of, run, Image, goes-on, Fine}
+use Rattle.store.specs.Store.{top-of, state-of, config-of, run, Image, goes-on, Fine}
 use Rattle.store.proofs.Tables.{tab-take}
 use Rattle.meaning.specs.State.{Proto}
 use Rattle.meaning.specs.declared.Outcome.{Outcome}
@@ -27,7 +27,7 @@ module _ (s : Step) (first : ℕ) where
 
   runs-by : (o : Outcome) (w : List ℕ) (p : Scope) (ps : List Proto) → first ≤ s .pc → run w p (rolled-by o (stepped o) first) ps ≡ bind (run w p (stepped o) ps) (sure (roll-back first))
   unfolding run config-of state-of bind roll-back
-  runs-by (Accepted x) w p ps le = rw (cut-tab (inst-at w (p .nodes)) first (s .pc) le)
+  runs-by (Accepted x) w p ps le = rw (cut-tab (inst-at w (top-of p)) first (s .pc) le)
   runs-by (Refused k n) w p ps le = refl
 
   fine-by : (o : Outcome) (w : List ℕ) (p : Scope) → first ≤ s .pc → Fine w p (stepped o) → Fine w p (rolled-by o (stepped o) first)

@@ -1,4 +1,4 @@
--- A scan turns the instructions of a region one by one: those before (cell n i) i are done, the others are as they were. Assumes nothing.
+-- A scan turns the instructions of a region one by one: those before instruction i are done, the others are as they were. Assumes nothing.
 use mathlib.Core.Path.{_≡_, refl, sym, ap, ap₂, subst, _∙_}
 use mathlib.Core.Bool.{true, false}
 use mathlib.Core.List.{List, [], _∷_, _++_, append-assoc, append-nil}
@@ -8,7 +8,7 @@ use native.Mathlib.Decide.{ℕ-discrete}
 use lib.ListN.{length, getD, set, take, drop, length-set}
 use lib.Seq.{getD-set-other}
 use Rattle.store.specs.Table.{tab}
-use Rattle.store.specs.Layout.{top, cell, mark-cell, unpacked, inst-at}
+use Rattle.store.specs.Layout.{cell, mark-cell, unpacked, inst-at}
 use Rattle.store.proofs.Cells.{word-here, word-else}
 use Rattle.store.proofs.Tables.{tab-ext, tab-length, tab-front, tab-add, tab-take, tab-drop}
 use Rattle.meaning.specs.Opcode.{is-end-jump}
@@ -40,60 +40,60 @@ mended-tab f g h first m a b =
 
 -- ---- a scan that turns every instruction of a region
 
-pub record Scanning (w w' : List ℕ) (n first i : ℕ) (f : ℕ → Instruction → Instruction) : Type 0 where
+pub record Scanning (w w' : List ℕ) (top first i : ℕ) (f : ℕ → Instruction → Instruction) : Type 0 where
   pub same : length w' ≡ length w
-  pub other : (j : ℕ) → (top n - 2 * i ≤ j → top n - 2 * first ≤ j) → getD w' j 0 ≡ getD w j 0
-  pub turned : (k : ℕ) → first ≤ k → k < i → inst-at w' n k ≡ f (k - first) (inst-at w n k)
+  pub other : (j : ℕ) → (top - 2 * i ≤ j → top - 2 * first ≤ j) → getD w' j 0 ≡ getD w j 0
+  pub turned : (k : ℕ) → first ≤ k → k < i → inst-at w' top k ≡ f (k - first) (inst-at w top k)
 
-pub scan-starts : (w : List ℕ) (n first : ℕ) (f : ℕ → Instruction → Instruction) → Scanning w w n first first f
-scan-starts w n first f = record { same = refl; other = λ j h. refl; turned = λ k a b. absurd (omega arith) }
+pub scan-starts : (w : List ℕ) (top first : ℕ) (f : ℕ → Instruction → Instruction) → Scanning w w top first first f
+scan-starts w top first f = record { same = refl; other = λ j h. refl; turned = λ k a b. absurd (omega arith) }
 
-module _ {w w' : List ℕ} {n first i : ℕ} {f : ℕ → Instruction → Instruction} (scan : Scanning w w' n first i f) (lo : first ≤ i) (hi : 2 * i + 2 ≤ top n) (long : top n ≤ length w') where
+module _ {w w' : List ℕ} {top first i : ℕ} {f : ℕ → Instruction → Instruction} (scan : Scanning w w' top first i f) (lo : first ≤ i) (hi : 2 * i + 2 ≤ top) (long : top ≤ length w') where
   -- the words of instruction i are as they were
-  fresh : (j : ℕ) → j < top n - 2 * i → getD w' j 0 ≡ getD w j 0
+  fresh : (j : ℕ) → j < top - 2 * i → getD w' j 0 ≡ getD w j 0
   fresh j h = scan .other j (λ k. absurd (omega arith))
 
-  pub scan-step : {y : ℕ} → Turns (getD w' (cell n i) 0) (f (i - first)) y → Scanning w (set w' (cell n i) y) n first (i + 1) f
+  pub scan-step : {y : ℕ} → Turns (getD w' (cell top i) 0) (f (i - first)) y → Scanning w (set w' (cell top i) y) top first (i + 1) f
   scan-step {y} turns =
       record {
-        same = length-set w' (cell n i) y ∙ scan .same;
-        other = λ j h. getD-set-other w' (cell n i) j y 0 (λ e. past j e (h (omega arith))) ∙ scan .other j (λ k. h (omega arith));
+        same = length-set w' (cell top i) y ∙ scan .same;
+        other = λ j h. getD-set-other w' (cell top i) j y 0 (λ e. past j e (h (omega arith))) ∙ scan .other j (λ k. h (omega arith));
         turned = λ k a b. cases k a b (ℕ-discrete k i);
       }
     where
-      past : (j : ℕ) → j ≡ cell n i → top n - 2 * first ≤ j → ⊥
+      past : (j : ℕ) → j ≡ cell top i → top - 2 * first ≤ j → ⊥
       past j e k = omega arith
 
-      cases : (k : ℕ) → first ≤ k → k < i + 1 → Dec (k ≡ i) → inst-at (set w' (cell n i) y) n k ≡ f (k - first) (inst-at w n k)
+      cases : (k : ℕ) → first ≤ k → k < i + 1 → Dec (k ≡ i) → inst-at (set w' (cell top i) y) top k ≡ f (k - first) (inst-at w top k)
       cases k a b (yes e) =
-          rw e (word-here w' n i y hi long ∙ turns .is (getD w' (mark-cell n i) 0) ∙ ap₂ (λ x m. f (i - first) (unpacked x m)) (fresh (cell n i) (omega arith)) (fresh (mark-cell n i) (omega arith)))
-      cases k a b (no e) = word-else w' n i y hi long k (omega arith) e ∙ scan .turned k a (omega arith)
+          rw e (word-here w' top i y hi long ∙ turns .is (getD w' (mark-cell top i) 0) ∙ ap₂ (λ x m. f (i - first) (unpacked x m)) (fresh (cell top i) (omega arith)) (fresh (mark-cell top i) (omega arith)))
+      cases k a b (no e) = word-else w' top i y hi long k (omega arith) e ∙ scan .turned k a (omega arith)
 
-module _ {w w' : List ℕ} {n first : ℕ} {f : ℕ → Instruction → Instruction} (g : List Instruction → List Instruction) where
+module _ {w w' : List ℕ} {top first : ℕ} {f : ℕ → Instruction → Instruction} (g : List Instruction → List Instruction) where
   -- the region has m instructions
-  scan-done : (m : ℕ) → Scanning w w' n first (first + m) f → 2 * (first + m) ≤ top n → ((l : List Instruction) → length l ≡ m → g l ≡ each-at f 0 l) → Recoded w n (first + m) (first + m) (mended g first) w'
+  scan-done : (m : ℕ) → Scanning w w' top first (first + m) f → 2 * (first + m) ≤ top → ((l : List Instruction) → length l ≡ m → g l ≡ each-at f 0 l) → Recoded w top (first + m) (first + m) (mended g first) w'
   scan-done m scan fits is =
       record {
         same = scan .same;
         other = λ j h. scan .other j (λ k. let t = h k in omega arith);
-        code = mended-tab f (inst-at w' n) (inst-at w n) first m before after ∙ ap (λ l. take first (tab (inst-at w n) (first + m)) ++ l) (sym (is _ size));
+        code = mended-tab f (inst-at w' top) (inst-at w top) first m before after ∙ ap (λ l. take first (tab (inst-at w top) (first + m)) ++ l) (sym (is _ size));
       }
     where
-      size : length (drop first (tab (inst-at w n) (first + m))) ≡ m
-      size = ap length (tab-drop (inst-at w n) first m) ∙ tab-length _ m
+      size : length (drop first (tab (inst-at w top) (first + m))) ≡ m
+      size = ap length (tab-drop (inst-at w top) first m) ∙ tab-length _ m
 
-      before : (j : ℕ) → j < first → inst-at w' n j ≡ inst-at w n j
-      before j h = ap₂ unpacked (scan .other (cell n j) (λ k. omega arith)) (scan .other (mark-cell n j) (λ k. omega arith))
+      before : (j : ℕ) → j < first → inst-at w' top j ≡ inst-at w top j
+      before j h = ap₂ unpacked (scan .other (cell top j) (λ k. omega arith)) (scan .other (mark-cell top j) (λ k. omega arith))
 
-      after : (j : ℕ) → j < m → inst-at w' n (first + j) ≡ f j (inst-at w n (first + j))
+      after : (j : ℕ) → j < m → inst-at w' top (first + j) ≡ f j (inst-at w top (first + j))
       after j h =
           let e : first + j - first ≡ j = omega arith in
-          scan .turned (first + j) (omega arith) (omega arith) ∙ ap (λ k. f k (inst-at w n (first + j))) e
+          scan .turned (first + j) (omega arith) (omega arith) ∙ ap (λ k. f k (inst-at w top (first + j))) e
 
-  pub scan-ends : {i : ℕ} (end : ℕ) → Scanning w w' n first i f → i ≡ end → first ≤ end → 2 * end ≤ top n → ((l : List Instruction) → length l ≡ end - first → g l ≡ each-at f 0 l) → Recoded w n end end (mended g first) w'
+  pub scan-ends : {i : ℕ} (end : ℕ) → Scanning w w' top first i f → i ≡ end → first ≤ end → 2 * end ≤ top → ((l : List Instruction) → length l ≡ end - first → g l ≡ each-at f 0 l) → Recoded w top end end (mended g first) w'
   scan-ends {i} end scan e le fits is =
       let m : first + (end - first) ≡ end = omega arith in
-      subst (λ k. Recoded w n k k (mended g first) w') m (scan-done (end - first) (subst (λ k. Scanning w w' n first k f) (e ∙ sym m) scan) (omega arith) is)
+      subst (λ k. Recoded w top k k (mended g first) w') m (scan-done (end - first) (subst (λ k. Scanning w w' top first k f) (e ∙ sym m) scan) (omega arith) is)
 
 -- ---- a scan for the first jump to the end
 
@@ -118,53 +118,53 @@ first-at o g h j r clean is here else =
     ∙ ap₂ (λ x y. x ++ y) (tab-ext g h j (λ i k. else i (omega arith) (omega arith))) (ap₂ (λ x y. x ∷ y) here (tab-ext _ _ r (λ i k. else (j + suc i) (omega arith) (omega arith))))
     ∙ sym (ap (patch-first o) parts ∙ first-past o h j _ clean ∙ ap (λ l. tab h j ++ l) turned)
 
-module _ (w : List ℕ) (n first offset : ℕ) where
+module _ (w : List ℕ) (top first offset : ℕ) where
   -- none from `first` up to i
   abbrev pub None : ℕ → Type 0
-  None i = (k : ℕ) → first ≤ k → k < i → is-end-jump (inst-at w n k) ≡ false
+  None i = (k : ℕ) → first ≤ k → k < i → is-end-jump (inst-at w top k) ≡ false
 
-  pub none-more : (i : ℕ) → None i → is-end-jump (inst-at w n i) ≡ false → None (i + 1)
+  pub none-more : (i : ℕ) → None i → is-end-jump (inst-at w top i) ≡ false → None (i + 1)
   none-more i none is k a b = cases (ℕ-discrete k i)
     where
-      cases : Dec (k ≡ i) → is-end-jump (inst-at w n k) ≡ false
+      cases : Dec (k ≡ i) → is-end-jump (inst-at w top k) ≡ false
       cases (yes e) = rw e is
       cases (no e) = none k a (omega arith)
 
-  pub first-none : (end : ℕ) → first ≤ end → None end → Recoded w n end end (mended (patch-first offset) first) w
-  first-none end le none = subst (λ k. Recoded w n k k (mended (patch-first offset) first) w) (omega arith) (done (end - first) (λ k a b. none k a (omega arith)))
+  pub first-none : (end : ℕ) → first ≤ end → None end → Recoded w top end end (mended (patch-first offset) first) w
+  first-none end le none = subst (λ k. Recoded w top k k (mended (patch-first offset) first) w) (omega arith) (done (end - first) (λ k a b. none k a (omega arith)))
     where
-      done : (m : ℕ) → None (first + m) → Recoded w n (first + m) (first + m) (mended (patch-first offset) first) w
+      done : (m : ℕ) → None (first + m) → Recoded w top (first + m) (first + m) (mended (patch-first offset) first) w
       done m clean =
-          let all : patch-first offset (tab (λ j. inst-at w n (first + j)) m ++ []) ≡ tab (λ j. inst-at w n (first + j)) m ++ [] = first-past offset _ m [] (λ j h. clean (first + j) (omega arith) (omega arith)) in
+          let all : patch-first offset (tab (λ j. inst-at w top (first + j)) m ++ []) ≡ tab (λ j. inst-at w top (first + j)) m ++ [] = first-past offset _ m [] (λ j h. clean (first + j) (omega arith) (omega arith)) in
           record {
             same = refl;
             other = λ i h. refl;
-            code = rw (tab-take (inst-at w n) first m, tab-drop (inst-at w n) first m) (tab-add (inst-at w n) first m ∙ ap (λ l. tab (inst-at w n) first ++ l) (sym (simp append-nil at all)));
+            code = rw (tab-take (inst-at w top) first m, tab-drop (inst-at w top) first m) (tab-add (inst-at w top) first m ∙ ap (λ l. tab (inst-at w top) first ++ l) (sym (simp append-nil at all)));
           }
 
-  pub first-found : {y : ℕ} (end i : ℕ) → first ≤ i → i < end → 2 * end ≤ top n → top n ≤ length w → None i → is-end-jump (inst-at w n i) ≡ true
-      → Turns (getD w (cell n i) 0) (λ x. jump-by x offset) y → Recoded w n end end (mended (patch-first offset) first) (set w (cell n i) y)
-  first-found {y} end i lo hi fits long none is turns = subst (λ k. Recoded w n k k (mended (patch-first offset) first) w') (omega arith) (done (end - i - 1) (omega arith))
+  pub first-found : {y : ℕ} (end i : ℕ) → first ≤ i → i < end → 2 * end ≤ top → top ≤ length w → None i → is-end-jump (inst-at w top i) ≡ true
+      → Turns (getD w (cell top i) 0) (λ x. jump-by x offset) y → Recoded w top end end (mended (patch-first offset) first) (set w (cell top i) y)
+  first-found {y} end i lo hi fits long none is turns = subst (λ k. Recoded w top k k (mended (patch-first offset) first) w') (omega arith) (done (end - i - 1) (omega arith))
     where
       w' : List ℕ
-      w' = set w (cell n i) y
+      w' = set w (cell top i) y
 
-      here : inst-at (set w (cell n i) y) n i ≡ jump-by (inst-at w n i) offset
-      here = word-here w n i y (omega arith) long ∙ turns .is (getD w (mark-cell n i) 0)
+      here : inst-at (set w (cell top i) y) top i ≡ jump-by (inst-at w top i) offset
+      here = word-here w top i y (omega arith) long ∙ turns .is (getD w (mark-cell top i) 0)
 
-      else : (k : ℕ) → 2 * k + 2 ≤ top n → ¬ (k ≡ i) → inst-at (set w (cell n i) y) n k ≡ inst-at w n k
-      else k f ne = word-else w n i y (omega arith) long k f ne
+      else : (k : ℕ) → 2 * k + 2 ≤ top → ¬ (k ≡ i) → inst-at (set w (cell top i) y) top k ≡ inst-at w top k
+      else k f ne = word-else w top i y (omega arith) long k f ne
 
-      done : (r : ℕ) → 2 * (first + (i - first + suc r)) ≤ top n → Recoded w n (first + (i - first + suc r)) (first + (i - first + suc r)) (mended (patch-first offset) first) (set w (cell n i) y)
+      done : (r : ℕ) → 2 * (first + (i - first + suc r)) ≤ top → Recoded w top (first + (i - first + suc r)) (first + (i - first + suc r)) (mended (patch-first offset) first) (set w (cell top i) y)
       done r room =
           let e : first + (i - first) ≡ i = omega arith in
-          let is-here : is-end-jump (inst-at w n (first + (i - first))) ≡ true = rw e is in
-          let turned : inst-at (set w (cell n i) y) n (first + (i - first)) ≡ jump-by (inst-at w n (first + (i - first))) offset = rw e here in
+          let is-here : is-end-jump (inst-at w top (first + (i - first))) ≡ true = rw e is in
+          let turned : inst-at (set w (cell top i) y) top (first + (i - first)) ≡ jump-by (inst-at w top (first + (i - first))) offset = rw e here in
           record {
-            same = length-set w (cell n i) y;
-            other = λ j h. getD-set-other w (cell n i) j y 0 (λ x. let t = h (omega arith) in omega arith);
-            code = rw (tab-take (inst-at w n) first (i - first + suc r), tab-drop (inst-at w n) first (i - first + suc r))
-                (tab-add (inst-at (set w (cell n i) y) n) first (i - first + suc r)
+            same = length-set w (cell top i) y;
+            other = λ j h. getD-set-other w (cell top i) j y 0 (λ x. let t = h (omega arith) in omega arith);
+            code = rw (tab-take (inst-at w top) first (i - first + suc r), tab-drop (inst-at w top) first (i - first + suc r))
+                (tab-add (inst-at (set w (cell top i) y) top) first (i - first + suc r)
                 ∙ ap₂ (λ x z. x ++ z) (tab-ext _ _ first (λ j h. else j (omega arith) (omega arith)))
-                (first-at offset (λ j. inst-at (set w (cell n i) y) n (first + j)) (λ j. inst-at w n (first + j)) (i - first) r (λ j h. none (first + j) (omega arith) (omega arith)) is-here turned (λ j h ne. else (first + j) (omega arith) (omega arith))));
+                (first-at offset (λ j. inst-at (set w (cell top i) y) top (first + j)) (λ j. inst-at w top (first + j)) (i - first) r (λ j h. none (first + j) (omega arith) (omega arith)) is-here turned (λ j h ne. else (first + j) (omega arith) (omega arith))));
           }

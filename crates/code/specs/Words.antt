@@ -5,7 +5,7 @@ use mathlib.Core.Bool.{Bool, true, false}
 use mathlib.Core.List.{List, _++_}
 use lib.ListN.{length, getD, set, take, drop}
 use Rattle.store.specs.Table.{tab}
-use Rattle.store.specs.Layout.{top, unpacked, inst-at}
+use Rattle.store.specs.Layout.{unpacked, inst-at}
 use Rattle.meaning.specs.Chunk.{each-at, patch-jump, patch-end}
 use Rattle.meaning.specs.declared.Instruction.{Instruction}
 
@@ -14,10 +14,10 @@ pub record Turns (x : ℕ) (f : Instruction → Instruction) (y : ℕ) : Type 0 
   pub is : (mark : ℕ) → unpacked y mark ≡ f (unpacked x mark)
 
 -- the first k instructions became k' by f; no word but theirs changed
-pub record Recoded (w : List ℕ) (n k k' : ℕ) (f : List Instruction → List Instruction) (w' : List ℕ) : Type 0 where
+pub record Recoded (w : List ℕ) (top k k' : ℕ) (f : List Instruction → List Instruction) (w' : List ℕ) : Type 0 where
   pub same : length w' ≡ length w
-  pub other : (i : ℕ) → (top n - 2 * k' ≤ i → top n ≤ i) → getD w' i 0 ≡ getD w i 0
-  pub code : tab (inst-at w' n) k' ≡ f (tab (inst-at w n) k)
+  pub other : (i : ℕ) → (top - 2 * k' ≤ i → top ≤ i) → getD w' i 0 ≡ getD w i 0
+  pub code : tab (inst-at w' top) k' ≡ f (tab (inst-at w top) k)
 
 -- the code from `first` on, anew
 abbrev pub mended : (List Instruction → List Instruction) → ℕ → List Instruction → List Instruction

@@ -24,13 +24,7 @@ pub fn test_and_jump(work: &mut [u32], step: Step, scope: Scope, flag: u32, mark
     };
     let pc = step.pc;
     let result = step.result;
-    write_cell(
-        work,
-        scope.nodes,
-        pc,
-        pack(TEST, result, result, flag),
-        mark,
-    );
-    write_cell(work, scope.nodes, pc + 1, JMP, mark);
+    write_cell(work, scope, pc, pack(TEST, result, result, flag), mark);
+    write_cell(work, scope, pc + 1, JMP, mark);
     store::advance(step, pc + 2, result)
 }

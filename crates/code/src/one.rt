@@ -33,7 +33,7 @@ pub fn put(
         return step;
     };
     let pc = step.pc;
-    write_cell(work, scope.nodes, pc, pack(op, a, b, c), mark);
+    write_cell(work, scope, pc, pack(op, a, b, c), mark);
     store::advance(step, pc + 1, result)
 }
 

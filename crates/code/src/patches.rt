@@ -3,10 +3,11 @@ ghost use Prim.Native.Nat.{_*_, _≤_};
 ghost use lib.ListN.{length};
 ghost use Rattle.meaning.specs.Chunk.{continue-offset, patch-jump, patch-loop, patch-end, patch-ends, patch-first};
 ghost use Rattle.meaning.specs.Opcode.{wide, Jmp};
-ghost use Rattle.store.specs.Layout.{top};
+ghost use Rattle.store.specs.Store.{nodes-of, top-of};
 ghost use Rattle.store.specs.Cell.{Packs};
 ghost use Rattle.code.specs.Words.{Turns, Recoded, mended, patch-by, patched};
 use crate::JMP;
+use store::Scope;
 use store::jump_back;
 use store::pack_wide;
 use store::set_word;
@@ -65,44 +66,44 @@ fn patch(x: u32, looped: bool, goal: usize, size: usize, i: usize) -> u32
 }
 
 // The jumps of a loop, or of an if, whose code stands from `first` up to `end`.
-fn patch_each(work: &mut [u32], nodes: usize, first: usize, end: usize, looped: bool, goal: usize)
-    requires { ⌜ (top nodes ≤ length (now work)) × (2 * end ≤ top nodes) × (first ≤ end) × (nodes ≤ 32768) ⌝ }
-    ensures { λ _. ⌜ Recoded (now (work .entry)) nodes end end (mended (patched looped goal) first) (now (work .exit)) ⌝ }
+fn patch_each(work: &mut [u32], scope: Scope, first: usize, end: usize, looped: bool, goal: usize)
+    requires { ⌜ (top-of scope ≤ length (now work)) × (2 * end ≤ top-of scope) × (first ≤ end) × (nodes-of scope ≤ 32768) ⌝ }
+    ensures { λ _. ⌜ Recoded (now (work .entry)) (top-of scope) end end (mended (patched looped goal) first) (now (work .exit)) ⌝ }
 {
     let size = end - first;
     let mut i = first;
     while i < end {
-        let word = patch(word_at(work, nodes, i), looped, goal, size, i - first);
-        set_word(work, nodes, i, word);
+        let word = patch(word_at(work, scope, i), looped, goal, size, i - first);
+        set_word(work, scope, i, word);
         i += 1;
     }
 }
 
 // The continues and breaks of a loop; continues go to its instruction `goal`.
-pub fn patch_loop(work: &mut [u32], nodes: usize, first: usize, end: usize, goal: usize)
-    requires { ⌜ (top nodes ≤ length (now work)) × (2 * end ≤ top nodes) × (first ≤ end) × (nodes ≤ 32768) ⌝ }
-    ensures { λ _. ⌜ Recoded (now (work .entry)) nodes end end (mended (patch-loop goal) first) (now (work .exit)) ⌝ }
+pub fn patch_loop(work: &mut [u32], scope: Scope, first: usize, end: usize, goal: usize)
+    requires { ⌜ (top-of scope ≤ length (now work)) × (2 * end ≤ top-of scope) × (first ≤ end) × (nodes-of scope ≤ 32768) ⌝ }
+    ensures { λ _. ⌜ Recoded (now (work .entry)) (top-of scope) end end (mended (patch-loop goal) first) (now (work .exit)) ⌝ }
 {
-    patch_each(work, nodes, first, end, true, goal);
+    patch_each(work, scope, first, end, true, goal);
 }
 
 // The jumps to the end of an if.
-pub fn patch_ends(work: &mut [u32], nodes: usize, first: usize, end: usize)
-    requires { ⌜ (top nodes ≤ length (now work)) × (2 * end ≤ top nodes) × (first ≤ end) × (nodes ≤ 32768) ⌝ }
-    ensures { λ _. ⌜ Recoded (now (work .entry)) nodes end end (mended patch-ends first) (now (work .exit)) ⌝ }
+pub fn patch_ends(work: &mut [u32], scope: Scope, first: usize, end: usize)
+    requires { ⌜ (top-of scope ≤ length (now work)) × (2 * end ≤ top-of scope) × (first ≤ end) × (nodes-of scope ≤ 32768) ⌝ }
+    ensures { λ _. ⌜ Recoded (now (work .entry)) (top-of scope) end end (mended patch-ends first) (now (work .exit)) ⌝ }
 {
-    patch_each(work, nodes, first, end, false, 0);
+    patch_each(work, scope, first, end, false, 0);
 }
 
 // The first jump to the end of a try.
-pub fn patch_first(work: &mut [u32], nodes: usize, first: usize, end: usize, offset: usize)
-    requires { ⌜ (top nodes ≤ length (now work)) × (2 * end ≤ top nodes) × (first ≤ end) × (nodes ≤ 32768) ⌝ }
-    ensures { λ _. ⌜ Recoded (now (work .entry)) nodes end end (mended (patch-first offset) first) (now (work .exit)) ⌝ }
+pub fn patch_first(work: &mut [u32], scope: Scope, first: usize, end: usize, offset: usize)
+    requires { ⌜ (top-of scope ≤ length (now work)) × (2 * end ≤ top-of scope) × (first ≤ end) × (nodes-of scope ≤ 32768) ⌝ }
+    ensures { λ _. ⌜ Recoded (now (work .entry)) (top-of scope) end end (mended (patch-first offset) first) (now (work .exit)) ⌝ }
 {
     let mut i = first;
     while i < end {
-        if word_at(work, nodes, i) == JMP {
-            set_word(work, nodes, i, pack_wide(JMP, 0, offset));
+        if word_at(work, scope, i) == JMP {
+            set_word(work, scope, i, pack_wide(JMP, 0, offset));
             return;
         }
         i += 1;

@@ -47,7 +47,7 @@ fn add_prototype(
         out,
         written,
         code_tag(scope),
-        scope.nodes,
+        scope,
         scope.depth,
         first,
         count,

@@ -69,28 +69,28 @@ captured-is x h = cases (decLt x 256)
 
 -- ---- a prototype: header, captures, code, the last Return
 
-module _ (tag : ℕ) (w : List ℕ) (n j first k params : ℕ) where
+module _ (tag : ℕ) (w : List ℕ) (top j first k params : ℕ) where
   abbrev pub proto-parts : List ℕ
   proto-parts =
       field 0x41 (word (name-of w j) ++ (word params ++ (word (registers w j) ++ (word (held w j) ++ word (k + 1)))))
-      ++ (capture-bytes (tab (capture-at w j) (held w j)) ++ (inst-bytes tag (tab (λ i. inst-at w n (first + i)) k) ++ inst-bytes tag (inst Return 0 0 0 no-mark ∷ [])))
+      ++ (capture-bytes (tab (capture-at w j) (held w j)) ++ (inst-bytes tag (tab (λ i. inst-at w top (first + i)) k) ++ inst-bytes tag (inst Return 0 0 0 no-mark ∷ [])))
 
-  pub proto-is : proto-parts ≡ proto-bytes tag (proto-of w n j first k params ∷ [])
+  pub proto-is : proto-parts ≡ proto-bytes tag (proto-of w top j first k params ∷ [])
   proto-is =
       let ret : List Instruction = inst Return 0 0 0 no-mark ∷ [] in
-      let l : List Instruction = tab (λ i. inst-at w n (first + i)) k in
-      let size : length (l ++ ret) ≡ k + 1 = simp length-append (omega (arith, tab-length (λ i. inst-at w n (first + i)) k)) in
+      let l : List Instruction = tab (λ i. inst-at w top (first + i)) k in
+      let size : length (l ++ ret) ≡ k + 1 = simp length-append (omega (arith, tab-length (λ i. inst-at w top (first + i)) k)) in
       rw (tab-length (capture-at w j) (held w j), size, append-nil (inst-bytes tag (l ++ ret)), insts-append tag l ret)
 
-  pub proto-size : length (proto-bytes tag (proto-of w n j first k params ∷ [])) ≡ 13 + 5 * held w j + (k + 1) * (3 + inst-size tag)
+  pub proto-size : length (proto-bytes tag (proto-of w top j first k params ∷ [])) ≡ 13 + 5 * held w j + (k + 1) * (3 + inst-size tag)
   proto-size =
       let cs : List ℕ = capture-bytes (tab (capture-at w j) (held w j)) in
-      let is : List ℕ = inst-bytes tag (tab (λ i. inst-at w n (first + i)) k) in
+      let is : List ℕ = inst-bytes tag (tab (λ i. inst-at w top (first + i)) k) in
       let ret : List ℕ = inst-bytes tag (inst Return 0 0 0 no-mark ∷ []) in
       sym (ap length proto-is)
       ∙ omega
-      (arith, length-append cs (is ++ ret), length-append is ret, captures-size (tab (capture-at w j) (held w j)), tab-length (capture-at w j) (held w j), insts-long tag (λ i. inst-at w n (first + i)) k, inst-long tag (inst Return 0 0 0 no-mark), one-more k (3 + inst-size tag))
+      (arith, length-append cs (is ++ ret), length-append is ret, captures-size (tab (capture-at w j) (held w j)), tab-length (capture-at w j) (held w j), insts-long tag (λ i. inst-at w top (first + i)) k, inst-long tag (inst Return 0 0 0 no-mark), one-more k (3 + inst-size tag))
 
   -- where it ends, by the bytes of an instruction
-  pub proto-ends : (at span : ℕ) → span ≡ 3 + inst-size tag → at + (13 + 5 * held w j + (k + 1) * span) ≡ at + length (proto-bytes tag (proto-of w n j first k params ∷ []))
+  pub proto-ends : (at span : ℕ) → span ≡ 3 + inst-size tag → at + (13 + 5 * held w j + (k + 1) * span) ≡ at + length (proto-bytes tag (proto-of w top j first k params ∷ []))
   proto-ends at span e = ap (λ m. at + (13 + 5 * held w j + (k + 1) * m)) e ∙ ap (λ m. at + m) (sym proto-size)

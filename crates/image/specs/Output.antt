@@ -17,12 +17,12 @@ pub record Placed (o : List ℕ) (at : ℕ) (bytes o' : List ℕ) (end : ℕ) : 
   pub beyond : length o < end → o' ≡ o
 
 -- the prototype of function j, whose code are the k instructions from `first` on and the last Return
-abbrev pub proto-of : List ℕ → (n j first k params : ℕ) → Proto
-proto-of w n j first k params =
+abbrev pub proto-of : List ℕ → (top j first k params : ℕ) → Proto
+proto-of w top j first k params =
     record {
       name = name-of w j;
       params = params;
       registers = registers w j;
       captures = tab (capture-at w j) (held w j);
-      code = tab (λ i. inst-at w n (first + i)) k ++ inst Return 0 0 0 no-mark ∷ [];
+      code = tab (λ i. inst-at w top (first + i)) k ++ inst Return 0 0 0 no-mark ∷ [];
     }

@@ -9,7 +9,8 @@ ghost use lib.ListN.{length};
 ghost use Rattle.meaning.specs.Images.{inst-size};
 ghost use Rattle.meaning.specs.Image.{capture-bytes, inst-bytes, proto-bytes};
 ghost use Rattle.store.specs.Table.{tab};
-ghost use Rattle.store.specs.Layout.{top, capture-of, capture-at, held, inst-at};
+ghost use Rattle.store.specs.Layout.{capture-of, capture-at, held, inst-at};
+ghost use Rattle.store.specs.Store.{nodes-of, top-of};
 ghost use Rattle.writers.specs.Spliced.{Spliced};
 ghost use Rattle.writers.specs.Values.{capture-of as captured};
 ghost use Rattle.image.specs.Output.{Placed, proto-of};
@@ -18,6 +19,7 @@ use meaning::NO_MARK;
 use store::HELD;
 use store::NAMES;
 use store::REGISTERS;
+use store::Scope;
 use store::unpacked;
 use writers::Capture;
 use writers::Header;
@@ -61,18 +63,18 @@ fn put_code(
     out: &mut [u8],
     from: usize,
     tag: u8,
-    nodes: usize,
+    scope: Scope,
     first: usize,
     count: usize,
 )
-    requires { ⌜ (top nodes ≤ length (now work)) × (2 * (first + count) ≤ top nodes) × (nodes ≤ 32768) × (from + count * (3 + inst-size tag) ≤ length (now out)) ⌝ }
-    ensures { λ _. ⌜ Spliced (now (out .entry)) from (inst-bytes tag (tab (λ i. inst-at (now (work .entry)) nodes (first + i)) count)) (now (out .exit)) ⌝ }
+    requires { ⌜ (top-of scope ≤ length (now work)) × (2 * (first + count) ≤ top-of scope) × (nodes-of scope ≤ 32768) × (from + count * (3 + inst-size tag) ≤ length (now out)) ⌝ }
+    ensures { λ _. ⌜ Spliced (now (out .entry)) from (inst-bytes tag (tab (λ i. inst-at (now (work .entry)) (top-of scope) (first + i)) count)) (now (out .exit)) ⌝ }
 {
     let size = span(tag);
     let mut at = from;
     let mut i: usize = 0;
     while i < count {
-        let x = store::inst_at(work, nodes, first + i);
+        let x = store::inst_at(work, scope, first + i);
         writers::put_inst(out, at, tag, x);
         at += size;
         i += 1;
@@ -85,14 +87,14 @@ fn put_prototype(
     out: &mut [u8],
     at: usize,
     tag: u8,
-    nodes: usize,
+    scope: Scope,
     j: usize,
     first: usize,
     count: usize,
     params: u32,
 )
-    requires { ⌜ (top nodes ≤ length (now work)) × (2 * (first + count) ≤ top nodes) × (nodes ≤ 32768) × (j ≤ 7) × (count < 32767) × (at + (13 + 5 * held (now work) j + (count + 1) * (3 + inst-size tag)) ≤ length (now out)) ⌝ }
-    ensures { λ _. ⌜ Spliced (now (out .entry)) at (proto-bytes tag (proto-of (now (work .entry)) nodes j first count params ∷ [])) (now (out .exit)) ⌝ }
+    requires { ⌜ (top-of scope ≤ length (now work)) × (2 * (first + count) ≤ top-of scope) × (nodes-of scope ≤ 32768) × (j ≤ 7) × (count < 32767) × (at + (13 + 5 * held (now work) j + (count + 1) * (3 + inst-size tag)) ≤ length (now out)) ⌝ }
+    ensures { λ _. ⌜ Spliced (now (out .entry)) at (proto-bytes tag (proto-of (now (work .entry)) (top-of scope) j first count params ∷ [])) (now (out .exit)) ⌝ }
 {
     let name = work[NAMES + 8 * j];
     let registers = work[REGISTERS + 8 * j] % 256;
@@ -108,7 +110,7 @@ fn put_prototype(
     let captures = held as usize;
     put_captures(work, out, at + 13, j, captures);
     let code = at + 13 + 5 * captures;
-    put_code(work, out, code, tag, nodes, first, count);
+    put_code(work, out, code, tag, scope, first, count);
     let size = span(tag);
     writers::put_inst(out, code + count * size, tag, unpacked(RETURN, NO_MARK));
 }
@@ -119,20 +121,20 @@ pub fn place_prototype(
     out: &mut [u8],
     at: usize,
     tag: u8,
-    nodes: usize,
+    scope: Scope,
     j: usize,
     first: usize,
     count: usize,
     params: u32,
 ) -> usize
-    requires { ⌜ (top nodes ≤ length (now work)) × (2 * (first + count) ≤ top nodes) × (nodes ≤ 32768) × (j ≤ 7) × (count < 32767) × (at < 4294967296) ⌝ }
-    ensures { λ r. ⌜ Placed (now (out .entry)) at (proto-bytes tag (proto-of (now (work .entry)) nodes j first count params ∷ [])) (now (out .exit)) r ⌝ }
+    requires { ⌜ (top-of scope ≤ length (now work)) × (2 * (first + count) ≤ top-of scope) × (nodes-of scope ≤ 32768) × (j ≤ 7) × (count < 32767) × (at < 4294967296) ⌝ }
+    ensures { λ r. ⌜ Placed (now (out .entry)) at (proto-bytes tag (proto-of (now (work .entry)) (top-of scope) j first count params ∷ [])) (now (out .exit)) r ⌝ }
 {
     let held = (work[HELD + 8 * j] % 256) as usize;
     let size = span(tag);
     let end = at + (13 + 5 * held + (count + 1) * size);
     if end <= out.len() {
-        put_prototype(work, out, at, tag, nodes, j, first, count, params);
+        put_prototype(work, out, at, tag, scope, j, first, count, params);
     }
     end
 }

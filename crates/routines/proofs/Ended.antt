@@ -7,8 +7,8 @@ use native.Mathlib.Omega.{arith}
 use Rattle.forward.specs.Forward.{Config, Run}
 use Rattle.store.specs.declared.Step.{Step}
 use Rattle.store.specs.declared.Scope.{Scope}
-use Rattle.store.specs.Layout.{first-local, visited, top}
-use Rattle.store.specs.Store.{goes-on, while-going, Fine}
+use Rattle.store.specs.Layout.{first-local, visited}
+use Rattle.store.specs.Store.{top-of, goes-on, while-going, Fine}
 use Rattle.store.specs.Promise.{Cost, both, live, Used, Leaf}
 use Rattle.store.proofs.Runs.{due, promised, kept-in}
 use Rattle.store.proofs.Compose.{used-then, taken-few}
@@ -54,5 +54,5 @@ module _ {first : ℕ} {w w1 : List ℕ} {p : Scope} {s s1 : Step} {u : Cost} (x
   there h = promised (s1 .outcome) h
 
 -- eight functions have at most 2,040 registers, so the words that are left are there
-pub spare-words : {w : List ℕ} {p : Scope} {s : Step} {a b e : ℕ} → Fine w p s → Owing w p s a b e → goes-on (s .outcome) → first-local (p .nodes) + live w p s + a ≤ top (p .nodes)
+pub spare-words : {w : List ℕ} {p : Scope} {s : Step} {a b e : ℕ} → Fine w p s → Owing w p s a b e → goes-on (s .outcome) → first-local (p .nodes) + live w p s + a ≤ top-of p
 spare-words {w} {p} {s} fine o g = omega (arith, due (s .outcome) (o .spare) g .words, taken-few w (p .depth), due (s .outcome) (fine .nested) g)

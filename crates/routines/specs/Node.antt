@@ -1,5 +1,5 @@
 -- A node that has no child to lower: what its function is given, and what it promises.
-use Prim.Native.Nat.{ℕ, _+_, _*_, _<_, _≤_}
+use Prim.Native.Nat.{ℕ, _*_, _<_, _≤_}
 use mathlib.Core.Path.{_≡_}
 use mathlib.Core.Bool.{true, cond}
 use mathlib.Core.List.{List}
@@ -20,6 +20,7 @@ use Rattle.nodes.specs.Nodes.{Width}
 use Rattle.forward.specs.Forward.{Config, Run, fwd}
 use Rattle.store.specs.declared.Step.{Step}
 use Rattle.store.specs.declared.Scope.{Scope}
+use Rattle.store.specs.Layout.{all-words}
 use Rattle.store.specs.Store.{nodes-of, mode-of, wide-of, Fine}
 use Rattle.store.specs.Promise.{Cost, uses, takes, Room, Leaf}
 use Rattle.routines.specs.Pieces.{Small}
@@ -30,7 +31,7 @@ use Rattle.routines.specs.Pieces.{Small}
 pub record Lawful (t w : List ℕ) (n : ℕ) : Type 0 where
   pub nodes : n ≡ length (fields t)
   pub shapes : (j : ℕ) → j < length (fields t) → shape-at (fields t) j ≡ true
-  pub long : 12288 + 16 * n ≤ length w
+  pub long : all-words n ≤ length w
   pub offsets : Offsets t w
 
 -- a node of it, room for k nodes, and the width of its marks in the scope

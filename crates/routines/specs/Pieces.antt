@@ -10,8 +10,8 @@ use Rattle.meaning.specs.Chunk.{patch-loop}
 use Rattle.meaning.specs.declared.Instruction.{Instruction}
 use Rattle.store.specs.declared.Step.{Step}
 use Rattle.store.specs.declared.Scope.{Scope}
-use Rattle.store.specs.Layout.{first-local, edge, top}
-use Rattle.store.specs.Store.{nodes-of, depth-of, block-of, wide-of, outcome-of, constants-of, globals-of, result-of, is-wide, while-going}
+use Rattle.store.specs.Layout.{first-local, edge}
+use Rattle.store.specs.Store.{nodes-of, top-of, depth-of, block-of, wide-of, outcome-of, constants-of, globals-of, result-of, is-wide, while-going}
 use Rattle.store.specs.Promise.{Cost, uses, gives, live, taken}
 use Rattle.code.specs.Words.{mended}
 
@@ -46,7 +46,7 @@ a-name-back p = gives 0 0 (2 - (depth-of p + block-of p))
 
 -- room for a words and b locals, where e names of globals wait for their constants
 pub record Spare (w : List ℕ) (p : Scope) (s : Step) (a b e : ℕ) : Type 0 where
-  pub words : first-local (nodes-of p) + 6120 + live w p s + a ≤ top (nodes-of p) + 3 * taken w (depth-of p)
+  pub words : first-local (nodes-of p) + 6120 + live w p s + a ≤ top-of p + 3 * taken w (depth-of p)
   pub locals : edge w (nodes-of p) (block-of p) + b ≤ nodes-of p + taken w (depth-of p)
   pub globals : globals-of s + 1 ≤ constants-of s + min 2 (block-of p) + e
 

@@ -3,8 +3,8 @@ ghost use mathlib.Core.Path.{_≡_};
 ghost use Prim.Native.Nat.{_+_, _<_, _≤_};
 ghost use Rattle.meaning.specs.Functions.{parameters};
 ghost use Rattle.forward.specs.Forward.{fwd-zero, sure, closure, end-body};
-ghost use Rattle.store.specs.Layout.{first-local, top};
-ghost use Rattle.store.specs.Store.{nodes-of, wide-of, outcome-of, pc-of, result-of, while-going, Fine};
+ghost use Rattle.store.specs.Layout.{first-local};
+ghost use Rattle.store.specs.Store.{nodes-of, top-of, wide-of, outcome-of, pc-of, result-of, while-going, Fine};
 ghost use Rattle.store.specs.Promise.{uses, some-registers, both, Room, Leaf, live};
 ghost use Rattle.routines.specs.Pieces.{tokens-from, HasPairs};
 use crate::RETURN;
@@ -65,9 +65,9 @@ pub fn end_body(
         if pc == first {
             return store::refuse(step, Cause::Empty, node);
         }
-        let mark = store::mark_at(work, scope.nodes, pc - 1);
+        let mark = store::mark_at(work, scope, pc - 1);
         let word = store::pack(RETURN, result, result + 2, 0);
-        store::write_cell(work, scope.nodes, pc, word, mark);
+        store::write_cell(work, scope, pc, word, mark);
         return store::advance(step, pc + 1, 0);
     }
     store::advance(step, pc, 0)
@@ -75,7 +75,7 @@ pub fn end_body(
 
 // Closure of the prototype that is the result.
 pub(crate) fn closure(work: &mut [u32], step: Step, scope: Scope, register: u32, mark: u32) -> Step
-    requires { ⌜ Fine (now work) scope step × while-going (outcome-of step) ((first-local (nodes-of scope) + live (now work) scope step + 2 ≤ top (nodes-of scope)) × (register < 256)) ⌝ }
+    requires { ⌜ Fine (now work) scope step × while-going (outcome-of step) ((first-local (nodes-of scope) + live (now work) scope step + 2 ≤ top-of scope) × (register < 256)) ⌝ }
     ensures { λ r. ⌜ Leaf (now (work .entry)) scope step (now (work .exit)) scope r (uses 2 0 0) (sure (closure register mark)) ⌝ }
 {
     let o = step.outcome;
@@ -84,6 +84,6 @@ pub(crate) fn closure(work: &mut [u32], step: Step, scope: Scope, register: u32,
     };
     let pc = step.pc;
     let word = store::pack_wide(CLOSURE, register, step.result as usize);
-    store::write_cell(work, scope.nodes, pc, word, mark);
+    store::write_cell(work, scope, pc, word, mark);
     store::advance(step, pc + 1, register)
 }

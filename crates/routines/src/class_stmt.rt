@@ -84,7 +84,7 @@ pub fn make_class(work: &mut [u32], step: Step, scope: Scope, class: u32, mark: 
     };
     let pc = step.pc;
     let word = store::pack(CLASS, class, class + 1, step.result);
-    store::write_cell(work, scope.nodes, pc, word, mark);
+    store::write_cell(work, scope, pc, word, mark);
     store::advance(step, pc + 1, step.result)
 }
 

@@ -220,11 +220,11 @@ pub fn end_for_in(
     };
     let pc = step.pc;
     let word = store::pack(ADDI, counter, counter, 1);
-    store::write_cell(work, scope.nodes, pc, word, mark);
+    store::write_cell(work, scope, pc, word, mark);
     let goal = continue_goal(scope.mode, first, pc);
     close_loop(
         work,
-        scope.nodes,
+        scope,
         pc + 1,
         goal,
         first,

@@ -18,9 +18,9 @@ pub fn end_branch(work: &mut [u32], step: Step, scope: Scope, test: usize, mark:
         return step;
     };
     let pc = step.pc;
-    store::write_cell(work, scope.nodes, pc, JMP, mark);
+    store::write_cell(work, scope, pc, JMP, mark);
     let jump = store::pack_wide(JMP, 0, pc - test);
-    store::write_cell(work, scope.nodes, test + 1, jump, mark);
+    store::write_cell(work, scope, test + 1, jump, mark);
     store::advance(step, pc + 1, 0)
 }
 
@@ -33,6 +33,6 @@ pub fn end_if(work: &mut [u32], step: Step, scope: Scope, first: usize) -> Step
     let Outcome::Accepted(_) = o else {
         return step;
     };
-    code::patch_ends(work, scope.nodes, first, step.pc);
+    code::patch_ends(work, scope, first, step.pc);
     store::settle(step, 0)
 }

@@ -27,8 +27,8 @@ pub fn end_logical(
     };
     let pc = step.pc;
     let word = store::pack(MOVE, left, step.result, 0);
-    store::write_cell(work, scope.nodes, pc, word, mark);
+    store::write_cell(work, scope, pc, word, mark);
     let jump = store::pack_wide(JMP, 0, pc - test);
-    store::write_cell(work, scope.nodes, test + 1, jump, mark);
+    store::write_cell(work, scope, test + 1, jump, mark);
     store::advance(step, pc + 1, left)
 }

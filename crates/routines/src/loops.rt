@@ -4,8 +4,7 @@ ghost use Prim.Native.Nat.{_+_, _-_, _*_, _<_, _≤_};
 ghost use lib.ListN.{length};
 ghost use Rattle.meaning.specs.Chunk.{continue-goal};
 ghost use Rattle.forward.specs.Forward.{sure, end-loop};
-ghost use Rattle.store.specs.Layout.{top};
-ghost use Rattle.store.specs.Store.{mode-of, outcome-of, pc-of, Fine, while-going};
+ghost use Rattle.store.specs.Store.{nodes-of, top-of, mode-of, outcome-of, pc-of, Fine, while-going};
 ghost use Rattle.store.specs.Promise.{uses, Room, Leaf};
 ghost use Rattle.code.specs.Words.{Recoded};
 ghost use Rattle.routines.specs.Pieces.{closed-loop};
@@ -25,7 +24,7 @@ pub(crate) fn continue_goal(mode: usize, first: usize, increment: usize) -> usiz
 // The end of a loop, behind `code` instructions: the jump back, the jump out, breaks and continues.
 pub(crate) fn close_loop(
     work: &mut [u32],
-    nodes: usize,
+    scope: Scope,
     code: usize,
     goal: usize,
     first: usize,
@@ -33,13 +32,13 @@ pub(crate) fn close_loop(
     test: usize,
     mark: u32,
 )
-    requires { ⌜ (top nodes ≤ length (now work)) × (2 * code + 2 ≤ top nodes) × (nodes ≤ 32768) × (first ≤ code) × (condition ≤ code) × (test + 2 ≤ code) ⌝ }
-    ensures { λ _. ⌜ Recoded (now (work .entry)) nodes code (code + 1) (closed-loop goal first condition test mark) (now (work .exit)) ⌝ }
+    requires { ⌜ (top-of scope ≤ length (now work)) × (2 * code + 2 ≤ top-of scope) × (nodes-of scope ≤ 32768) × (first ≤ code) × (condition ≤ code) × (test + 2 ≤ code) ⌝ }
+    ensures { λ _. ⌜ Recoded (now (work .entry)) (top-of scope) code (code + 1) (closed-loop goal first condition test mark) (now (work .exit)) ⌝ }
 {
-    store::write_cell(work, nodes, code, store::jump_back(code - condition), mark);
+    store::write_cell(work, scope, code, store::jump_back(code - condition), mark);
     let jump = store::pack_wide(JMP, 0, code - test);
-    store::write_cell(work, nodes, test + 1, jump, mark);
-    code::patch_loop(work, nodes, first, code + 1, goal);
+    store::write_cell(work, scope, test + 1, jump, mark);
+    code::patch_loop(work, scope, first, code + 1, goal);
 }
 
 // The end of visit_while_stmt and visit_classic_for_stmt.
@@ -63,6 +62,6 @@ pub fn end_loop(
     };
     let pc = step.pc;
     let goal = continue_goal(scope.mode, first, increment);
-    close_loop(work, scope.nodes, pc, goal, first, condition, test, mark);
+    close_loop(work, scope, pc, goal, first, condition, test, mark);
     store::advance(step, pc + 1, result)
 }

@@ -37,6 +37,6 @@ pub fn end_return(work: &mut [u32], step: Step, scope: Scope, node: usize, mark:
         return store::refuse(step, Cause::Returned, node);
     }
     let word = store::pack(RETURN, result, result + 2, 0);
-    store::write_cell(work, scope.nodes, pc, word, mark);
+    store::write_cell(work, scope, pc, word, mark);
     store::advance(step, pc + 1, 0)
 }

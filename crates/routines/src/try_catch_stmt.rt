@@ -35,8 +35,8 @@ pub fn end_try_body(work: &mut [u32], step: Step, scope: Scope) -> Step
         return step;
     };
     let pc = step.pc;
-    store::write_cell(work, scope.nodes, pc, DEREGISTER_TRY_CATCH, NO_MARK);
-    store::write_cell(work, scope.nodes, pc + 1, JMP, NO_MARK);
+    store::write_cell(work, scope, pc, DEREGISTER_TRY_CATCH, NO_MARK);
+    store::write_cell(work, scope, pc + 1, JMP, NO_MARK);
     store::advance(step, pc + 2, step.result)
 }
 
@@ -68,7 +68,7 @@ pub fn end_try(work: &mut [u32], step: Step, scope: Scope, first: usize, body: u
     };
     let pc = step.pc;
     let word = store::pack_wide(REGISTER_TRY_CATCH, 0, body + 2 - first);
-    store::write_cell(work, scope.nodes, first, word, NO_MARK);
-    code::patch_first(work, scope.nodes, first, pc, pc - (body + 1));
+    store::write_cell(work, scope, first, word, NO_MARK);
+    code::patch_first(work, scope, first, pc, pc - (body + 1));
     store::settle(step, 0)
 }

@@ -11,7 +11,7 @@ use Rattle.store.specs.declared.Step.{Step}
 use Rattle.store.specs.declared.Scope.{Scope}
 use Rattle.store.specs.Table.{tab, span}
 use Rattle.store.specs.Layout.{first-edge, first-local, all-words, registers, first, edge, local-at, block, inst-at}
-use Rattle.store.specs.Store.{open-at, around, state-of, run, deeper, Linked, Sound, Fine, Kept}
+use Rattle.store.specs.Store.{top-of, open-at, around, state-of, run, deeper, Linked, Sound, Fine, Kept}
 use Rattle.store.specs.Promise.{nothing, Used, Moves, Leaf}
 use Rattle.store.proofs.Tables.{span-more, span-none}
 use Rattle.store.proofs.Regions.{Same, same-part, same-count, locals-same, blocks-same, linked-same, constants-same, globals-same, code-same, around-by, open-by}
@@ -157,8 +157,8 @@ module _ (w w' : List ℕ) (p : Scope) (s : Step) (fine : Fine w p s) (lim : p .
   block-runs (Refused k n) e ps = stays w w' p (deeper p) s s (fwd-unit enter-block) k n e e ps
   block-runs (Accepted x) e ps = ran w w' p (deeper p) s s enter-block ps tt (λ a c. c) x x e e code refl (block-state (due (s .outcome) (fine .nested) (goes e)) ps)
     where
-      code : tab (inst-at w' (p .nodes)) (s .pc) ≡ tab (inst-at w (p .nodes)) (s .pc)
-      code = code-same w w' (p .nodes) (s .pc) (omega (arith, fine .room)) (record { same = λ i a b. g .other i (omega (arith, fine .room)) (omega (arith, fine .room)) })
+      code : tab (inst-at w' (top-of p)) (s .pc) ≡ tab (inst-at w (top-of p)) (s .pc)
+      code = code-same w w' (top-of p) (s .pc) (omega (arith, fine .room)) (record { same = λ i a b. g .other i (omega (arith, fine .room)) (omega (arith, fine .room)) })
 
   pub block-leaf : Leaf w p s w' (deeper p) s nothing (fwd-unit enter-block)
   block-leaf = record { moves = block-moves; runs = block-runs (s .outcome) refl; image = λ o ps i. i }

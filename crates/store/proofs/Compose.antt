@@ -8,7 +8,7 @@ use Rattle.store.specs.declared.Step.{Step}
 use Rattle.store.specs.declared.Scope.{Scope}
 use Rattle.store.specs.Table.{tab}
 use Rattle.store.specs.Layout.{visited, inst-at}
-use Rattle.store.specs.Store.{run-by, run, open-at, state-of, config-of, refused-by, refused-step, with-result, result-limit, Image, Fine}
+use Rattle.store.specs.Store.{top-of, run-by, run, open-at, state-of, config-of, refused-by, refused-step, with-result, result-limit, Image, Fine}
 use Rattle.store.specs.Promise.{Cost, both, nothing, taken, Roomy, Room, Used, Moves, Leaf, Tells, After, Does}
 use Rattle.store.proofs.Regions.{below-256, same-count}
 use Rattle.store.proofs.Runs.{due, promised, kept-refl, kept-in, absorbed, image-same, image-none}
@@ -116,7 +116,7 @@ known-by (Refused x y) c s h k = record { size = λ d e. absurd (apart d e); val
 
 pub known : (w : List ℕ) (p : Scope) (s : Step) (ps : List Proto) → Known (run w p s ps) (seen-of s)
 unfolding run config-of
-known w p s ps = known-by (s .outcome) (config-of w p s ps) (seen-of s) (sym (tab-length (inst-at w (p .nodes)) (s .pc))) refl
+known w p s ps = known-by (s .outcome) (config-of w p s ps) (seen-of s) (sym (tab-length (inst-at w (top-of p)) (s .pc))) refl
 
 -- a leaf, and one that reads the step between them
 pub leaf-read : {w w1 w2 : List ℕ} {p q t : Scope} {s s1 s2 : Step} {u v : Cost} (f : Config → Run) (g : Seen → Config → Run) → p .nodes ≡ q .nodes → p .depth ≤ q .depth → p .block ≤ q .block → Leaf w p s w1 q s1 u f → Leaf w1 q s1 w2 t s2 v (g (seen-of s1))
@@ -137,7 +137,7 @@ result-by-cases (Refused k n) l r r' t = refl
 
 by-result : (w : List ℕ) (p : Scope) (s : Step) (r : ℕ) (ps : List Proto) → run w p (with-result s r) ps ≡ bind (run w p s ps) (sure (give r))
 unfolding run config-of state-of
-by-result w p s r ps = result-by-cases (s .outcome) (tab (inst-at w (p .nodes)) (s .pc)) (s .result) r (state-of w p s ps)
+by-result w p s r ps = result-by-cases (s .outcome) (tab (inst-at w (top-of p)) (s .pc)) (s .result) r (state-of w p s ps)
 
 -- settle: the result register
 pub settled : {w : List ℕ} {p : Scope} (s : Step) (r : ℕ) → r < 255 → Fine w p s → Leaf w p s w p (with-result s r) nothing (sure (give r))

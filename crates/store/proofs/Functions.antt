@@ -12,7 +12,7 @@ use Rattle.store.specs.declared.Step.{Step}
 use Rattle.store.specs.declared.Scope.{Scope}
 use Rattle.store.specs.Table.{tab}
 use Rattle.store.specs.Layout.{first-edge, registers, held, first, saved, edge, block}
-use Rattle.store.specs.Store.{open-at, around, state-of, run, goes-on, while-going, refused-by, refused-step, inner, Sound, Fine, Kept}
+use Rattle.store.specs.Store.{top-of, open-at, around, state-of, run, goes-on, while-going, refused-by, refused-step, inner, Sound, Fine, Kept}
 use Rattle.store.specs.Promise.{nothing, taken, Moves, Leaf}
 use Rattle.store.specs.Opening.{Framed, Enters}
 use Rattle.store.proofs.Tables.{span-none}
@@ -172,7 +172,7 @@ module _ (w w1 : List ℕ) (p : Scope) (s : Step) (name : ℕ) (fine : Fine w p 
       runs (Refused k n) e ps = stays w w' p (inner p) s s (fwd-unit (enter-function node name)) k n e e ps
       runs (Accepted x) e ps =
           ran w w' p (inner p) s s (enter-function node name) ps tt (λ a c. c) x x e e
-          (code-same w w' (p .nodes) (s .pc) (omega (arith, fine .room)) (record { same = λ i a b. entered-opened .other i (omega (arith, fine .room)) (omega (arith, fine .room)) })) refl (entered-state l node ps)
+          (code-same w w' (top-of p) (s .pc) (omega (arith, fine .room)) (record { same = λ i a b. entered-opened .other i (omega (arith, fine .room)) (omega (arith, fine .room)) })) refl (entered-state l node ps)
 
   entered-out : p .depth ≡ 7 → (node : ℕ) → Leaf w p s w' (inner p) (refused-step s Nesting node) nothing (fwd-unit (enter-function node name))
   entered-out e node =

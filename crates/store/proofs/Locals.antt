@@ -12,7 +12,7 @@ use Rattle.store.specs.declared.Scope.{Scope}
 use Rattle.store.specs.Half.{half, with-half}
 use Rattle.store.specs.Table.{tab, span}
 use Rattle.store.specs.Layout.{first-edge, first-local, first-head, beyond, all-words, registers, first, edge, local-at, block, latest, link, head, inst-at, top}
-use Rattle.store.specs.Store.{open-at, around, state-of, Leads, Linked, Sound, Fine, Kept}
+use Rattle.store.specs.Store.{top-of, open-at, around, state-of, Leads, Linked, Sound, Fine, Kept}
 use Rattle.store.specs.Promise.{a-local, Roomy, Used, Moves, Leaf, Latest, Unlinked}
 use Rattle.store.proofs.Tables.{span-more, span-ext}
 use Rattle.store.proofs.Halves.{half-same, half-other, half-apart, word-other, length-half}
@@ -185,7 +185,7 @@ block-pushed w w' n b sorted ed lo more l here a h =
 -- ---- the whole step
 
 -- what the registers pay for
-pub local-room : {w : List ℕ} {p : Scope} {s : Step} → p .depth ≤ 7 → Roomy w p s 0 1 1 → (5725 + 2 * p .nodes + 2 * s .pc + edge w (p .nodes) (p .block) ≤ top (p .nodes)) × (edge w (p .nodes) (p .block) + 1 ≤ p .nodes + 2040)
+pub local-room : {w : List ℕ} {p : Scope} {s : Step} → p .depth ≤ 7 → Roomy w p s 0 1 1 → (5725 + 2 * p .nodes + 2 * s .pc + edge w (p .nodes) (p .block) ≤ top-of p) × (edge w (p .nodes) (p .block) + 1 ≤ p .nodes + 2040)
 local-room {w} {p} {s} deep room = let t = taken-few w (p .depth) in (omega (arith, room .words), omega (arith, room .locals))
 
 module _ (w w' : List ℕ) (p : Scope) (s : Step) (l : Local) (fine : Fine w p s) (deep : p .depth ≤ 7) (room : Roomy w p s 0 1 1) (g : Pushed w w' (p .nodes) (first-edge (p .nodes) + p .block) (edge w (p .nodes) (p .block)) l) (linked : Linked w' (p .nodes) (p .block)) where
@@ -298,5 +298,5 @@ module _ (w w' : List ℕ) (p : Scope) (s : Step) (l : Local) (fine : Fine w p s
         image = λ o ps i. i;
       }
     where
-      code : tab (inst-at w' (p .nodes)) (s .pc) ≡ tab (inst-at w (p .nodes)) (s .pc)
-      code = let r = local-room deep room in code-same w w' (p .nodes) (s .pc) (omega (arith, fine .room)) (record { same = λ j a c. let k = fine .sound .blocks in g .other j (λ z. omega arith) (omega arith) (λ z. omega arith) (λ z. absurd (omega arith)) })
+      code : tab (inst-at w' (top-of p)) (s .pc) ≡ tab (inst-at w (top-of p)) (s .pc)
+      code = let r = local-room deep room in code-same w w' (top-of p) (s .pc) (omega (arith, fine .room)) (record { same = λ j a c. let k = fine .sound .blocks in g .other j (λ z. omega arith) (omega arith) (λ z. omega arith) (λ z. absurd (omega arith)) })

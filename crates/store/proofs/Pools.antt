@@ -14,8 +14,8 @@ use Rattle.store.specs.declared.Step.{Step}
 use Rattle.store.specs.declared.Scope.{Scope}
 use Rattle.store.specs.Half.{with-half}
 use Rattle.store.specs.Table.{tab, stack, span}
-use Rattle.store.specs.Layout.{constant-by, constant-at, global-at, first, block, top}
-use Rattle.store.specs.Store.{open-at, around, state-of, global-scope, refused-step, constant-more, global-more, Sound, Fine}
+use Rattle.store.specs.Layout.{constant-by, constant-at, global-at, first, block}
+use Rattle.store.specs.Store.{top-of, open-at, around, state-of, global-scope, refused-step, constant-more, global-more, Sound, Fine}
 use Rattle.store.specs.Promise.{a-constant, a-global, Moves, Leaf, Tells}
 use Rattle.store.proofs.Tables.{tab-suc, tab-length, stack-none, stack-suc, stack-ext, span-more, span-none}
 use Rattle.store.proofs.Halves.{length-half, word-other, half-same, half-other}
@@ -127,7 +127,7 @@ module _ (w : List ℕ) (p : Scope) (s : Step) (fine : Fine w p s) (shallow : p 
         record {
           moves = constant-moves;
           runs = λ ps. ran w w' p p s (constant-more s) (add-constant node (constant-by kind high low)) ps (s .constants) (λ a b. a) x x on on
-              (code-same w w' (p .nodes) (s .pc) (omega (arith, fine .room)) (above (top (p .nodes) - 2 * s .pc) (top (p .nodes)) (omega (arith, fine .room, few)) only)) refl (constant-next node ps);
+              (code-same w w' (top-of p) (s .pc) (omega (arith, fine .room)) (above (top-of p - 2 * s .pc) (top-of p) (omega (arith, fine .room, few)) only)) refl (constant-next node ps);
           image = image-same p s (constant-more s) refl refl;
         }
 
@@ -182,7 +182,7 @@ module _ (w : List ℕ) (p : Scope) (s : Step) (fine : Fine w p s) (shallow : p 
       record {
         moves = global-moves;
         runs = λ ps. ran w global-words p p s (global-more s) (add-global name) ps tt (λ a b. b) x x on on
-            (code-same w global-words (p .nodes) (s .pc) (omega (arith, fine .room)) (above (top (p .nodes) - 2 * s .pc) (top (p .nodes)) (omega (arith, fine .room, within)) global-only)) refl (global-next ps);
+            (code-same w global-words (top-of p) (s .pc) (omega (arith, fine .room)) (above (top-of p - 2 * s .pc) (top-of p) (omega (arith, fine .room, within)) global-only)) refl (global-next ps);
         image = image-same p s (global-more s) refl refl;
       }
 

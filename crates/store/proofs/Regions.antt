@@ -82,9 +82,9 @@ module _ (w w' : List ℕ) where
   pub globals-same : (n : ℕ) → n ≤ 1040 → Same w w' 4168 4688 → stack (global-at w') n ≡ stack (global-at w) n
   globals-same n l h = stack-ext _ _ n (λ i k. half-kept (8336 + i) h (omega arith) (omega arith))
 
-  pub code-same : (nodes n : ℕ) → 2 * n ≤ top nodes → Same w w' (top nodes - 2 * n) (top nodes) → tab (inst-at w' nodes) n ≡ tab (inst-at w nodes) n
-  code-same nodes n le h =
-      tab-ext _ _ n (λ i k. rw (h .same (top nodes - (2 * i + 2)) (omega arith) (omega arith), h .same (top nodes - (2 * i + 1)) (omega arith) (omega arith)))
+  pub code-same : (top n : ℕ) → 2 * n ≤ top → Same w w' (top - 2 * n) top → tab (inst-at w' top) n ≡ tab (inst-at w top) n
+  code-same top n le h =
+      tab-ext _ _ n (λ i k. rw (h .same (top - (2 * i + 2)) (omega arith) (omega arith), h .same (top - (2 * i + 1)) (omega arith) (omega arith)))
 
   pub captures-same : (j n : ℕ) → n ≤ 256 → Same w w' (3144 + 128 * j) (3144 + 128 * suc j) → tab (capture-at w' j) n ≡ tab (capture-at w j) n
   captures-same j n l h = tab-ext _ _ n (λ i k. ap (λ x. capture-of (x % 512)) (half-kept (6288 + 256 * j + i) h (omega arith) (omega arith)))

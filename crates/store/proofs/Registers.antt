@@ -10,8 +10,8 @@ use borrow.Author.Tests.{eq-eqb, ne-eqb}
 use Rattle.store.specs.declared.Step.{Step}
 use Rattle.store.specs.declared.Scope.{Scope}
 use Rattle.store.specs.Table.{tab}
-use Rattle.store.specs.Layout.{registers, first, held, edge, inst-at, top}
-use Rattle.store.specs.Store.{open-at, around, state-of, with-result, refused-step, Fine}
+use Rattle.store.specs.Layout.{registers, first, held, edge, inst-at}
+use Rattle.store.specs.Store.{top-of, open-at, around, state-of, with-result, refused-step, Fine}
 use Rattle.store.specs.Promise.{some-registers, a-register, taken, Used, Moves, Leaf}
 use Rattle.store.proofs.Regions.{Only, below, above, same-count, constants-same, globals-same, code-same, captures-same, around-same, below-256}
 use Rattle.store.proofs.Runs.{promised, ran, ran-out, image-same, image-none}
@@ -120,8 +120,8 @@ module _ (w w' : List ℕ) (p : Scope) (s : Step) (v : ℕ) (fine : Fine w p s) 
           let e = edge-kept in
           record { words = omega arith; locals = omega arith; names = omega arith; registers = omega arith; visits = same-count (only .other 3077 (λ e. omega arith)) }
 
-  registers-code : tab (inst-at w' (p .nodes)) (s .pc) ≡ tab (inst-at w (p .nodes)) (s .pc)
-  registers-code = code-same w w' (p .nodes) (s .pc) (omega (arith, fine .room)) (above (top (p .nodes) - 2 * s .pc) (top (p .nodes)) (omega (arith, fine .room)) only)
+  registers-code : tab (inst-at w' (top-of p)) (s .pc) ≡ tab (inst-at w (top-of p)) (s .pc)
+  registers-code = code-same w w' (top-of p) (s .pc) (omega (arith, fine .room)) (above (top-of p - 2 * s .pc) (top-of p) (omega (arith, fine .room)) only)
 
   -- one register
   register-next : (node : ℕ) → v ≡ 1 → ¬ (registers w (p .depth) ≡ 255) → (ps : List Proto) → next-register node (state-of w p s ps) ≡ done (registers w (p .depth)) (state-of w' p (with-result s (registers w (p .depth))) ps)

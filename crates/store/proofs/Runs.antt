@@ -7,7 +7,7 @@ use Rattle.store.specs.declared.Step.{Step}
 use Rattle.store.specs.declared.Scope.{Scope}
 use Rattle.store.specs.Table.{tab}
 use Rattle.store.specs.Layout.{inst-at}
-use Rattle.store.specs.Store.{state-of, config-of, run, code-tag, image-by, Image, goes-on, while-going, Fine, Kept}
+use Rattle.store.specs.Store.{top-of, state-of, config-of, run, code-tag, image-by, Image, goes-on, while-going, Fine, Kept}
 use Rattle.store.specs.Promise.{Cost, Moves, Leaf}
 use Rattle.meaning.specs.State.{Proto, M, refused, done}
 use Rattle.meaning.specs.declared.Cause.{Cause}
@@ -52,7 +52,7 @@ stays w w' p q s r op k n e f ps = rw (e, f)
 
 -- a step of the definition is done: the code stays, the result is `g` of the answer and the result before
 module _ {A : Type 0} (w w' : List ℕ) (p q : Scope) (s r : Step) (m : M A) (ps : List Proto) where
-  done-by : (a : A) (g : A → ℕ → ℕ) → tab (inst-at w' (q .nodes)) (r .pc) ≡ tab (inst-at w (p .nodes)) (s .pc) → r .result ≡ g a (s .result) → m (state-of w p s ps) ≡ done a (state-of w' q r ps)
+  done-by : (a : A) (g : A → ℕ → ℕ) → tab (inst-at w' (top-of q)) (r .pc) ≡ tab (inst-at w (top-of p)) (s .pc) → r .result ≡ g a (s .result) → m (state-of w p s ps) ≡ done a (state-of w' q r ps)
       → going (config-of w' q r ps) ≡ bind (going (config-of w p s ps)) (λ c. fwd-by (λ b d. config (d .code) (g b (d .result)) (d .state)) m c)
   unfolding config-of bind fwd-by on
   done-by a g c v h = rw (h, c, v)
@@ -61,7 +61,7 @@ module _ {A : Type 0} (w w' : List ℕ) (p q : Scope) (s r : Step) (m : M A) (ps
   unfolding config-of bind fwd-by on
   refused-by g k n h = rw h
 
-  pub ran : (a : A) (g : A → ℕ → ℕ) (x y : ℕ) → s .outcome ≡ Accepted x → r .outcome ≡ Accepted y → tab (inst-at w' (q .nodes)) (r .pc) ≡ tab (inst-at w (p .nodes)) (s .pc) → r .result ≡ g a (s .result)
+  pub ran : (a : A) (g : A → ℕ → ℕ) (x y : ℕ) → s .outcome ≡ Accepted x → r .outcome ≡ Accepted y → tab (inst-at w' (top-of q)) (r .pc) ≡ tab (inst-at w (top-of p)) (s .pc) → r .result ≡ g a (s .result)
       → m (state-of w p s ps) ≡ done a (state-of w' q r ps) → run w' q r ps ≡ bind (run w p s ps) (λ c. fwd-by (λ b d. config (d .code) (g b (d .result)) (d .state)) m c)
   ran a g x y e f c v h =
       run-going w' q r ps y f

@@ -7,8 +7,8 @@ use lib.ListN.{length, getD}
 use Rattle.store.specs.declared.Step.{Step}
 use Rattle.store.specs.declared.Scope.{Scope}
 use Rattle.store.specs.Table.{span}
-use Rattle.store.specs.Layout.{first-edge, first-local, top, beyond, registers, first, saved, edge, block}
-use Rattle.store.specs.Store.{open-at, around, while-going, written-by, result-limit, Linked, Sound, Fine, Kept}
+use Rattle.store.specs.Layout.{first-edge, first-local, beyond, registers, first, saved, edge, block}
+use Rattle.store.specs.Store.{top-of, open-at, around, while-going, written-by, result-limit, Linked, Sound, Fine, Kept}
 use Rattle.store.specs.Promise.{taken}
 use Rattle.store.proofs.Regions.{Same, Only, locals-same, blocks-same, linked-same, around-by, open-by}
 
@@ -67,7 +67,7 @@ kept-by d len g es os =
 
 -- where the words from a up to b lie: constants, frames, captures, globals; or pending code
 abbrev pub Clear : (w : List ℕ) (p : Scope) (a b : ℕ) → Type 0
-Clear w p a b = ((c : ℕ) → 4688 ≤ c → c < first-local (p .nodes) + edge w (p .nodes) (p .block) → a ≤ c → b ≤ c) × ((c : ℕ) → top (p .nodes) ≤ c → a ≤ c → b ≤ c)
+Clear w p a b = ((c : ℕ) → 4688 ≤ c → c < first-local (p .nodes) + edge w (p .nodes) (p .block) → a ≤ c → b ≤ c) × ((c : ℕ) → top-of p ≤ c → a ≤ c → b ≤ c)
 
 module _ {w w' : List ℕ} {p : Scope} {a b : ℕ} (h : Sound w p) (only : Only w w' a b) (clear : Clear w p a b) (firsts : (j : ℕ) → j ≤ p .depth → first w' j ≡ first w j) where
   clear-registers : Same w w' 4688 (first-edge (p .nodes))

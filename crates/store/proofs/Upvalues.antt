@@ -9,7 +9,7 @@ use Rattle.store.specs.declared.Found.the-variants.{At, Nothing, Full}
 use Rattle.store.specs.declared.Step.{Step}
 use Rattle.store.specs.declared.Scope.{Scope}
 use Rattle.store.specs.Layout.{first-edge, first, edge}
-use Rattle.store.specs.Store.{open-at, around, state-of, config-of, refused-step, Fine, Kept}
+use Rattle.store.specs.Store.{top-of, open-at, around, state-of, config-of, refused-step, Fine, Kept}
 use Rattle.store.specs.Search.{option-of, search-of, Caught, Sought}
 use Rattle.store.specs.Promise.{nothing, Used, Moves, Told}
 use Rattle.store.proofs.Regions.{same-count, constants-same, globals-same, code-same, linked-same}
@@ -83,7 +83,7 @@ module _ (w w' : List ℕ) (p : Scope) (s : Step) (fine : Fine w p s) (deep : p 
   unfolding config-of
   caught-config ps =
       rw
-      (caught-state ps, code-same w w' (p .nodes) (s .pc) (omega (arith, fine .room)) (record { same = λ i a b. caught .high i (omega (arith, fine .room)) }))
+      (caught-state ps, code-same w w' (top-of p) (s .pc) (omega (arith, fine .room)) (record { same = λ i a b. caught .high i (omega (arith, fine .room)) }))
 
   says : search-of w' (p .nodes) (p .depth) (p .block) (p .loops) f ≡ search-outward name (open-at w (p .nodes) (p .depth) (p .block) (p .loops)) (around w (p .nodes) (p .depth))
   says = sought .says (p .block) (p .loops)

@@ -8,8 +8,8 @@ use lib.Seq.{getD-set-same, getD-set-other}
 use Rattle.store.specs.declared.Step.{Step}
 use Rattle.store.specs.declared.Scope.{Scope}
 use Rattle.store.specs.Table.{tab}
-use Rattle.store.specs.Layout.{registers, first, held, edge, inst-at, top, visited}
-use Rattle.store.specs.Store.{open-at, around, state-of, config-of, run-by, run, while-going, Fine}
+use Rattle.store.specs.Layout.{registers, first, held, edge, visited}
+use Rattle.store.specs.Store.{top-of, open-at, around, state-of, config-of, run-by, run, while-going, Fine}
 use Rattle.store.specs.Promise.{a-visit, taken, Used, Moves, Ticked}
 use Rattle.store.proofs.Regions.{Only, below, above, constants-same, globals-same, code-same, captures-same, around-same, below-256}
 use Rattle.store.proofs.Runs.{promised}
@@ -80,7 +80,7 @@ module _ {w w' : List ℕ} {p : Scope} {s : Step} (fine : Fine w p s) (t : Ticke
   unfolding config-of state-of
   ticked-config deep ps =
       rw (
-        code-same w w' (p .nodes) (s .pc) (omega (arith, fine .room)) (above (top (p .nodes) - 2 * s .pc) (top (p .nodes)) (omega (arith, fine .room)) only),
+        code-same w w' (top-of p) (s .pc) (omega (arith, fine .room)) (above (top-of p - 2 * s .pc) (top-of p) (omega (arith, fine .room)) only),
         constants-same w w' (s .constants) (below 0 (3 * s .constants) (omega (arith, fine .constants)) only),
         globals-same w w' (s .globals) (omega (arith, fine .globals, fine .constants)) (above 4168 4688 (omega arith) only),
         ticked-open deep,

@@ -18,9 +18,9 @@ pub record Packs (x : ℕ) (i : ℕ → Instruction) : Type 0 where
   pub is : (mark : ℕ) → unpacked x mark ≡ i mark
 
 -- instruction i set anew, by its packed word and its mark
-abbrev pub with-inst : List ℕ → (n i word mark : ℕ) → List ℕ
-with-inst w n i word mark = set (set w (cell n i) word) (mark-cell n i) mark
+abbrev pub with-inst : List ℕ → (top i word mark : ℕ) → List ℕ
+with-inst w top i word mark = set (set w (cell top i) word) (mark-cell top i) mark
 
 -- instruction i is written, and nothing else changed
-pub record Wrote (w : List ℕ) (n i word mark : ℕ) (w' : List ℕ) : Type 0 where
-  pub is : w' ≡ with-inst w n i word mark
+pub record Wrote (w : List ℕ) (top i word mark : ℕ) (w' : List ℕ) : Type 0 where
+  pub is : w' ≡ with-inst w top i word mark

@@ -42,11 +42,11 @@ top n = 12288 + 10 * n
 
 -- the head of bucket 0, in halves: heads start where the code ends
 abbrev pub first-head : ℕ → ℕ
-first-head n = 24576 + 20 * n
+first-head n = 2 * top n
 
 -- the first word that the store leaves alone
 abbrev pub beyond : ℕ → ℕ
-beyond n = 12288 + 15 * n
+beyond n = top n + 5 * n
 
 -- all words: those that refusal 6 asks for
 abbrev pub all-words : ℕ → ℕ
@@ -139,18 +139,18 @@ head w n b = half w (first-head n + b)
 
 -- ---- pending code
 
--- where the packed word of pending instruction i stands
-abbrev pub cell : (n i : ℕ) → ℕ
-cell n i = top n - (2 * i + 2)
+-- where the packed word of pending instruction i stands, below the top
+abbrev pub cell : (top i : ℕ) → ℕ
+cell top i = top - (2 * i + 2)
 
 -- where its mark stands, in the word above
-abbrev pub mark-cell : (n i : ℕ) → ℕ
-mark-cell n i = top n - (2 * i + 1)
+abbrev pub mark-cell : (top i : ℕ) → ℕ
+mark-cell top i = top - (2 * i + 1)
 
 -- a word as an instruction, the opcode in its lowest byte, then a, b and c; the mark has a word of its own
 abbrev pub unpacked : (word mark : ℕ) → Instruction
 unpacked x m = inst (x % 256) (x / 256 % 256) (x / 65536 % 256) (x / 16777216 % 256) m
 
 -- pending instruction i
-abbrev pub inst-at : List ℕ → (n i : ℕ) → Instruction
-inst-at w n i = unpacked (getD w (cell n i) 0) (getD w (mark-cell n i) 0)
+abbrev pub inst-at : List ℕ → (top i : ℕ) → Instruction
+inst-at w top i = unpacked (getD w (cell top i) 0) (getD w (mark-cell top i) 0)

@@ -5,8 +5,8 @@ use mathlib.Core.List.{List}
 use lib.ListN.{length, getD}
 use Rattle.store.specs.declared.Step.{Step}
 use Rattle.store.specs.declared.Scope.{Scope}
-use Rattle.store.specs.Layout.{first-local, top, beyond, registers, visited, edge, local-at}
-use Rattle.store.specs.Store.{run, goes-on, while-going, Image, Linked, Fine, Kept}
+use Rattle.store.specs.Layout.{first-local, beyond, registers, visited, edge, local-at}
+use Rattle.store.specs.Store.{top-of, run, goes-on, while-going, Image, Linked, Fine, Kept}
 use Rattle.meaning.specs.State.{Proto, M, next-register, allocate-register}
 use Rattle.forward.specs.Forward.{Config, Run, bind, fwd-number, fwd-unit, Answers}
 
@@ -89,7 +89,7 @@ live w p s = 2 * s .pc + edge w (p .nodes) (p .block)
 -- room for k nodes that are still to be lowered, and for a words and b locals beside
 pub record Roomy (w : List ℕ) (p : Scope) (s : Step) (k a b : ℕ) : Type 0 where
   -- the words ahead of the locals, and three for each of 2,040 registers
-  pub words : first-local (p .nodes) + 6120 + live w p s + 8 * k + a ≤ top (p .nodes) + 3 * taken w (p .depth)
+  pub words : first-local (p .nodes) + 6120 + live w p s + 8 * k + a ≤ top-of p + 3 * taken w (p .depth)
   -- a local for every node and every register
   pub locals : edge w (p .nodes) (p .block) + k + b ≤ p .nodes + taken w (p .depth)
   -- every global's name is a constant; where a second block is open one may be due
@@ -160,7 +160,7 @@ pub record Ticked (w w' : List ℕ) : Type 0 where
 -- the locals of the block inside p are popped: nothing but heads changed
 pub record Popped (w : List ℕ) (p : Scope) (w' : List ℕ) : Type 0 where
   pub same : length w' ≡ length w
-  pub other : (i : ℕ) → (top (p .nodes) ≤ i → beyond (p .nodes) ≤ i) → getD w' i 0 ≡ getD w i 0
+  pub other : (i : ℕ) → (top-of p ≤ i → beyond (p .nodes) ≤ i) → getD w' i 0 ≡ getD w i 0
   pub linked : Linked w' (p .nodes) (p .block)
 
 -- the latest local is one of that name in the innermost block

@@ -23,6 +23,10 @@ use Rattle.forward.specs.Forward.{Config, config, Run, stopped, going}
 abbrev pub nodes-of : Scope → ℕ
 nodes-of p = p .nodes
 
+-- the first word above the pending code
+abbrev pub top-of : Scope → ℕ
+top-of p = top (p .nodes)
+
 -- the functions around the current one
 abbrev pub depth-of : Scope → ℕ
 depth-of p = p .depth
@@ -98,7 +102,7 @@ state-of w p s ps =
 
 -- the pending code of all open functions, the result register and the State
 unfoldable pub config-of : List ℕ → Scope → Step → List Proto → Config
-config-of w p s ps = config (tab (inst-at w (p .nodes)) (s .pc)) (s .result) (state-of w p s ps)
+config-of w p s ps = config (tab (inst-at w (top-of p)) (s .pc)) (s .result) (state-of w p s ps)
 
 -- a refusal by its cause and node, else the configuration
 abbrev pub run-by : Outcome → Config → Run
@@ -271,7 +275,7 @@ pub record Fine (w : List ℕ) (p : Scope) (s : Step) : Type 0 where
   -- eight functions are open at most, unless one was refused
   pub nested : while-going (s .outcome) (p .depth ≤ 7)
   -- locals, which go upward, and pending code, which goes downward, do not meet
-  pub room : first-local (p .nodes) + 2 * s .pc + edge w (p .nodes) (p .block) ≤ top (p .nodes)
+  pub room : first-local (p .nodes) + 2 * s .pc + edge w (p .nodes) (p .block) ≤ top-of p
   pub constants : s .constants ≤ 1024
   -- a global's name is a constant, but for one that is still due
   pub globals : s .globals ≤ s .constants + 1

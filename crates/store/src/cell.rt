@@ -3,8 +3,10 @@ ghost use mathlib.Core.Path.{_≡_};
 ghost use Prim.Native.Nat.{_+_, _*_, _<_, _≤_};
 ghost use lib.ListN.{length, getD, set};
 ghost use Rattle.meaning.specs.Opcode.{inst, wide, back, Jmp};
-ghost use Rattle.store.specs.Layout.{top, cell, mark-cell, unpacked, inst-at};
+ghost use Rattle.store.specs.Layout.{cell, mark-cell, unpacked, inst-at};
+ghost use Rattle.store.specs.Store.{nodes-of, top-of};
 ghost use Rattle.store.specs.Cell.{Bytes, Packs, Wrote};
+use crate::Scope;
 use crate::layout::top;
 use instruction::OpCode;
 use meaning::Instruction;
@@ -50,54 +52,54 @@ pub fn unpacked(x: u32, mark: u32) -> Instruction
 }
 
 // Where the packed word of instruction i stands.
-fn cell(nodes: usize, i: usize) -> usize
-    requires { ⌜ (2 * i + 2 ≤ top nodes) × (nodes ≤ 32768) ⌝ }
-    ensures { λ r. ⌜ r ≡ cell nodes i ⌝ }
+fn cell(scope: Scope, i: usize) -> usize
+    requires { ⌜ (2 * i + 2 ≤ top-of scope) × (nodes-of scope ≤ 32768) ⌝ }
+    ensures { λ r. ⌜ r ≡ cell (top-of scope) i ⌝ }
 {
-    top(nodes) - (2 * i + 2)
+    top(scope.nodes) - (2 * i + 2)
 }
 
 // Instruction i is written, by its packed word and its mark.
-pub fn write_cell(work: &mut [u32], nodes: usize, i: usize, word: u32, mark: u32)
-    requires { ⌜ (top nodes ≤ length (now work)) × (2 * i + 2 ≤ top nodes) × (nodes ≤ 32768) ⌝ }
-    ensures { λ _. ⌜ Wrote (now (work .entry)) nodes i word mark (now (work .exit)) ⌝ }
+pub fn write_cell(work: &mut [u32], scope: Scope, i: usize, word: u32, mark: u32)
+    requires { ⌜ (top-of scope ≤ length (now work)) × (2 * i + 2 ≤ top-of scope) × (nodes-of scope ≤ 32768) ⌝ }
+    ensures { λ _. ⌜ Wrote (now (work .entry)) (top-of scope) i word mark (now (work .exit)) ⌝ }
 {
-    let at = cell(nodes, i);
+    let at = cell(scope, i);
     work[at] = word;
     work[at + 1] = mark;
 }
 
 // Its packed word alone is set anew.
-pub fn set_word(work: &mut [u32], nodes: usize, i: usize, word: u32)
-    requires { ⌜ (top nodes ≤ length (now work)) × (2 * i + 2 ≤ top nodes) × (nodes ≤ 32768) ⌝ }
-    ensures { λ _. ⌜ now (work .exit) ≡ set (now (work .entry)) (cell nodes i) word ⌝ }
+pub fn set_word(work: &mut [u32], scope: Scope, i: usize, word: u32)
+    requires { ⌜ (top-of scope ≤ length (now work)) × (2 * i + 2 ≤ top-of scope) × (nodes-of scope ≤ 32768) ⌝ }
+    ensures { λ _. ⌜ now (work .exit) ≡ set (now (work .entry)) (cell (top-of scope) i) word ⌝ }
 {
-    let at = cell(nodes, i);
+    let at = cell(scope, i);
     work[at] = word;
 }
 
 // Its packed word.
-pub fn word_at(work: &[u32], nodes: usize, i: usize) -> u32
-    requires { ⌜ (top nodes ≤ length (now work)) × (2 * i + 2 ≤ top nodes) × (nodes ≤ 32768) ⌝ }
-    ensures { λ r. ⌜ r ≡ getD (now (work .entry)) (cell nodes i) 0 ⌝ }
+pub fn word_at(work: &[u32], scope: Scope, i: usize) -> u32
+    requires { ⌜ (top-of scope ≤ length (now work)) × (2 * i + 2 ≤ top-of scope) × (nodes-of scope ≤ 32768) ⌝ }
+    ensures { λ r. ⌜ r ≡ getD (now (work .entry)) (cell (top-of scope) i) 0 ⌝ }
 {
-    let at = cell(nodes, i);
+    let at = cell(scope, i);
     work[at]
 }
 
 // Its mark.
-pub fn mark_at(work: &[u32], nodes: usize, i: usize) -> u32
-    requires { ⌜ (top nodes ≤ length (now work)) × (2 * i + 2 ≤ top nodes) × (nodes ≤ 32768) ⌝ }
-    ensures { λ r. ⌜ r ≡ getD (now (work .entry)) (mark-cell nodes i) 0 ⌝ }
+pub fn mark_at(work: &[u32], scope: Scope, i: usize) -> u32
+    requires { ⌜ (top-of scope ≤ length (now work)) × (2 * i + 2 ≤ top-of scope) × (nodes-of scope ≤ 32768) ⌝ }
+    ensures { λ r. ⌜ r ≡ getD (now (work .entry)) (mark-cell (top-of scope) i) 0 ⌝ }
 {
-    let at = cell(nodes, i);
+    let at = cell(scope, i);
     work[at + 1]
 }
 
 // Instruction i.
-pub fn inst_at(work: &[u32], nodes: usize, i: usize) -> Instruction
-    requires { ⌜ (top nodes ≤ length (now work)) × (2 * i + 2 ≤ top nodes) × (nodes ≤ 32768) ⌝ }
-    ensures { λ r. ⌜ r ≡ inst-at (now (work .entry)) nodes i ⌝ }
+pub fn inst_at(work: &[u32], scope: Scope, i: usize) -> Instruction
+    requires { ⌜ (top-of scope ≤ length (now work)) × (2 * i + 2 ≤ top-of scope) × (nodes-of scope ≤ 32768) ⌝ }
+    ensures { λ r. ⌜ r ≡ inst-at (now (work .entry)) (top-of scope) i ⌝ }
 {
-    unpacked(word_at(work, nodes, i), mark_at(work, nodes, i))
+    unpacked(word_at(work, scope, i), mark_at(work, scope, i))
 }

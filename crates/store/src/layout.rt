@@ -46,7 +46,7 @@ pub(crate) fn first_head(nodes: usize) -> usize
     requires { ⌜ nodes ≤ 32768 ⌝ }
     ensures { λ r. ⌜ r ≡ first-head nodes ⌝ }
 {
-    24576 + 20 * nodes
+    2 * top(nodes)
 }
 
 // The first word that the store leaves alone.
@@ -54,5 +54,5 @@ pub(crate) fn beyond(nodes: usize) -> usize
     requires { ⌜ nodes ≤ 32768 ⌝ }
     ensures { λ r. ⌜ r ≡ beyond nodes ⌝ }
 {
-    12288 + 15 * nodes
+    top(nodes) + 5 * nodes
 }

@@ -3,6 +3,7 @@ use mathlib.Core.Path.{refl, ap}
 use Prim.Native.Nat.{_+_, _*_}
 use native.Mathlib.Omega.{arith}
 use denote.Ref.{now}
+use Rattle.store.specs.Store.{top-of}
 use Rattle.writers.proofs.Splicing.{spliced-length}
 use Rattle.image.proofs.Bytes.{few-bytes, proto-ends}
 use borrow.Author.Needs.{needs}
@@ -25,7 +26,7 @@ returns c =
     let test = c .before .before .before .before .if1 in
     let a = start .args in
     record {
-      ends = proto-ends (a .tag) (now (a .work)) (a .nodes) (a .j) (a .first) (a .count) (a .params) (a .at) (span .result) (span .ensures .0);
+      ends = proto-ends (a .tag) (now (a .work)) (top-of (a .scope)) (a .j) (a .first) (a .count) (a .params) (a .at) (span .result) (span .ensures .0);
       same = spliced-length (put-prototype .ensures);
       fits = λ h. put-prototype .ensures;
       beyond = λ h. absurd (omega (arith, h, test .taken));
@@ -37,7 +38,7 @@ returns-2 c =
     let span = c .before .span in
     let a = start .args in
     record {
-      ends = proto-ends (a .tag) (now (a .work)) (a .nodes) (a .j) (a .first) (a .count) (a .params) (a .at) (span .result) (span .ensures .0);
+      ends = proto-ends (a .tag) (now (a .work)) (top-of (a .scope)) (a .j) (a .first) (a .count) (a .params) (a .at) (span .result) (span .ensures .0);
       same = refl;
       fits = λ h. absurd (omega (arith, h, (c .if1) .left));
       beyond = λ h. refl;

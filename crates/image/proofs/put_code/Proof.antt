@@ -8,6 +8,7 @@ use denote.Ref.{now}
 use Rattle.writers.proofs.Splicing.{spliced-none, spliced-then, spliced-as, spliced-length}
 use Rattle.store.specs.Table.{tab}
 use Rattle.store.specs.Layout.{inst-at}
+use Rattle.store.specs.Store.{top-of}
 use Rattle.store.proofs.Tables.{tab-none}
 use Rattle.meaning.specs.Images.{inst-size}
 use Rattle.meaning.specs.Image.{inst-bytes}
@@ -18,17 +19,17 @@ use Rattle.image.proofs.put_code.Statement.{statement}
 use Rattle.image.proofs.put_code.Tie as tie
 
 abbrev Inv-loop : tie.InvT-loop
-Inv-loop work out₀ from tag nodes first count size at₀ i₀ out at i =
-    (i ≤ count) × (at ≡ from + i * (3 + inst-size tag)) × Spliced out₀ from (inst-bytes tag (tab (λ k. inst-at work nodes (first + k)) i)) out
+Inv-loop work out₀ from tag scope first count size at₀ i₀ out at i =
+    (i ≤ count) × (at ≡ from + i * (3 + inst-size tag)) × Spliced out₀ from (inst-bytes tag (tab (λ k. inst-at work (top-of scope) (first + k)) i)) out
 
 abbrev μ-loop : tie.MeasureT-loop
-μ-loop work out₀ from tag nodes first count size at₀ i₀ out at i = count - i
+μ-loop work out₀ from tag scope first count size at₀ i₀ out at i = count - i
 
 loop-holds : tie.Need-loop-holds Inv-loop μ-loop
 loop-holds c =
     let start = c .before .before .before in
     let a = start .args in
-    let none = ap (inst-bytes (a .tag)) (tab-none (λ k. inst-at (now (a .work)) (a .nodes) (a .first + k))) in
+    let none = ap (inst-bytes (a .tag)) (tab-none (λ k. inst-at (now (a .work)) (top-of (a .scope)) (a .first + k))) in
     (omega arith, omega (arith, zero-mul (3 + inst-size (a .tag))), spliced-as (sym none) (spliced-none (now (a .out)) (a .from) (omega (arith, start .pre .3))))
 
 inst-at-requires : tie.Need-inst-at-requires Inv-loop μ-loop
@@ -56,7 +57,7 @@ loop-again : tie.Need-loop-again Inv-loop μ-loop
 loop-again c =
     let turn = c .before .before .before .before .before in
     let a = turn .before .before .before .before .before .args in
-    let f : ℕ → Instruction = λ k. inst-at (now (a .work)) (a .nodes) (a .first + k) in
+    let f : ℕ → Instruction = λ k. inst-at (now (a .work)) (top-of (a .scope)) (a .first + k) in
     let i : ℕ = turn .before .loop .i in
     let v = turn .before .loop .inv in
     let span = turn .before .before .span in

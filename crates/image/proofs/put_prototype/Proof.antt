@@ -7,6 +7,7 @@ use lib.ListN.{length-append}
 use denote.Ref.{now}
 use Rattle.store.specs.Table.{tab}
 use Rattle.store.specs.Layout.{name-of, registers, held, capture-at, inst-at}
+use Rattle.store.specs.Store.{top-of}
 use Rattle.store.proofs.Tables.{tab-length}
 use Rattle.meaning.specs.Opcode.{inst, Return, no-mark}
 use Rattle.meaning.specs.Images.{inst-size}
@@ -51,7 +52,7 @@ returns c =
     let w = now (a .work) in
     let j : ℕ = a .j in
     let k : ℕ = a .count in
-    let f : ℕ → Instruction = λ i. inst-at w (a .nodes) (a .first + i) in
+    let f : ℕ → Instruction = λ i. inst-at w (top-of (a .scope)) (a .first + i) in
     let h : List ℕ = field 0x41 (word (name-of w j) ++ (word (a .params) ++ (word (registers w j) ++ (word (held w j) ++ word (k + 1))))) in
     let cs : List ℕ = capture-bytes (tab (capture-at w j) (held w j)) in
     let is : List ℕ = inst-bytes (a .tag) (tab f k) in
@@ -63,7 +64,7 @@ returns c =
     let b2 = spliced-then (head .put-header .ensures) (captures .put-captures .ensures) (omega arith) in
     let b3 = spliced-then b2 (code .put-code .ensures) (omega (arith, length-append h cs, nc, tc)) in
     let b4 = spliced-then b3 last (omega (arith, length-append h cs, length-append (h ++ cs) is, nc, tc, ni, ap (λ n. k * n) (span .ensures .0))) in
-    spliced-as (append-assoc (h ++ cs) is ret ∙ append-assoc h cs (is ++ ret) ∙ proto-is (a .tag) w (a .nodes) j (a .first) k (a .params)) b4
+    spliced-as (append-assoc (h ++ cs) is ret ∙ append-assoc h cs (is ++ ret) ∙ proto-is (a .tag) w (top-of (a .scope)) j (a .first) k (a .params)) b4
 
 pub put-prototype-spec : {M : Type 1} → statement M
 put-prototype-spec =

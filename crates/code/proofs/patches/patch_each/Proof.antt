@@ -3,6 +3,7 @@ use mathlib.Core.Path.{ap}
 use Prim.Native.Nat.{_≤_, _-_}
 use native.Mathlib.Omega.{arith}
 use denote.Ref.{now}
+use Rattle.store.specs.Store.{top-of}
 use Rattle.meaning.specs.Chunk.{each-at}
 use Rattle.code.specs.Words.{patch-by, patched}
 use Rattle.code.proofs.Scans.{Scanning, scan-starts, scan-step, scan-ends}
@@ -10,15 +11,15 @@ use Rattle.code.proofs.patches.patch_each.Statement.{statement}
 use Rattle.code.proofs.patches.patch_each.Tie as tie
 
 abbrev Inv-loop : tie.InvT-loop
-Inv-loop work₀ nodes first end looped goal size i₀ work i = (first ≤ i) × (i ≤ end) × Scanning work₀ work nodes first i (patch-by looped goal (end - first))
+Inv-loop work₀ scope first end looped goal size i₀ work i = (first ≤ i) × (i ≤ end) × Scanning work₀ work (top-of scope) first i (patch-by looped goal (end - first))
 
 abbrev μ-loop : tie.MeasureT-loop
-μ-loop work₀ nodes first end looped goal size i₀ work i = end - i
+μ-loop work₀ scope first end looped goal size i₀ work i = end - i
 
 loop-holds : tie.Need-loop-holds Inv-loop μ-loop
 loop-holds c =
     let a = (c .before) .args in
-    (omega arith, (c .before) .pre .2, scan-starts (now (a .work)) (a .nodes) (a .first) (patch-by (a .looped) (a .goal) (a .end - a .first)))
+    (omega arith, (c .before) .pre .2, scan-starts (now (a .work)) (top-of (a .scope)) (a .first) (patch-by (a .looped) (a .goal) (a .end - a .first)))
 
 word-at-requires : tie.Need-word-at-requires Inv-loop μ-loop
 word-at-requires c κs =

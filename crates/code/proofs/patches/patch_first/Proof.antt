@@ -5,16 +5,17 @@ use native.Mathlib.Omega.{arith}
 use lib.ListN.{length}
 use denote.Ref.{now}
 use Rattle.store.specs.Layout.{cell}
+use Rattle.store.specs.Store.{top-of}
 use Rattle.code.proofs.Scans.{None, none-more, first-none, first-found}
 use Rattle.code.proofs.Turning.{no-end, end-is, turns-first}
 use Rattle.code.proofs.patches.patch_first.Statement.{statement}
 use Rattle.code.proofs.patches.patch_first.Tie as tie
 
 abbrev Inv-loop : tie.InvT-loop
-Inv-loop work₀ nodes first end offset i₀ work i = (first ≤ i) × (i ≤ end) × (work ≡ work₀) × None work₀ nodes first offset i
+Inv-loop work₀ scope first end offset i₀ work i = (first ≤ i) × (i ≤ end) × (work ≡ work₀) × None work₀ (top-of scope) first offset i
 
 abbrev μ-loop : tie.MeasureT-loop
-μ-loop work₀ nodes first end offset i₀ work i = end - i
+μ-loop work₀ scope first end offset i₀ work i = end - i
 
 loop-holds : tie.Need-loop-holds Inv-loop μ-loop
 loop-holds c = (omega arith, (c .before) .pre .2, refl, λ k a b. absurd (omega arith))
@@ -44,7 +45,7 @@ returns c =
     let v = turn .inv in
     let x = rw (v .2) at (sym (c .before .before .before .before .before .before .word-at .ensures) ∙ (c .before .before .before .before .before .if1) .taken) in
     rw (c .before .before .set-word .ensures, v .2)
-    (first-found w (a .nodes) (a .first) (a .offset) (a .end) (turn .i) (v .0) ((c .before .before .before .before .before .before .before .before .loop-test) .taken) (start .pre .1) (start .pre .0) (v .3) (end-is _ x) (turns-first (a .offset) x ((c .before .before .before .pack-wide) .ensures)))
+    (first-found w (top-of (a .scope)) (a .first) (a .offset) (a .end) (turn .i) (v .0) ((c .before .before .before .before .before .before .before .before .loop-test) .taken) (start .pre .1) (start .pre .0) (v .3) (end-is _ x) (turns-first (a .offset) x ((c .before .before .before .pack-wide) .ensures)))
 
 loop-again : tie.Need-loop-again Inv-loop μ-loop
 loop-again c =
@@ -55,7 +56,7 @@ loop-again c =
     let w = now (a .work) in
     let v = turn .inv in
     let ne = rw (c .before .word-at .ensures, v .2) at ((c .if1) .left) in
-    (omega (arith, v .0), omega (arith, (c .before .before .before .loop-test) .taken), v .2, none-more w (a .nodes) (a .first) (a .offset) (turn .i) (v .3) (no-end _ (omega (arith, slice-known .given (cell (a .nodes) (turn .i)))) ne))
+    (omega (arith, v .0), omega (arith, (c .before .before .before .loop-test) .taken), v .2, none-more w (top-of (a .scope)) (a .first) (a .offset) (turn .i) (v .3) (no-end _ (omega (arith, slice-known .given (cell (top-of (a .scope)) (turn .i)))) ne))
 
 same-length-2 : tie.Need-same-length-2 Inv-loop μ-loop
 same-length-2 c = ap length ((c .before .loop) .inv .2)
@@ -66,7 +67,7 @@ returns-2 c =
     let a = start .args in
     let v = (c .before .loop) .inv in
     let e : (c .before .loop) .i ≡ a .end = omega (arith, v .1, (c .loop-test) .left) in
-    rw (v .2) (first-none (now (a .work)) (a .nodes) (a .first) (a .offset) (a .end) (start .pre .2) (rw e at (v .3)))
+    rw (v .2) (first-none (now (a .work)) (top-of (a .scope)) (a .first) (a .offset) (a .end) (start .pre .2) (rw e at (v .3)))
 
 pub patch-first-spec : {M : Type 1} → statement M
 patch-first-spec =

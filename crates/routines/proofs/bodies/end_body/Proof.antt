@@ -10,6 +10,7 @@ use Rattle.store.specs.Table.{tab}
 use Rattle.store.specs.Layout.{mark-cell, inst-at}
 use native.Mathlib.Omega.{arith}
 use Rattle.store.specs.Promise.{uses}
+use Rattle.store.specs.Store.{top-of}
 use Rattle.store.proofs.Runs.{leaf-absorbed}
 use Rattle.store.proofs.Tables.{tab-length, tab-getD}
 use Rattle.meaning.specs.declared.Cause.the-variants.{Returned, Empty}
@@ -21,9 +22,9 @@ use Rattle.routines.proofs.bodies.end_body.Statement.{statement}
 use Rattle.routines.proofs.bodies.end_body.Tie as tie
 
 -- the mark of the last instruction
-last-mark : (w : List ℕ) (n k : ℕ) → 1 ≤ k → getD w (mark-cell n (k - 1)) 0 ≡ getD (tab (inst-at w n) k) (length (tab (inst-at w n) k) - 1) (inst 0 0 0 0 0) .mark
-last-mark w n k h =
-    rw (tab-length (inst-at w n) k) (sym (ap (λ i. i .mark) (tab-getD (inst-at w n) k (k - 1) (inst 0 0 0 0 0) (omega arith))))
+last-mark : (w : List ℕ) (top k : ℕ) → 1 ≤ k → getD w (mark-cell top (k - 1)) 0 ≡ getD (tab (inst-at w top) k) (length (tab (inst-at w top) k) - 1) (inst 0 0 0 0 0) .mark
+last-mark w top k h =
+    rw (tab-length (inst-at w top) k) (sym (ap (λ i. i .mark) (tab-getD (inst-at w top) k (k - 1) (inst 0 0 0 0 0) (omega arith))))
 
 returns : tie.Need-returns
 returns c = leaf-absorbed (uses 2 0 0) _ ((c .before .before .before) .pre .0) ((c .enum-told2) .given .1)
@@ -42,7 +43,7 @@ returns-3 c =
     let start = c .before .before .before .before .before .before .before in
     let told = c .before .before .before .before .enum-told in
     let a = start .args in
-    let size = tab-length (inst-at (now (a .work)) (a .scope .nodes)) (a .step .pc) in
+    let size = tab-length (inst-at (now (a .work)) (top-of (a .scope))) (a .step .pc) in
     rw ((c .refuse2) .ensures)
     (refusing (uses 2 0 0) _ Empty (a .node) (start .pre .0) (told .given .1) (λ t. rw (eq-eqb (a .count) 1 ((c .before .before .before .if1) .taken), ne-eqb (a .step .result) 254 ((c .before .before .if2) .left), size, eq-eqb (a .step .pc) (a .first) ((c .before .if3) .taken))))
 
@@ -83,11 +84,11 @@ returns-4 c =
     let h = met on (start .pre .2) in
     let room = room-for 2 fine on (start .pre .1) in
     let some : 1 ≤ a .step .pc = omega (arith, h, if3 .left) in
-    let size = tab-length (inst-at w (a .scope .nodes)) (a .step .pc) in
+    let size = tab-length (inst-at w (top-of (a .scope))) (a .step .pc) in
     let one = spell (starts fine) ((c .before .before .before .before .before .pack) .ensures) ((c .before .before .before .write-cell) .ensures) (omega (arith, room)) in
     rw (c .advance .ensures)
     (coded 0 2 _ fine on one (omega arith) (omega arith) (omega arith)
-    (λ t. rw (c .before .before .before .before .before .before .mark-at .ensures, eq-eqb (a .count) 1 (if1 .taken), ne-eqb (a .step .result) 254 (if2 .left), ← (last-mark w (a .scope .nodes) (a .step .pc) some), size, ne-eqb (a .step .pc) (a .first) (if3 .left))))
+    (λ t. rw (c .before .before .before .before .before .before .mark-at .ensures, eq-eqb (a .count) 1 (if1 .taken), ne-eqb (a .step .result) 254 (if2 .left), ← (last-mark w (top-of (a .scope)) (a .step .pc) some), size, ne-eqb (a .step .pc) (a .first) (if3 .left))))
 
 returns-5 : tie.Need-returns-5
 unfolding end-body pick

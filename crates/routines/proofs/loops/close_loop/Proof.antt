@@ -11,6 +11,7 @@ use Rattle.meaning.specs.declared.Instruction.{Instruction}
 use Rattle.store.specs.Table.{tab}
 use Rattle.store.proofs.Tables.{tab-length}
 use Rattle.store.specs.Layout.{top}
+use Rattle.store.specs.Store.{top-of}
 use Rattle.code.specs.Words.{mended}
 use Rattle.routines.specs.Pieces.{closed-loop}
 use Rattle.code.proofs.Writing.{spelled, spell, spell-over, spell-anew, anew}
@@ -34,9 +35,9 @@ returns c =
     let write2 = c .before .before .before .before .before .before .write-cell2 in
     let a = start .args in
     let pre = start .pre in
-    let n : ℕ = a .nodes in
+    let top : ℕ = top-of (a .scope) in
     let k : ℕ = a .code in
-    let none = spelled (now (a .work)) n (top n - 2 * (k + 1)) k (omega arith) (pre .0) in
+    let none = spelled (now (a .work)) top (top - 2 * (k + 1)) k (omega arith) (pre .0) in
     let one = spell none (jump-back .ensures) (write .ensures) (omega (arith, pre .1)) in
     let two = spell-over one (pack-wide .ensures) (write2 .ensures) (omega (arith, pre .5)) in
     let three = spell-anew two ((c .before .before .patch-loop) .ensures) (omega (arith, pre .1)) in

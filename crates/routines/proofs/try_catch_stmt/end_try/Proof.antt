@@ -3,6 +3,7 @@ use denote.Ref.{now}
 use Rattle.store.specs.Layout.{inst-at}
 use native.Mathlib.Omega.{arith}
 use Rattle.store.specs.Promise.{uses}
+use Rattle.store.specs.Store.{top-of}
 use Rattle.store.proofs.Runs.{leaf-absorbed}
 use Rattle.store.proofs.Tables.{tab-length}
 use Rattle.forward.specs.Forward.{end-try}
@@ -55,7 +56,7 @@ returns-2 c =
     let h = met on (start .pre .1) in
     let one = spell-over (starts fine) (pack-wide .ensures) (write .ensures) (omega (arith, h .0, h .1)) in
     let two = spell-anew one ((c .before .before .before .patch-first) .ensures) (omega (arith, fine .room)) in
-    rw (c .settle .ensures) (coded 0 0 _ fine on two (omega arith) (omega arith) (omega arith) (λ t. rw (tab-length (inst-at (now (a .work)) (a .scope .nodes)) (a .step .pc))))
+    rw (c .settle .ensures) (coded 0 0 _ fine on two (omega arith) (omega arith) (omega arith) (λ t. rw (tab-length (inst-at (now (a .work)) (top-of (a .scope))) (a .step .pc))))
 
 pub end-try-spec : {M : Type 1} → statement M
 end-try-spec =

@@ -5,6 +5,7 @@ use native.Mathlib.Omega.{arith}
 use lib.ListN.{set, length-set}
 use denote.Ref.{now}
 use Rattle.store.specs.Layout.{mark-cell}
+use Rattle.store.specs.Store.{top-of}
 use borrow.Author.Needs.{needs}
 use Rattle.store.proofs.cell.write_cell.Statement.{statement}
 use Rattle.store.proofs.cell.write_cell.Tie as tie
@@ -16,7 +17,7 @@ returns : tie.Need-returns
 returns c =
     let start = c .before .before in
     let a = start .args in
-    let above : c .cell .result + 1 ≡ mark-cell (a .nodes) (a .i) = omega (arith, c .cell .ensures, start .pre .1) in
+    let above : c .cell .result + 1 ≡ mark-cell (top-of (a .scope)) (a .i) = omega (arith, c .cell .ensures, start .pre .1) in
     record { is = ap₂ (λ j k. set (set (now (a .work)) j (a .word)) k (a .mark)) (c .cell .ensures) above }
 
 pub write-cell-spec : {M : Type 1} → statement M
