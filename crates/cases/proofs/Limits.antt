@@ -6,7 +6,8 @@ use mathlib.Core.Path.{_≡_, refl}
 use mathlib.Core.List.{List, [], _∷_, map}
 use lib.ListN.{length}
 use Rattle.meaning.specs.Constant.{number}
-use Rattle.meaning.specs.Syntax.{Token, Stmts, no-stmt, and-stmt, expression, literal, variable, function, let-only, let-as, block, if, no-elif, return-none, define, fun}
+use Rattle.meaning.specs.declared.Token.{Token}
+use Rattle.meaning.specs.Syntax.{Stmts, no-stmt, and-stmt, expression, literal, variable, function, let-only, let-as, block, if, no-elif, return-none, define, fun}
 use Rattle.meaning.specs.State.{Res, refused, done}
 use Rattle.meaning.specs.Lower.{lower-program}
 use Rattle.meaning.specs.Answer.{cause-number}

@@ -100,7 +100,7 @@ fn try_catch(
     let body = statement(tree, work, out, opened, scope, x.body);
     let ended = routines::end_try_body(work, body, scope);
     let inside = store::enter_block(work, scope);
-    let caught = routines::open_catch(work, ended, inside, node, x.name, x.mark);
+    let caught = routines::open_catch(work, ended, inside, node, x.token);
     let last = statement(tree, work, out, caught, inside, x.catch);
     store::leave_block(work, scope);
     routines::end_try(work, last, scope, step.pc, body.pc)
@@ -205,7 +205,7 @@ fn let_stmt(
         return routines::let_only(tree, work, step, scope, node);
     }
     if store::is_global_context(scope) {
-        let name = routines::new_global(work, step, scope, node, x.name);
+        let name = routines::new_global(work, step, scope, node, x.token);
         let value = expression(tree, work, out, name, scope, x.value);
         return code::emit_wide(
             work,
@@ -214,11 +214,11 @@ fn let_stmt(
             SET_GLOBAL,
             value.result,
             name.result,
-            x.mark,
+            x.token.mark,
         );
     }
     let value = expression(tree, work, out, step, scope, x.value);
-    store::allocate_register(work, value, scope, x.name, value.result);
+    store::allocate_register(work, value, scope, x.token.name, value.result);
     value
 }
 
@@ -369,16 +369,15 @@ fn fn_stmt(
     let wide = scope.wide;
     let x = nodes::define_of(tree, work, node, wide);
     let payload = nodes::payload_of(tree, work, node);
-    let own = routines::declare(work, step, scope, node, x.name);
-    let entered = store::enter_function(work, own, scope, node, x.name);
+    let own = routines::declare(work, step, scope, node, x.token);
+    let entered = store::enter_function(work, own, scope, node, x.token.name);
     let opened = routines::open_fun(
         payload,
         work,
         entered.step,
         entered.scope,
         node,
-        x.name,
-        x.mark,
+        x.token,
         3 + wide,
         x.params,
     );
@@ -400,8 +399,7 @@ fn fn_stmt(
         scope,
         own.pc,
         node,
-        x.name,
-        x.mark,
+        x.token,
         x.params,
         own.result,
     )
@@ -421,9 +419,9 @@ fn class(
 {
     let wide = scope.wide;
     let x = nodes::class_of(tree, work, node, wide);
-    let own = routines::open_class(work, step, scope, node, x.name, x.mark);
+    let own = routines::open_class(work, step, scope, node, x.token);
     let above = routines::superclass(tree, work, own, scope, node);
-    let made = routines::make_class(work, above, scope, own.result, x.mark);
+    let made = routines::make_class(work, above, scope, own.result, x.token.mark);
     let inside = store::enter_block(work, scope);
     let statics = 4 + x.methods;
     let plain = methods(
@@ -436,7 +434,7 @@ fn class(
         4,
         statics,
         wide,
-        x.mark,
+        x.token.mark,
         CLASS_METH,
         own.result,
     );
@@ -450,12 +448,12 @@ fn class(
         statics,
         x.end,
         wide,
-        x.mark,
+        x.token.mark,
         CLASS_ST_METH,
         own.result,
     );
     store::leave_block(work, scope);
-    routines::end_class(work, last, scope, node, x.name, x.mark, own.result)
+    routines::end_class(work, last, scope, node, x.token, own.result)
 }
 
 // fn visit_class_stmt, `for method in &stmt.methods` and `&stmt.static_methods`
@@ -492,7 +490,7 @@ fn methods(
             op,
             class,
             class + 1,
-            x.name,
+            x.token.name,
         );
         store::visit(work);
         k += 1;

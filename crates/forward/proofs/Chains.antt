@@ -11,7 +11,8 @@ use mathlib.Core.Path.{_≡_, refl, ap, _∙_}
 use mathlib.Core.List.{List, [], _∷_}
 use mathlib.Core.Option.{none, some}
 use Rattle.meaning.specs.Constant.{Constant}
-use Rattle.meaning.specs.Syntax.{Token, Super, no-super, super, Stmts}
+use Rattle.meaning.specs.declared.Token.{Token}
+use Rattle.meaning.specs.Syntax.{Super, no-super, super, Stmts}
 use Rattle.meaning.specs.Opcode.{inst, Return}
 use Rattle.meaning.specs.State.{Chunk, M, pure}
 use Rattle.meaning.specs.Expressions.{visit-literal, named, visit-outside, visit-variable, visit-unary, visit-addi, visit-both, visit-binary, visit-logical, visit-call, visit-argument}

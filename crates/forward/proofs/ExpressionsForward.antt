@@ -7,7 +7,7 @@ use mathlib.Core.Option.{Option, none, some}
 use lib.ListN.{length}
 use lib.Seq.{take-at}
 use Rattle.meaning.specs.Constant.{Constant}
-use Rattle.meaning.specs.Syntax.{Token}
+use Rattle.meaning.specs.declared.Token.{Token}
 use Rattle.meaning.specs.State.{Chunk, M, pure, is-builtin-var}
 use Rattle.meaning.specs.Expressions.{visit-literal, named, visit-outside, visit-captured, visit-local, visit-variable, visit-unary, visit-addi, visit-both, visit-dropped, visit-binary, visit-logical, next-registers, visit-call, visit-argument}
 use Rattle.meaning.specs.declared.Instruction.{Instruction}

@@ -10,7 +10,8 @@ use lib.Seq.{getD-append-add}
 use lib.Dec.{eqb}
 use borrow.Author.Tests.{eq-eqb, ne-eqb}
 use Rattle.meaning.specs.Opcode.{inst, wide, Return, Closure}
-use Rattle.meaning.specs.Syntax.{Token, Stmts, no-stmt, and-stmt}
+use Rattle.meaning.specs.declared.Token.{Token}
+use Rattle.meaning.specs.Syntax.{Stmts, no-stmt, and-stmt}
 use Rattle.meaning.specs.State.{State, Chunk, M, Res, refused, done, and-then, _>>=_, pure, only-if, leave-block, in-block}
 use Rattle.meaning.specs.Chunk.{chunk}
 use Rattle.meaning.specs.Functions.{parameters, last-mark, return-of-code, close-body, visit-body, no-name, function-code, visit-function, fun-code, define-name, declare-name, visit-fun}

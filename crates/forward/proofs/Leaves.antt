@@ -5,7 +5,7 @@ use mathlib.Core.Path.{refl}
 use mathlib.Core.List.{List}
 use Rattle.meaning.specs.Opcode.{inst, wide, no-mark, Move, LoadK, Call, SetGlobal, GetCurrentFunc, DeregisterTryCatch, GetExcept}
 use Rattle.meaning.specs.Constant.{number, text}
-use Rattle.meaning.specs.Syntax.{Token}
+use Rattle.meaning.specs.declared.Token.{Token}
 use Rattle.meaning.specs.State.{next-register, allocate-register, add-constant, is-global-context}
 use Rattle.meaning.specs.Expressions.{next-registers}
 use Rattle.meaning.specs.Functions.{parameters, declare-name}

@@ -8,7 +8,8 @@ use lib.ListN.{length}
 use lib.Dec.{eqb}
 use Rattle.meaning.specs.Opcode.{inst, wide, no-mark, unary-opcode, binary-opcode, or, Move, LoadK, LoadNil, Jmp, GetUpval, Addi, GetIter, GetIterk, GetIteri, GetGlobal, GetBuiltin, ClassMeth, ClassStMeth, SetGlobal}
 use Rattle.meaning.specs.Constant.{Constant, text}
-use Rattle.meaning.specs.Syntax.{Token, Super}
+use Rattle.meaning.specs.declared.Token.{Token}
+use Rattle.meaning.specs.Syntax.{Super}
 use Rattle.meaning.specs.State.{Chunk, M, get, next-register, allocate-register, enter-block, leave-block, enter-loop, leave-loop, add-constant, is-global-context, is-global-var, is-builtin-var, add-global, get-var-register, get-upvalue, enter-function}
 use Rattle.meaning.specs.Expressions.{or-flag, named, visit-outside, visit-both, next-registers}
 use Rattle.meaning.specs.Functions.{parameters, visit-body, first-mark, no-name}

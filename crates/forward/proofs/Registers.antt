@@ -3,7 +3,7 @@ use Prim.Native.Nat.{ℕ, _+_}
 use mathlib.Core.Path.{_≡_, refl, sym, ap, _∙_}
 use mathlib.Core.Bool.{Bool, true, false}
 use lib.Dec.{eqb}
-use Rattle.meaning.specs.Syntax.{Token}
+use Rattle.meaning.specs.declared.Token.{Token}
 use Rattle.meaning.specs.State.{State, M, done, and-then, _>>=_, _>>_, pure, refuse, if-then, only-if, get, set-current, next-register, is-global, is-global-context, add-global}
 use Rattle.meaning.specs.Functions.{declare-name}
 use Rattle.forward.proofs.Steps.{Such, such}

@@ -8,7 +8,8 @@ use native.Mathlib.Omega.{arith}
 use lib.ListN.{length, length-append}
 use lib.Dec.{eqb}
 use Rattle.meaning.specs.Opcode.{inst, wide, no-mark, LoadK, LoadNil, Jmp, Test, Lt, Return, Class, ClassMeth, ClassStMeth, Addi, Length, RegisterTryCatch}
-use Rattle.meaning.specs.Syntax.{Token, Super, no-super, super}
+use Rattle.meaning.specs.declared.Token.{Token}
+use Rattle.meaning.specs.Syntax.{Super, no-super, super}
 use Rattle.meaning.specs.State.{Chunk, M, pure, enter-loop, leave-loop, in-block, in-loop}
 use Rattle.meaning.specs.Chunk.{continue-goal, body-place, chunk, joined, branch-code, patch-ends}
 use Rattle.meaning.specs.Expressions.{visit-variable}

@@ -10,7 +10,7 @@ use lib.ListN.{getD, length, set, take, drop}
 use lib.Dec.{eqb}
 use Rattle.meaning.specs.Opcode.{inst, wide, back, no-mark, Move, LoadK, Jmp, Test, Lt, Call, Return, Closure, Class, Addi, Length, SetGlobal, GetCurrentFunc, RegisterTryCatch, DeregisterTryCatch, GetExcept}
 use Rattle.meaning.specs.Constant.{number, text}
-use Rattle.meaning.specs.Syntax.{Token}
+use Rattle.meaning.specs.declared.Token.{Token}
 use Rattle.meaning.specs.State.{State, Chunk, M, Res, refused, done, next-register, allocate-register, add-constant, is-global-context, add-prototype, close-function}
 use Rattle.meaning.specs.Chunk.{joined, continue-goal, patch-loop, patch-ends, patch-first}
 use Rattle.meaning.specs.Expressions.{next-registers}

@@ -15,7 +15,8 @@ use Rattle.meaning.specs.Constant.{Constant, number, text, other}
 use Rattle.meaning.specs.Opcode.{plus, minus}
 use Rattle.meaning.specs.Fields.{fields}
 use Rattle.meaning.specs.Read.{read-program}
-use Rattle.meaning.specs.Syntax.{Token, Expr, literal, variable, unary, binary, logical, call, function, Exprs, no-expr, and-expr, Stmt, expression, let-only, let-as, block, while, classic-for, for-in, break, continue, return-none, return, if, try, define, class, Stmts, no-stmt, and-stmt, Elifs, no-elif, and-elif, Fun, fun, Funs, no-fun, and-fun, Super, no-super, super, small-operand, small-if}
+use Rattle.meaning.specs.declared.Token.{Token}
+use Rattle.meaning.specs.Syntax.{Expr, literal, variable, unary, binary, logical, call, function, Exprs, no-expr, and-expr, Stmt, expression, let-only, let-as, block, while, classic-for, for-in, break, continue, return-none, return, if, try, define, class, Stmts, no-stmt, and-stmt, Elifs, no-elif, and-elif, Fun, fun, Funs, no-fun, and-fun, Super, no-super, super, small-operand, small-if}
 use Rattle.meaning.specs.State.{State, Chunk, M, Res, refused, done, and-then, _>>=_, _>>_, pure, refuse, if-then, get, set-current, next-register, allocate-register, enter-block, leave-block, in-block, enter-loop, leave-loop, in-loop, add-constant, add-global, is-global-context, get-upvalue, searched, Search, not-found, full, found, search-outward, enter-function, add-prototype, close-function, in-function}
 use Rattle.meaning.specs.Expressions.{visit-literal, visit-unary, visit-addi, visit-both, visit-dropped, visit-binary, visit-logical, visit-call, visit-argument}
 use Rattle.meaning.specs.Functions.{visit-body, function-code, visit-function, fun-code, visit-fun}

@@ -18,7 +18,7 @@ use Rattle.meaning.specs.Fields.{Field, field-at}
 use Rattle.meaning.specs.Grammar.{mark as markkind}
 use Rattle.meaning.specs.Grammar.{Item, one, perhaps, many, counted, any, name, expr, stmt, mark, kind-of, due-after, ones, copies, spread-kinds, spread, items-in, grammar, marked, short-mark, due-words, short, wide-marks, items-of, lawful, tags-of, shape-at, words-of}
 use Rattle.meaning.specs.Read.{at, words-at, token, tokens}
-use Rattle.meaning.specs.Syntax.{Token}
+use Rattle.meaning.specs.declared.Token.{Token}
 use Rattle.meaning.specs.At.{tag-of, word-of, tokens-at, file-words, mark-at, extra, mark-words, Behind, pairs-in, Heads}
 use Rattle.meaning.proofs.Lists.{lt-or-le, and-left, and-right}
 use Rattle.meaning.proofs.Payload.{groups, Row, Due, file-due, file-least, least-at}

@@ -5,7 +5,8 @@ use mathlib.Core.List.{List, [], _∷_, map}
 use Prim.Native.Nat.{ℕ}
 use Rattle.meaning.specs.Constant.{number}
 use Rattle.meaning.specs.Opcode.{plus, minus}
-use Rattle.meaning.specs.Syntax.{Token, Expr, literal, variable, binary, no-expr, Stmt, expression, let-as, block, classic-for, if, define, class, Stmts, no-stmt, and-stmt, no-elif, and-elif, Fun, fun, no-fun, and-fun, no-super, super}
+use Rattle.meaning.specs.declared.Token.{Token}
+use Rattle.meaning.specs.Syntax.{Expr, literal, variable, binary, no-expr, Stmt, expression, let-as, block, classic-for, if, define, class, Stmts, no-stmt, and-stmt, no-elif, and-elif, Fun, fun, no-fun, and-fun, no-super, super}
 use Rattle.meaning.specs.Visits.{visits-expr, visits-stmt}
 use Rattle.meaning.proofs.Computing.{computing}
 

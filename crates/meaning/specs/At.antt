@@ -8,7 +8,8 @@ use lib.ListN.{length}
 use lib.Seq.{slice}
 use Rattle.meaning.specs.Fields.{Field, field-at, words}
 use Rattle.meaning.specs.Grammar.{wide-marks, short-mark}
-use Rattle.meaning.specs.Syntax.{Token, Expr, Exprs, Stmt, Stmts, Elifs, Fun, Funs, Super}
+use Rattle.meaning.specs.declared.Token.{Token}
+use Rattle.meaning.specs.Syntax.{Expr, Exprs, Stmt, Stmts, Elifs, Fun, Funs, Super}
 use Rattle.meaning.specs.Read.{Readers, readers, at, words-at, token, tokens, exprs, stmts, funs, elifs, initializer, superclass}
 
 -- ---- a node's tag, its words, and how many they are

@@ -7,7 +7,7 @@ use lib.ListN.{length}
 use lib.Dec.{eqb}
 use Rattle.meaning.specs.Opcode.{inst, wide, no-mark, unary-opcode, binary-opcode, or, Move, LoadK, Jmp, Test, Call, GetUpval, Closure, Addi, GetGlobal, GetBuiltin}
 use Rattle.meaning.specs.Constant.{Constant, text}
-use Rattle.meaning.specs.Syntax.{Token}
+use Rattle.meaning.specs.declared.Token.{Token}
 use Rattle.meaning.specs.State.{Chunk, M, _>>=_, _>>_, pure, refuse, if-then, next-register, add-constant, is-global-var, is-builtin-var, get-var-register, get-upvalue}
 use Rattle.meaning.specs.Chunk.{chunk}
 use Rattle.meaning.specs.declared.Cause.the-variants.{Undefined}

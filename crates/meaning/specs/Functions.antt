@@ -5,7 +5,7 @@ use lib.ListN.{length}
 use lib.Dec.{eqb}
 use Rattle.meaning.specs.Opcode.{inst, wide, no-mark, Return, Closure, SetGlobal, GetCurrentFunc}
 use Rattle.meaning.specs.Constant.{text}
-use Rattle.meaning.specs.Syntax.{Token}
+use Rattle.meaning.specs.declared.Token.{Token}
 use Rattle.meaning.specs.State.{Chunk, M, _>>=_, _>>_, pure, refuse, if-then, only-if, next-register, allocate-register, in-block, add-constant, is-global-context, add-global, in-function}
 use Rattle.meaning.specs.Chunk.{chunk, joined}
 use Rattle.meaning.specs.declared.Cause.the-variants.{Empty, Returned}

@@ -5,7 +5,8 @@ use lib.Dec.{eqb}
 use lib.ListN.{length}
 use Rattle.meaning.specs.Opcode.{inst, wide, no-mark, LoadK, LoadNil, Jmp, Lt, Return, Class, ClassMeth, ClassStMeth, Addi, GetIter, GetIterk, GetIteri, Length, SetGlobal, DeregisterTryCatch, GetExcept}
 use Rattle.meaning.specs.Constant.{number, text}
-use Rattle.meaning.specs.Syntax.{Token, Super, no-super, super}
+use Rattle.meaning.specs.declared.Token.{Token}
+use Rattle.meaning.specs.Syntax.{Super, no-super, super}
 use Rattle.meaning.specs.State.{Chunk, M, _>>=_, _>>_, pure, refuse, if-then, get, next-register, allocate-register, in-block, in-loop, add-constant, is-global-context, is-global-var, add-global}
 use Rattle.meaning.specs.Chunk.{chunk, joined, continue-goal, body-place, loop-code, branch-code, patch-ends, try-code}
 use Rattle.meaning.specs.Expressions.{visit-variable}

@@ -5,11 +5,7 @@ use mathlib.Core.Bool.{Bool, true, false}
 use mathlib.Core.List.{List}
 use mathlib.Core.Option.{Option, none, some}
 use Rattle.meaning.specs.Constant.{Constant, number, text, other, small}
-
--- struct TokenData: a name and its mark
-pub record Token : Type 0 where
-  pub name : ℕ
-  pub mark : ℕ
+use Rattle.meaning.specs.declared.Token.{Token}
 
 mutual
   -- enum Expr

@@ -11,6 +11,12 @@ pub enum Literal {
     Other(u16),
 }
 
+// struct TokenData: a name and its mark.
+pub struct Token {
+    pub name: usize,
+    pub mark: u32,
+}
+
 // The causes of refusal, in the order of their numbers: 1 to 23, 25 to 27, 29.
 pub enum Cause {
     Frame,

@@ -1,6 +1,6 @@
 -- What stands in the payload q of a node of each kind, as its reader goes by: `Held` of the first words, by where the mark stands, `Rest` of those behind it.
 -- Each is a law of meaning/proofs/Places at the kind's items; there is no induction here.
-use mathlib.Core.Path.{_≡_, refl, sym, ap, _∙_}
+use mathlib.Core.Path.{_≡_, refl, sym, ap, ap₂, _∙_}
 use mathlib.Core.Bool.{Bool, true, false, not, cond}
 use mathlib.Core.List.{List, _∷_}
 use mathlib.Core.Logic.{⊎-elim}
@@ -10,9 +10,10 @@ use native.Mathlib.Decide.{ℕ-discrete}
 use lib.ListN.{length}
 use lib.Dec.{eqb}
 use borrow.Author.Tests.{lt-ltb, le-ltb}
+use Rattle.meaning.specs.declared.Token.{Token}
 use Rattle.meaning.specs.Fields.{Field, field-at, fields, words}
 use Rattle.meaning.specs.Grammar.{Item, one, mark, grammar, items-of, wide-marks, shape-at}
-use Rattle.meaning.specs.Read.{at, words-at}
+use Rattle.meaning.specs.Read.{at, words-at, token}
 use Rattle.meaning.specs.At.{tag-of, word-of, count-of, file-words, mark-at, extra, tokens-at, pairs-in, pair-place, Behind, Heads}
 use Rattle.meaning.proofs.Reading.{variable-node, unary-node, binary-node, logical-node, call-node, function-node, expression-node, let-node, while-node, for-node, for-in-node, break-node, continue-node, return-node, if-node, elif-node, try-node, define-node, class-node}
 use Rattle.meaning.proofs.Places.{none-of, unmarked, heads-none, heads-0, heads-1, heads-2, function-places, define-places, for-in-places}
@@ -50,6 +51,10 @@ held fs i m c s n e p = rw (p, e)
 
 rest : (fs : List Field) (i k d : ℕ) → Behind fs i k d → {wide : ℕ} {q : List ℕ} → wide ≡ d → q ≡ field-at fs i .payload → Rest fs i q wide k
 rest fs i k d b e p = rw (p, e) (record { size = b .size; same = λ j l. sym (b .same j l) })
+
+-- a name with its mark behind it
+pub token-held : {fs : List Field} {i : ℕ} {q : List ℕ} {wide c : ℕ} (k : ℕ) → k ≤ 2 → Held fs i q wide (k + 1) c → {x : Token} → x ≡ token (at (words q) k) (mark-at (not (eqb wide 0)) (words q) (k + 1)) → x ≡ token (word-of fs i k) (word-of fs i (k + 1))
+token-held k l h e = e ∙ ap₂ token (h .before k (omega arith) (omega arith)) (h .mark (omega arith))
 
 -- a word that may be absent, behind the mark
 pub perhaps-held : {fs : List Field} {i : ℕ} {q : List ℕ} {wide k : ℕ} → Rest fs i q wide k → (j : ℕ) → k ≤ j → word-or-absent (words q) (j + wide) ≡ word-or-absent (words-at fs i) j

@@ -7,10 +7,10 @@ use lib.ListN.{length}
 use lib.Dec.{ltb}
 use Rattle.meaning.specs.Fields.{Field, fields}
 use Rattle.meaning.specs.Grammar.{shape-at, wide-marks}
-use Rattle.meaning.specs.Read.{at, words-at}
+use Rattle.meaning.specs.declared.Token.{Token}
+use Rattle.meaning.specs.Read.{at, words-at, token}
 use Rattle.meaning.specs.At.{extra, word-of, count-of, tokens-at}
 use Rattle.meaning.specs.Functions.{first-mark}
-use Rattle.nodes.specs.declared.expressions.Variable.{Variable}
 use Rattle.nodes.specs.declared.expressions.Unary.{Unary}
 use Rattle.nodes.specs.declared.expressions.Binary.{Binary}
 use Rattle.nodes.specs.declared.expressions.Logical.{Logical}
@@ -42,8 +42,8 @@ Width tree wide = wide ≡ extra (wide-marks (fields tree))
 -- ---- expressions
 
 -- 04 variable: n m
-abbrev pub variable-of : List Field → (node : ℕ) → Variable
-variable-of fs i = record { name = word-of fs i 0; mark = word-of fs i 1 }
+abbrev pub variable-of : List Field → (node : ℕ) → Token
+variable-of fs i = token (word-of fs i 0) (word-of fs i 1)
 
 -- 05 unary: op m x
 abbrev pub unary-of : List Field → (node : ℕ) → Unary
@@ -77,7 +77,7 @@ expr-stmt-of fs i = word-of fs i 0
 
 -- 11 let: n m and perhaps x
 abbrev pub let-of : List Field → (node : ℕ) → Let
-let-of fs i = record { name = word-of fs i 0; mark = word-of fs i 1; value = word-or-absent (words-at fs i) 2 }
+let-of fs i = record { token = token (word-of fs i 0) (word-of fs i 1); value = word-or-absent (words-at fs i) 2 }
 
 -- 13 while: m condition body
 abbrev pub while-of : List Field → (node : ℕ) → While
@@ -116,12 +116,12 @@ elif-of fs i = record { condition = word-of fs i 0; end = count-of fs i }
 
 -- 1B try: body n m catch body
 abbrev pub try-of : List Field → (node : ℕ) → Try
-try-of fs i = record { body = word-of fs i 0; name = word-of fs i 1; mark = word-of fs i 2; catch = word-of fs i 3 }
+try-of fs i = record { body = word-of fs i 0; token = token (word-of fs i 1) (word-of fs i 2); catch = word-of fs i 3 }
 
 -- 1C function statement: n m k, k pairs n m, body..; how many parameters, and where the body ends
 abbrev pub define-of : List Field → (node : ℕ) → Define
-define-of fs i = record { name = word-of fs i 0; mark = word-of fs i 1; params = word-of fs i 2; end = count-of fs i }
+define-of fs i = record { token = token (word-of fs i 0) (word-of fs i 1); params = word-of fs i 2; end = count-of fs i }
 
 -- 1D class: n m superclass s, s methods, static methods..; how many methods, and where the static ones end
 abbrev pub class-of : List Field → (node : ℕ) → Class
-class-of fs i = record { name = word-of fs i 0; mark = word-of fs i 1; superclass = word-of fs i 2; methods = word-of fs i 3; end = count-of fs i }
+class-of fs i = record { token = token (word-of fs i 0) (word-of fs i 1); superclass = word-of fs i 2; methods = word-of fs i 3; end = count-of fs i }

@@ -13,24 +13,17 @@ use crate::words::child;
 use crate::words::count;
 use crate::words::mark;
 use crate::words::more_words;
+use crate::words::token;
 use meaning::NO_MARK;
+use meaning::Token;
 
 // 04 variable: n m
-pub struct Variable {
-    pub name: usize,
-    pub mark: u32,
-}
-
-// A variable.
-pub fn variable_of(tree: &[u8], work: &[u32], node: usize, wide: usize) -> Variable
+pub fn variable_of(tree: &[u8], work: &[u32], node: usize, wide: usize) -> Token
     requires { ⌜ Node (now tree) (now work) node × Width (now tree) wide × (tag-of (fields (now tree)) node ≡ 0x04) ⌝ }
     ensures { λ r. ⌜ r ≡ variable-of (fields (now (tree .entry))) node ⌝ }
 {
     let payload = payload_of(tree, work, node);
-    Variable {
-        name: child(payload, 0),
-        mark: mark(payload, 1, wide),
-    }
+    token(payload, 0, wide)
 }
 
 // 05 unary: op m x

@@ -9,7 +9,6 @@ pub use expressions::Call;
 pub use expressions::Function;
 pub use expressions::Logical;
 pub use expressions::Unary;
-pub use expressions::Variable;
 pub use expressions::binary_of;
 pub use expressions::call_of;
 pub use expressions::function_of;

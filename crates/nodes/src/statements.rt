@@ -14,6 +14,8 @@ use crate::words::count;
 use crate::words::mark;
 use crate::words::more_words;
 use crate::words::perhaps;
+use crate::words::token;
+use meaning::Token;
 
 // 10 expression: x; its value.
 pub fn expr_stmt_of(tree: &[u8], work: &[u32], node: usize) -> usize
@@ -26,20 +28,18 @@ pub fn expr_stmt_of(tree: &[u8], work: &[u32], node: usize) -> usize
 
 // 11 let: n m and perhaps x, else absent
 pub struct Let {
-    pub name: usize,
-    pub mark: u32,
+    pub token: Token,
     pub value: usize,
 }
 
 // A let.
 pub fn let_of(tree: &[u8], work: &[u32], node: usize, wide: usize) -> Let
     requires { ⌜ Node (now tree) (now work) node × Width (now tree) wide × (tag-of (fields (now tree)) node ≡ 0x11) ⌝ }
-    ensures { λ r. ⌜ (r ≡ let-of (fields (now (tree .entry))) node) × (r .name < 65536) ⌝ }
+    ensures { λ r. ⌜ (r ≡ let-of (fields (now (tree .entry))) node) × (r .token .name < 65536) ⌝ }
 {
     let payload = payload_of(tree, work, node);
     Let {
-        name: child(payload, 0),
-        mark: mark(payload, 1, wide),
+        token: token(payload, 0, wide),
         value: perhaps(payload, 2 + wide),
     }
 }
@@ -202,8 +202,7 @@ pub fn elif_of(tree: &[u8], work: &[u32], node: usize) -> Elif
 // 1B try: body n m catch body
 pub struct Try {
     pub body: usize,
-    pub name: usize,
-    pub mark: u32,
+    pub token: Token,
     pub catch: usize,
 }
 
@@ -215,16 +214,14 @@ pub fn try_of(tree: &[u8], work: &[u32], node: usize, wide: usize) -> Try
     let payload = payload_of(tree, work, node);
     Try {
         body: child(payload, 0),
-        name: child(payload, 1),
-        mark: mark(payload, 2, wide),
+        token: token(payload, 1, wide),
         catch: child(payload, 3 + wide),
     }
 }
 
 // 1C function statement: n m k, k pairs n m, body..; how many parameters, and where the body ends
 pub struct Define {
-    pub name: usize,
-    pub mark: u32,
+    pub token: Token,
     pub params: usize,
     pub end: usize,
 }
@@ -237,8 +234,7 @@ pub fn define_of(tree: &[u8], work: &[u32], node: usize, wide: usize) -> Define
     let payload = payload_of(tree, work, node);
     let params = child(payload, 2 + wide);
     Define {
-        name: child(payload, 0),
-        mark: mark(payload, 1, wide),
+        token: token(payload, 0, wide),
         params: params,
         end: count(payload) - (wide + more_words(params, wide)),
     }
@@ -246,8 +242,7 @@ pub fn define_of(tree: &[u8], work: &[u32], node: usize, wide: usize) -> Define
 
 // 1D class: n m superclass s, s methods, static methods..; how many methods, and where the static ones end
 pub struct Class {
-    pub name: usize,
-    pub mark: u32,
+    pub token: Token,
     pub superclass: usize,
     pub methods: usize,
     pub end: usize,
@@ -260,8 +255,7 @@ pub fn class_of(tree: &[u8], work: &[u32], node: usize, wide: usize) -> Class
 {
     let payload = payload_of(tree, work, node);
     Class {
-        name: child(payload, 0),
-        mark: mark(payload, 1, wide),
+        token: token(payload, 0, wide),
         superclass: child(payload, 2 + wide),
         methods: child(payload, 3 + wide),
         end: count(payload) - wide,

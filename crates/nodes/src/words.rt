@@ -5,11 +5,12 @@ ghost use Prim.Native.Nat.{_+_, _*_, _<_, _≤_};
 ghost use lib.ListN.{length};
 ghost use lib.Dec.{eqb};
 ghost use Rattle.meaning.specs.Fields.{words};
-ghost use Rattle.meaning.specs.Read.{at};
+ghost use Rattle.meaning.specs.Read.{at, token};
 ghost use Rattle.meaning.specs.At.{mark-at, pair-place};
 ghost use Rattle.nodes.specs.Nodes.{word-or-absent};
 use crate::ABSENT;
 use meaning::NO_MARK;
+use meaning::Token;
 
 // How many words a payload has.
 pub(crate) fn count(payload: &[u8]) -> usize
@@ -49,6 +50,17 @@ pub(crate) fn mark(payload: &[u8], k: usize, wide: usize) -> u32
         return first;
     }
     first * 65536 + child(payload, k + 1) as u32
+}
+
+// The name at word k, and its mark behind it.
+pub(crate) fn token(payload: &[u8], k: usize, wide: usize) -> Token
+    requires { ⌜ k + 1 + wide < length (words (now payload)) ⌝ }
+    ensures { λ r. ⌜ (r ≡ token (at (words (now (payload .entry))) k) (mark-at (not (eqb wide 0)) (words (now (payload .entry))) (k + 1))) × (r .name < 65536) ⌝ }
+{
+    Token {
+        name: child(payload, k),
+        mark: mark(payload, k + 1, wide),
+    }
 }
 
 // The words of the file that n marks take more than n words.

@@ -3,7 +3,7 @@ use Prim.Native.Nat.{ℕ, suc}
 use mathlib.Core.Path.{_≡_, refl, _∙_}
 use mathlib.Core.List.{List, _∷_}
 use Rattle.meaning.specs.Opcode.{inst, no-mark, GetIteri, GetCurrentFunc, DeregisterTryCatch, GetExcept}
-use Rattle.meaning.specs.Syntax.{Token}
+use Rattle.meaning.specs.declared.Token.{Token}
 use Rattle.meaning.specs.State.{next-register, allocate-register}
 use Rattle.meaning.specs.Functions.{parameters}
 use Rattle.meaning.specs.Statements.{iterate-each}

@@ -8,7 +8,7 @@ use native.Mathlib.Numerals.{add-one}
 use Rattle.meaning.specs.Fields.{words}
 use Rattle.meaning.specs.Read.{at, token}
 use Rattle.meaning.specs.At.{pair-place}
-use Rattle.meaning.specs.Syntax.{Token}
+use Rattle.meaning.specs.declared.Token.{Token}
 use Rattle.meaning.specs.Functions.{parameters}
 use Rattle.meaning.specs.Opcode.{inst, GetIteri}
 use Rattle.meaning.specs.State.{Proto}

@@ -7,7 +7,7 @@ use native.Mathlib.Omega.{arith}
 use lib.Dec.{eqb}
 use Rattle.meaning.specs.Opcode.{wide, Closure}
 use Rattle.meaning.specs.State.{_>>=_, and-then, pure, if-then, only-if, get, next-register, is-global, is-global-context, add-global}
-use Rattle.meaning.specs.Syntax.{Token}
+use Rattle.meaning.specs.declared.Token.{Token}
 use Rattle.meaning.specs.Expressions.{next-registers}
 use Rattle.meaning.specs.Functions.{declare-name}
 use Rattle.meaning.specs.declared.Cause.{Cause}

@@ -8,7 +8,7 @@ use lib.ListN.{length}
 use Rattle.meaning.specs.Fields.{words}
 use Rattle.meaning.specs.Read.{at, token}
 use Rattle.meaning.specs.At.{mark-at, mark-words, pair-place, pairs-in}
-use Rattle.meaning.specs.Syntax.{Token}
+use Rattle.meaning.specs.declared.Token.{Token}
 use Rattle.store.specs.declared.Scope.{Scope}
 use Rattle.store.specs.Store.{is-wide}
 use Rattle.routines.specs.Pieces.{tokens-from, HasPairs}

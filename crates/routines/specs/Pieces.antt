@@ -4,7 +4,7 @@ use mathlib.Core.List.{List, [], _∷_, _++_}
 use lib.ListN.{length, set}
 use Rattle.meaning.specs.Fields.{words}
 use Rattle.meaning.specs.At.{pair-place, pairs-in}
-use Rattle.meaning.specs.Syntax.{Token}
+use Rattle.meaning.specs.declared.Token.{Token}
 use Rattle.meaning.specs.Opcode.{wide, back, Jmp}
 use Rattle.meaning.specs.Chunk.{patch-loop}
 use Rattle.meaning.specs.declared.Instruction.{Instruction}

@@ -1,7 +1,6 @@
 // visit_class_stmt; `class` and `methods` of `cycle` lower its methods.
 ghost use mathlib.Core.Path.{_≡_};
 ghost use Prim.Native.Nat.{_+_, _<_};
-ghost use Rattle.meaning.specs.Read.{token};
 ghost use Rattle.meaning.specs.Fields.{fields};
 ghost use Rattle.meaning.specs.At.{tag-of};
 ghost use Rattle.meaning.specs.Weight.{size-super};
@@ -17,6 +16,7 @@ use crate::names::name_result;
 use crate::variable_expr::variable;
 use instruction::OpCode;
 use meaning::Outcome;
+use meaning::Token;
 use nodes::ABSENT;
 use store::Scope;
 use store::Step;
@@ -24,20 +24,13 @@ use store::Step;
 const CLASS: u32 = OpCode::Class as u32;
 
 // visit_class_stmt before the superclass: the class's register, and that of names, with the class's own.
-pub fn open_class(
-    work: &mut [u32],
-    step: Step,
-    scope: Scope,
-    node: usize,
-    name: usize,
-    mark: u32,
-) -> Step
-    requires { ⌜ Fine (now work) scope step × Room (now work) scope step 0 0 0 × (name < 65536) ⌝ }
-    ensures { λ r. ⌜ Leaf (now (work .entry)) scope step (now (work .exit)) scope r (both (some-registers 2) (uses 2 0 0)) (open-class node (token name mark)) × while-going (outcome-of r) (result-of r + 1 < 255) ⌝ }
+pub fn open_class(work: &mut [u32], step: Step, scope: Scope, node: usize, token: Token) -> Step
+    requires { ⌜ Fine (now work) scope step × Room (now work) scope step 0 0 0 × (token .name < 65536) ⌝ }
+    ensures { λ r. ⌜ Leaf (now (work .entry)) scope step (now (work .exit)) scope r (both (some-registers 2) (uses 2 0 0)) (open-class node token) × while-going (outcome-of r) (result-of r + 1 < 255) ⌝ }
 {
-    let class = declare(work, step, scope, node, name);
+    let class = declare(work, step, scope, node, token);
     let tmp = store::next_register(work, class, scope, node);
-    let k = store::add_name(work, tmp, scope, name, node);
+    let k = store::add_name(work, tmp, scope, token.name, node);
     code::put_wide(
         work,
         k,
@@ -45,7 +38,7 @@ pub fn open_class(
         LOAD_K,
         tmp.result,
         k.result,
-        mark,
+        token.mark,
         class.result,
     )
 }
@@ -69,7 +62,7 @@ pub fn superclass(tree: &[u8], work: &mut [u32], step: Step, scope: Scope, node:
         register.result,
         0,
         0,
-        x.mark,
+        x.token.mark,
     )
 }
 
@@ -114,17 +107,16 @@ pub fn end_class(
     step: Step,
     scope: Scope,
     node: usize,
-    name: usize,
-    mark: u32,
+    token: Token,
     class: u32,
 ) -> Step
-    requires { ⌜ Fine (now work) scope step × Room (now work) scope step 0 2 1 × (name < 65536) × while-going (outcome-of step) (class < 255) ⌝ }
-    ensures { λ r. ⌜ Leaf (now (work .entry)) scope step (now (work .exit)) scope r (uses 2 1 0) (end-class node (token name mark) class) × Small r ⌝ }
+    requires { ⌜ Fine (now work) scope step × Room (now work) scope step 0 2 1 × (token .name < 65536) × while-going (outcome-of step) (class < 255) ⌝ }
+    ensures { λ r. ⌜ Leaf (now (work .entry)) scope step (now (work .exit)) scope r (uses 2 1 0) (end-class node token class) × Small r ⌝ }
 {
     let o = step.outcome;
     let Outcome::Accepted(_) = o else {
         return step;
     };
     let made = store::settle(step, class);
-    name_result(work, made, scope, node, name, mark)
+    name_result(work, made, scope, node, token)
 }

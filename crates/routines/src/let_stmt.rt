@@ -1,7 +1,6 @@
 // visit_let_stmt; `let_stmt` of `cycle` lowers its initializer.
 ghost use mathlib.Core.Path.{_≡_};
-ghost use Prim.Native.Nat.{ℕ, _<_};
-ghost use Rattle.meaning.specs.Read.{token};
+ghost use Prim.Native.Nat.{_<_};
 ghost use Rattle.meaning.specs.Statements.{new-global};
 ghost use Rattle.meaning.specs.Fields.{fields};
 ghost use Rattle.meaning.specs.At.{tag-of, count-of};
@@ -12,19 +11,20 @@ ghost use Rattle.routines.specs.Node.{OnNode, GivesStmt};
 use crate::LOAD_NIL;
 use crate::SET_GLOBAL;
 use meaning::Cause;
+use meaning::Token;
 use store::Scope;
 use store::Step;
 
 // visit_let_stmt, the name of a global: 10 Redefined.
-pub fn new_global(work: &mut [u32], step: Step, scope: Scope, node: usize, name: usize) -> Step
-    requires { ⌜ Fine (now work) scope step × Room (now work) scope step 0 0 0 × (block-of scope ≡ 1) × (name < 65536) ⌝ }
-    ensures { λ r. ⌜ ((mark : ℕ) → Leaf (now (work .entry)) scope step (now (work .exit)) scope r nothing (fwd-number (new-global node (token name mark)))) ⌝ }
+pub fn new_global(work: &mut [u32], step: Step, scope: Scope, node: usize, token: Token) -> Step
+    requires { ⌜ Fine (now work) scope step × Room (now work) scope step 0 0 0 × (block-of scope ≡ 1) × (token .name < 65536) ⌝ }
+    ensures { λ r. ⌜ Leaf (now (work .entry)) scope step (now (work .exit)) scope r nothing (fwd-number (new-global node token)) ⌝ }
 {
-    if store::is_global_var(work, step, scope, name) {
+    if store::is_global_var(work, step, scope, token.name) {
         return store::refuse(step, Cause::Redefined, node);
     }
-    let noted = store::add_global(work, step, scope, name);
-    store::add_name(work, noted, scope, name, node)
+    let noted = store::add_global(work, step, scope, token.name);
+    store::add_name(work, noted, scope, token.name, node)
 }
 
 // fn visit_let_stmt without an initializer: a global, or a local.
@@ -34,7 +34,7 @@ pub fn let_only(tree: &[u8], work: &mut [u32], step: Step, scope: Scope, node: u
 {
     let x = nodes::let_of(tree, work, node, scope.wide);
     if store::is_global_context(scope) {
-        let constant = new_global(work, step, scope, node, x.name);
+        let constant = new_global(work, step, scope, node, x.token);
         let register = store::next_register(work, constant, scope, node);
         let nil = code::emit(
             work,
@@ -44,7 +44,7 @@ pub fn let_only(tree: &[u8], work: &mut [u32], step: Step, scope: Scope, node: u
             register.result,
             0,
             0,
-            x.mark,
+            x.token.mark,
         );
         return code::put_wide(
             work,
@@ -53,11 +53,11 @@ pub fn let_only(tree: &[u8], work: &mut [u32], step: Step, scope: Scope, node: u
             SET_GLOBAL,
             register.result,
             constant.result,
-            x.mark,
+            x.token.mark,
             0,
         );
     }
     let register = store::next_register(work, step, scope, node);
-    store::allocate_register(work, register, scope, x.name, register.result);
+    store::allocate_register(work, register, scope, x.token.name, register.result);
     register
 }

@@ -1,22 +1,22 @@
 // The name of a function or a class, which visit_fn_stmt and visit_class_stmt give.
-ghost use Prim.Native.Nat.{ℕ, _+_, _-_, _<_};
-ghost use Rattle.meaning.specs.Read.{token};
+ghost use Prim.Native.Nat.{_+_, _-_, _<_};
 ghost use Rattle.forward.specs.Forward.{declare, name-result};
 ghost use Rattle.store.specs.Store.{depth-of, block-of, Fine};
 ghost use Rattle.store.specs.Promise.{uses, a-register, both, Room, Leaf};
 ghost use Rattle.routines.specs.Pieces.{Small, a-name, a-name-back, Owing};
 use crate::SET_GLOBAL;
+use meaning::Token;
 use store::Scope;
 use store::Step;
 
 // The register of a function or a class, whose name is known from here on where it is a global's.
-pub fn declare(work: &mut [u32], step: Step, scope: Scope, node: usize, name: usize) -> Step
-    requires { ⌜ Fine (now work) scope step × Room (now work) scope step 0 0 0 × (name < 65536) ⌝ }
-    ensures { λ r. ⌜ ((mark : ℕ) → Leaf (now (work .entry)) scope step (now (work .exit)) scope r (both a-register (a-name scope)) (declare node (token name mark))) × Small r ⌝ }
+pub fn declare(work: &mut [u32], step: Step, scope: Scope, node: usize, token: Token) -> Step
+    requires { ⌜ Fine (now work) scope step × Room (now work) scope step 0 0 0 × (token .name < 65536) ⌝ }
+    ensures { λ r. ⌜ Leaf (now (work .entry)) scope step (now (work .exit)) scope r (both a-register (a-name scope)) (declare node token) × Small r ⌝ }
 {
     let register = store::next_register(work, step, scope, node);
     if store::is_global_context(scope) {
-        store::add_global(work, register, scope, name)
+        store::add_global(work, register, scope, token.name)
     } else {
         register
     }
@@ -28,14 +28,13 @@ pub(crate) fn name_result(
     step: Step,
     scope: Scope,
     node: usize,
-    name: usize,
-    mark: u32,
+    token: Token,
 ) -> Step
-    requires { ⌜ Fine (now work) scope step × Owing (now work) scope step 2 1 (2 - (depth-of scope + block-of scope)) × Small step × (name < 65536) ⌝ }
-    ensures { λ r. ⌜ Leaf (now (work .entry)) scope step (now (work .exit)) scope r (both (uses 2 1 0) (a-name-back scope)) (name-result node (token name mark)) × Small r ⌝ }
+    requires { ⌜ Fine (now work) scope step × Owing (now work) scope step 2 1 (2 - (depth-of scope + block-of scope)) × Small step × (token .name < 65536) ⌝ }
+    ensures { λ r. ⌜ Leaf (now (work .entry)) scope step (now (work .exit)) scope r (both (uses 2 1 0) (a-name-back scope)) (name-result node token) × Small r ⌝ }
 {
     if store::is_global_context(scope) {
-        let k = store::add_name(work, step, scope, name, node);
+        let k = store::add_name(work, step, scope, token.name, node);
         code::put_wide(
             work,
             k,
@@ -43,11 +42,11 @@ pub(crate) fn name_result(
             SET_GLOBAL,
             step.result,
             k.result,
-            mark,
+            token.mark,
             step.result,
         )
     } else {
-        store::allocate_register(work, step, scope, name, step.result);
+        store::allocate_register(work, step, scope, token.name, step.result);
         step
     }
 }

@@ -1,6 +1,5 @@
 // visit_try_catch_stmt; `try_catch` of `cycle` lowers its children.
 ghost use Prim.Native.Nat.{_<_, _≤_};
-ghost use Rattle.meaning.specs.Read.{token};
 ghost use Rattle.forward.specs.Forward.{sure, open-try-body, end-try-body, end-try, open-catch};
 ghost use Rattle.store.specs.Store.{outcome-of, pc-of, Fine, while-going};
 ghost use Rattle.store.specs.Promise.{uses, Room, Leaf, a-register, both};
@@ -8,6 +7,7 @@ use crate::JMP;
 use instruction::OpCode;
 use meaning::NO_MARK;
 use meaning::Outcome;
+use meaning::Token;
 use store::Scope;
 use store::Step;
 
@@ -41,19 +41,21 @@ pub fn end_try_body(work: &mut [u32], step: Step, scope: Scope) -> Step
 }
 
 // visit_try_catch_stmt before the catch part's body.
-pub fn open_catch(
-    work: &mut [u32],
-    step: Step,
-    scope: Scope,
-    node: usize,
-    name: usize,
-    mark: u32,
-) -> Step
-    requires { ⌜ Fine (now work) scope step × Room (now work) scope step 0 2 0 × (name < 65536) ⌝ }
-    ensures { λ r. ⌜ Leaf (now (work .entry)) scope step (now (work .exit)) scope r (both a-register (uses 5 1 0)) (open-catch node (token name mark)) ⌝ }
+pub fn open_catch(work: &mut [u32], step: Step, scope: Scope, node: usize, token: Token) -> Step
+    requires { ⌜ Fine (now work) scope step × Room (now work) scope step 0 2 0 × (token .name < 65536) ⌝ }
+    ensures { λ r. ⌜ Leaf (now (work .entry)) scope step (now (work .exit)) scope r (both a-register (uses 5 1 0)) (open-catch node token) ⌝ }
 {
-    let caught = store::declare_parameter(work, step, scope, name, node);
-    let gotten = code::emit(work, caught, scope, GET_EXCEPT, caught.result, 0, 0, mark);
+    let caught = store::declare_parameter(work, step, scope, token.name, node);
+    let gotten = code::emit(
+        work,
+        caught,
+        scope,
+        GET_EXCEPT,
+        caught.result,
+        0,
+        0,
+        token.mark,
+    );
     code::emit(work, gotten, scope, DEREGISTER_TRY_CATCH, 0, 0, 0, NO_MARK)
 }
 

@@ -12,7 +12,8 @@ use Rattle.meaning.specs.Grammar.{short-mark}
 use Rattle.meaning.specs.Opcode.{opcodes-written, no-mark}
 use Rattle.meaning.specs.Images.{inst-tag}
 use Rattle.meaning.specs.Constant.{Constant, number, text, other}
-use Rattle.meaning.specs.Syntax.{Token, Expr, literal, variable, unary, binary, logical, call, function, Exprs, no-expr, and-expr, Stmt, expression, let-only, let-as, block, while, classic-for, for-in, break, continue, return-none, return, if, try, define, class, Stmts, no-stmt, and-stmt, Elifs, no-elif, and-elif, Fun, fun, Funs, no-fun, and-fun, Super, no-super, super}
+use Rattle.meaning.specs.declared.Token.{Token}
+use Rattle.meaning.specs.Syntax.{Expr, literal, variable, unary, binary, logical, call, function, Exprs, no-expr, and-expr, Stmt, expression, let-only, let-as, block, while, classic-for, for-in, break, continue, return-none, return, if, try, define, class, Stmts, no-stmt, and-stmt, Elifs, no-elif, and-elif, Fun, fun, Funs, no-fun, and-fun, Super, no-super, super}
 use Rattle.meaning.specs.State.{State, Capture, Proto, among}
 use Rattle.meaning.specs.Safety.{All}
 use Rattle.meaning.specs.declared.Instruction.{Instruction}

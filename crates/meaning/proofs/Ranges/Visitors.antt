@@ -12,7 +12,8 @@ use lib.Dec.{eqb}
 use borrow.Author.Tests.{eqb-false}
 use Rattle.meaning.specs.Opcode.{inst, wide, no-mark, unary-opcode, binary-opcode, or, Move, LoadK, LoadNil, Jmp, Lt, Call, Return, GetUpval, Closure, Class, ClassMeth, ClassStMeth, Addi, GetIter, GetIterk, GetIteri, Length, GetGlobal, SetGlobal, GetCurrentFunc, GetBuiltin, DeregisterTryCatch, GetExcept}
 use Rattle.meaning.specs.Constant.{Constant}
-use Rattle.meaning.specs.Syntax.{Token, Super, no-super, super}
+use Rattle.meaning.specs.declared.Token.{Token}
+use Rattle.meaning.specs.Syntax.{Super, no-super, super}
 use Rattle.meaning.specs.State.{State, Chunk, M, only-if, is-global-var, is-global-context}
 use Rattle.meaning.specs.Chunk.{joined, branch-code}
 use Rattle.meaning.specs.Expressions.{or-flag, visit-literal, named, visit-outside, visit-captured, visit-local, visit-variable, visit-unary, visit-addi, visit-both, visit-dropped, visit-binary, visit-logical, next-registers, visit-call, visit-argument}

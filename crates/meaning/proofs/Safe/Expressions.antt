@@ -10,7 +10,7 @@ use lib.ListN.{length}
 use lib.Dec.{eqb}
 use Rattle.meaning.specs.Opcode.{inst, wide, unary-opcode, binary-opcode, or, Move, Call, Addi, GetGlobal, GetBuiltin, Not, Neg, Add, Lt, Eq, Neq, Gt, Gte, Lte, Sub, Div, Mod, Mul, Pow}
 use Rattle.meaning.specs.Constant.{Constant}
-use Rattle.meaning.specs.Syntax.{Token}
+use Rattle.meaning.specs.declared.Token.{Token}
 use Rattle.meaning.specs.State.{State, Chunk, M, is-global-var}
 use Rattle.meaning.specs.Expressions.{or-flag, visit-literal, named, visit-outside, visit-captured, visit-local, visit-variable, visit-unary, visit-addi, visit-both, visit-dropped, visit-binary, visit-logical, next-registers, visit-call, visit-argument}
 use Rattle.meaning.specs.Safety.{from, IsText, All, Holds}

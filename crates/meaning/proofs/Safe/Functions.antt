@@ -7,7 +7,7 @@ use mathlib.Core.List.{List, [], _∷_}
 use native.Mathlib.Omega.{arith}
 use lib.Dec.{eqb}
 use Rattle.meaning.specs.Opcode.{inst, wide, Return, SetGlobal}
-use Rattle.meaning.specs.Syntax.{Token}
+use Rattle.meaning.specs.declared.Token.{Token}
 use Rattle.meaning.specs.State.{State, Chunk, M, only-if, is-global-context}
 use Rattle.meaning.specs.Functions.{last-mark, parameters, return-of-code, close-body, visit-body, function-code, visit-function, fun-code, define-name, declare-name, visit-fun}
 use Rattle.meaning.specs.Safety.{IsText, All}

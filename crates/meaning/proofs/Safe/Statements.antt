@@ -8,7 +8,8 @@ use lib.Dec.{eqb}
 use lib.ListN.{length-append}
 use borrow.Author.Tests.{eqb-false}
 use Rattle.meaning.specs.Opcode.{inst, wide, no-mark, LoadK, Jmp, Lt, Return, Class, ClassMeth, ClassStMeth, Addi, Length, SetGlobal, JMP-BREAK, JMP-CONTINUE}
-use Rattle.meaning.specs.Syntax.{Token, Super, no-super, super}
+use Rattle.meaning.specs.declared.Token.{Token}
+use Rattle.meaning.specs.Syntax.{Super, no-super, super}
 use Rattle.meaning.specs.State.{State, Chunk, M, is-global-var, is-global-context}
 use Rattle.meaning.specs.Chunk.{joined, branch-code}
 use Rattle.meaning.specs.Statements.{new-global, visit-let-as, visit-let-only, visit-block, visit-while, visit-classic-for, iterate-each, iterate, visit-for-in, visit-jump, visit-return, visit-return-none, visit-if, visit-elif, visit-catch, visit-try, visit-super, visit-method, visit-methods, visit-class}

@@ -25,6 +25,7 @@ use Rattle.meaning.specs.At.{Behind, count-of, extra, file-words, pairs-in, stm
 use Rattle.meaning.specs.Fields.{field-at, fields}
 use Rattle.meaning.specs.Lower.{lower-expr}
 use Rattle.meaning.specs.Read.{token}
+use Rattle.meaning.specs.declared.Token.{Token}
 use Rattle.meaning.specs.Weight.{size-stmts}
 use Rattle.routines.specs.Pieces.{Owing, Small, a-name, a-name-back, tokens-from}
 use Rattle.store.proofs.Compose.{known, leaf-after, moves-then}
@@ -44,10 +45,10 @@ use Rattle.meaning.specs.Grammar.{wide-marks}
 use Rattle.nodes.specs.Nodes.{Width}
 
 -- the parameters as the node's
-opened : (t : List ℕ) (i n name mark : ℕ) {payload w w' : List ℕ} {q : Scope} {s s' : Step} {u : Cost} → Width t (q .wide) → payload ≡ field-at (fields t) i .payload
+opened : (t : List ℕ) (i n : ℕ) (x : Token) {payload w w' : List ℕ} {q : Scope} {s s' : Step} {u : Cost} → Width t (q .wide) → payload ≡ field-at (fields t) i .payload
     → tokens-at (fields t) i 3 (3 + 2 * n) ≡ pairs-in (wide-marks (fields t)) (file-words (fields t) i) (3 + extra (wide-marks (fields t))) n
-    → Leaf w q s w' q s' u (open-fun i (token name mark) (tokens-from q payload (3 + q .wide) n)) × Small s' → Leaf w q s w' q s' u (open-fun i (token name mark) (tokens-at (fields t) i 3 (3 + 2 * n))) × Small s'
-opened t i n name mark {payload} {q = q} v e k d = rw (tokens-same t q i payload (3 + q .wide) (3 + extra (wide-marks (fields t))) n v e (ap (λ m. 3 + m) v) ∙ sym k) at d
+    → Leaf w q s w' q s' u (open-fun i x (tokens-from q payload (3 + q .wide) n)) × Small s' → Leaf w q s w' q s' u (open-fun i x (tokens-at (fields t) i 3 (3 + 2 * n))) × Small s'
+opened t i n x {payload} {q = q} v e k d = rw (tokens-same t q i payload (3 + q .wide) (3 + extra (wide-marks (fields t))) n v e (ap (λ m. 3 + m) v) ∙ sym k) at d
 
 -- the body's statements stand behind the marks of the function and its parameters
 body-behind : {t w : List ℕ} {p : Scope} {s : Step} {a b c i k : ℕ} (n : ℕ) → Ready t w p s a b c → Behind (fields t) i k (extra (wide-marks (fields t)) + cond (wide-marks (fields t)) n 0) → Behind (fields t) i k (p .wide + n * p .wide)
@@ -57,16 +58,16 @@ module _ {t w : List ℕ} {p : Scope} {s : Step} {i : ℕ} (g : AskFun t w p s i
   at-declare : Fine w p s × Room w p s 0 0 0 × (word-of (fields t) i 0 < 65536)
   at-declare = let y = stand 0 0 0 (from (g .0 .ready)) (omega arith) (omega arith) (omega arith) (omega arith) in (y .fine, y .room, omega (arith, x .name))
 
-  module _ {w1 : List ℕ} {s1 : Step} (d1 : ((mark : ℕ) → Leaf w p s w1 p s1 (both a-register (a-name p)) (declare i (token (word-of (fields t) i 0) mark))) × Small s1) where
+  module _ {w1 : List ℕ} {s1 : Step} (d1 : Leaf w p s w1 p s1 (both a-register (a-name p)) (declare i (token (word-of (fields t) i 0) (word-of (fields t) i 1))) × Small s1) where
     at-enter : Fine w1 p s1 × (p .depth ≤ 7) × (p .block < p .nodes + 10) × (word-of (fields t) i 0 < 65536)
-    at-enter = (d1 .0 0 .moves .fine, g .2, omega (arith, g .0 .ready .blocks, g .2), omega (arith, x .name))
+    at-enter = (d1 .0 .moves .fine, g .2, omega (arith, g .0 .ready .blocks, g .2), omega (arith, x .name))
 
     module _ {w2 : List ℕ} {s2 : Step} (d2 : Enters w1 p s1 w2 s2 i (word-of (fields t) i 0)) where
       at-open : Ready t w2 (inner p) s2 (size-stmts (stmts-at (fields t) i (3 + 2 * word-of (fields t) i 2) (count-of (fields t) i))) 8 1
       at-open =
           let n = fun-size x in
           let b = g .0 .ready .fine .sound .starts 0 (omega arith) in
-          stand-at _ 8 1 (to (inner p) refl refl (omega arith) (omega arith) (from (g .0 .ready) ▹ d1 .0 0 .moves) (d2 .leaf .moves)) (omega arith) (omega arith) (omega arith) (omega (arith, g .0 .ready .blocks)) (omega (arith, g .0 .ready .loops))
+          stand-at _ 8 1 (to (inner p) refl refl (omega arith) (omega arith) (from (g .0 .ready) ▹ d1 .0 .moves) (d2 .leaf .moves)) (omega arith) (omega arith) (omega arith) (omega (arith, g .0 .ready .blocks)) (omega (arith, g .0 .ready .loops))
 
       module _ {w3 : List ℕ} {s3 : Step}
           (d3 : Leaf w2 (inner p) s2 w3 (inner p) s3 (both (some-registers (1 + word-of (fields t) i 2)) (uses (3 + word-of (fields t) i 2) (1 + word-of (fields t) i 2) 0)) (open-fun i (token (word-of (fields t) i 0) (word-of (fields t) i 1)) (tokens-at (fields t) i 3 (3 + 2 * word-of (fields t) i 2))) × Small s3) where
@@ -80,7 +81,7 @@ module _ {t w : List ℕ} {p : Scope} {s : Step} {i : ℕ} (g : AskFun t w p s i
           at-end : Fine w4 (inner p) s4 × Leavable w4 p × Owing w4 p (cut-step s4 (s1 .pc)) 4 1 (2 - (p .depth + p .block)) × while-going (s4 .outcome) ((s1 .pc ≤ s4 .pc) × (s1 .result < 255))
           at-end =
               let n = fun-size x in
-              let m1 = d1 .0 0 .moves in
+              let m1 = d1 .0 .moves in
               let m = moves-then refl (omega arith) (omega arith) (d3 .0 .moves) (d4 .moves) in (
                 d4 .moves .fine,
                 leavable (m1 .fine) d2 m,
@@ -92,10 +93,9 @@ module _ {t w : List ℕ} {p : Scope} {s : Step} {i : ℕ} (g : AskFun t w p s i
             lowers : LowersFun t i w o p s w5 o5 s5
             unfolding lower-expr
             lowers =
-                let l1 = d1 .0 (word-of (fields t) i 1) in
                 let m = moves-then refl (omega arith) (omega arith) (d3 .0 .moves) (d4 .moves) in
-                arrive _ _ _ (from (g .0 .ready) ▹ ended (l1 .moves) d2 m (omega arith) (d5 .0 .leaves)) (omega arith) (omega arith) (omega arith) (λ z. absurd (omega arith)) (omega (arith, fun-visits x)) (d5 .0 .same ∙ d4 .same) (d5 .1) λ ps z.
-                let a1 = leaf-after l1 o ps z in
+                arrive _ _ _ (from (g .0 .ready) ▹ ended (d1 .0 .moves) d2 m (omega arith) (d5 .0 .leaves)) (omega arith) (omega arith) (omega arith) (λ z. absurd (omega arith)) (omega (arith, fun-visits x)) (d5 .0 .same ∙ d4 .same) (d5 .1) λ ps z.
+                let a1 = leaf-after (d1 .0) o ps z in
                 let a2 = next-leaf a1 (d2 .leaf) in
                 let a3 = next-leaf a2 (d3 .0) in
                 let a4 = next a3 d4 in
@@ -151,7 +151,7 @@ body-requires t c κs =
     let g = (c .before .before .before .before .before .before .before .before .before .before .before .before .before .before .before .before .before .before .before .before .before .before .before) .pre .1 in
     let x = a-define (g .0 .ready .lawful) (g .0 .known) (g .1) in
     let k = define-stands (g .0 .ready .lawful) (g .0 .known) (g .1) in
-    let o = opened _ _ _ _ _ (g .0 .ready .width) ((c .before .before .before .before .before .before .before .before .before .before .before .before .before .before .before .before .payload-of) .ensures) (k .1) (rw ((c .before .before .before .before .before .before .before .before .before .before .enter-function) .ensures .0, (c .before .before .before .before .before .before .before .before .before .before .before .before .before .before .before .before .before .before .define-of) .ensures .0) at ((c .before .before .before .before .before .before .open-fun) .ensures)) in
+    let o = opened _ _ _ _ (g .0 .ready .width) ((c .before .before .before .before .before .before .before .before .before .before .before .before .before .before .before .before .payload-of) .ensures) (k .1) (rw ((c .before .before .before .before .before .before .before .before .before .before .enter-function) .ensures .0, (c .before .before .before .before .before .before .before .before .before .before .before .before .before .before .before .before .before .before .define-of) .ensures .0) at ((c .before .before .before .before .before .before .open-fun) .ensures)) in
     rw ((c .before .before .before .before .before .before .before .before .before .before .enter-function) .ensures .0, (c .before .before .before .before .before .before .before .before .before .before .before .before .before .before .before .before .before .before .define-of) .ensures .0) (omega (arith, (c .before .before .before .before .before .before .before .before .before .before .before .before .before .before .before .before .before .before .before .before .before .before .before) .pre .0), ask-body g x (rw ((c .before .before .before .before .before .before .before .before .before .before .before .before .before .before .before .before .before .before .define-of) .ensures .0) at ((c .before .before .before .before .before .before .before .before .before .before .before .before .before .before .declare) .ensures)) (rw ((c .before .before .before .before .before .before .before .before .before .before .before .before .before .before .before .before .before .before .define-of) .ensures .0) at ((c .before .before .before .before .before .before .before .before .before .before .enter-function) .ensures .1)) o (body-behind _ (g .0 .ready) (k .2)))
 
 pub end-fun-requires : (t : ℕ) → lts.Need-end-fun-requires (claims t) (fn-stmt-at t) fn-stmt.Post
@@ -159,13 +159,13 @@ end-fun-requires t c κs =
     let g = (c .before .before .before .before .before .before .before .before .before .before .before .before .before .before .before .before .before .before .before .before .before .before .before .before .before .before .before .before .before .before) .pre .1 in
     let x = a-define (g .0 .ready .lawful) (g .0 .known) (g .1) in
     let k = define-stands (g .0 .ready .lawful) (g .0 .known) (g .1) in
-    let o = opened _ _ _ _ _ (g .0 .ready .width) ((c .before .before .before .before .before .before .before .before .before .before .before .before .before .before .before .before .before .before .before .before .before .before .before .payload-of) .ensures) (k .1) (rw ((c .before .before .before .before .before .before .before .before .before .before .before .before .before .before .before .before .before .enter-function) .ensures .0, (c .before .before .before .before .before .before .before .before .before .before .before .before .before .before .before .before .before .before .before .before .before .before .before .before .before .define-of) .ensures .0) at ((c .before .before .before .before .before .before .before .before .before .before .before .before .before .open-fun) .ensures)) in
+    let o = opened _ _ _ _ (g .0 .ready .width) ((c .before .before .before .before .before .before .before .before .before .before .before .before .before .before .before .before .before .before .before .before .before .before .before .payload-of) .ensures) (k .1) (rw ((c .before .before .before .before .before .before .before .before .before .before .before .before .before .before .before .before .before .enter-function) .ensures .0, (c .before .before .before .before .before .before .before .before .before .before .before .before .before .before .before .before .before .before .before .before .before .before .before .before .before .define-of) .ensures .0) at ((c .before .before .before .before .before .before .before .before .before .before .before .before .before .open-fun) .ensures)) in
     let b = rw ((c .before .before .before .before .before .before .before .before .before .before .before .before .before .before .before .before .before .enter-function) .ensures .0, (c .before .before .before .before .before .before .before .before .before .before .before .before .before .before .before .before .before .before .before .before .before .before .before .before .before .define-of) .ensures .0) at ((c .before .before .before .before .before .before .body) .ensures) in
     let y = at-end g x (rw ((c .before .before .before .before .before .before .before .before .before .before .before .before .before .before .before .before .before .before .before .before .before .before .before .before .before .define-of) .ensures .0) at ((c .before .before .before .before .before .before .before .before .before .before .before .before .before .before .before .before .before .before .before .before .before .declare) .ensures)) (rw ((c .before .before .before .before .before .before .before .before .before .before .before .before .before .before .before .before .before .before .before .before .before .before .before .before .before .define-of) .ensures .0) at ((c .before .before .before .before .before .before .before .before .before .before .before .before .before .before .before .before .before .enter-function) .ensures .1)) o b in
     (y .0, y .1, y .2, y .3, ((c .before .before .before .before .before .before .before .before .before .before .before .before .before .before .before .before .before .before .before .before .before .before .before .before .before .define-of) .ensures .1), rw ((c .before .before .before .before .before .before .before .before .before .before .before .before .before .before .before .before .before .before .before .before .before .before .before .before .before .define-of) .ensures .0) (omega (arith, x .name)))
 
 pub same-length : (t : ℕ) → lts.Need-same-length (claims t) (fn-stmt-at t) fn-stmt.Post
-same-length t c = (c .before .before .before .before .end-fun) .ensures .0 .leaves .kept .same ∙ (c .before .before .before .before .before .before .before .before .before .before .before .body) .ensures .moves .kept .same ∙ (c .before .before .before .before .before .before .before .before .before .before .before .before .before .before .before .before .before .before .open-fun) .ensures .0 .moves .kept .same ∙ (c .before .before .before .before .before .before .before .before .before .before .before .before .before .before .before .before .before .before .before .before .before .before .enter-function) .ensures .1 .leaf .moves .kept .same ∙ (c .before .before .before .before .before .before .before .before .before .before .before .before .before .before .before .before .before .before .before .before .before .before .before .before .before .before .declare) .ensures .0 0 .moves .kept .same
+same-length t c = (c .before .before .before .before .end-fun) .ensures .0 .leaves .kept .same ∙ (c .before .before .before .before .before .before .before .before .before .before .before .body) .ensures .moves .kept .same ∙ (c .before .before .before .before .before .before .before .before .before .before .before .before .before .before .before .before .before .before .open-fun) .ensures .0 .moves .kept .same ∙ (c .before .before .before .before .before .before .before .before .before .before .before .before .before .before .before .before .before .before .before .before .before .before .enter-function) .ensures .1 .leaf .moves .kept .same ∙ (c .before .before .before .before .before .before .before .before .before .before .before .before .before .before .before .before .before .before .before .before .before .before .before .before .before .before .declare) .ensures .0 .moves .kept .same
 
 pub same-length-2 : (t : ℕ) → lts.Need-same-length-2 (claims t) (fn-stmt-at t) fn-stmt.Post
 same-length-2 t c = (c .before .before .before .before .end-fun) .ensures .0 .same ∙ (c .before .before .before .before .before .before .before .before .before .before .before .body) .ensures .same
@@ -175,6 +175,6 @@ returns t c =
     let g = (c .before .before .before .before .before .before .before .before .before .before .before .before .before .before .before .before .before .before .before .before .before .before .before .before .before .before .before .before .before .before .before .before .before .before .before) .pre .1 in
     let x = a-define (g .0 .ready .lawful) (g .0 .known) (g .1) in
     let k = define-stands (g .0 .ready .lawful) (g .0 .known) (g .1) in
-    let o = opened _ _ _ _ _ (g .0 .ready .width) ((c .before .before .before .before .before .before .before .before .before .before .before .before .before .before .before .before .before .before .before .before .before .before .before .before .before .before .before .before .payload-of) .ensures) (k .1) (rw ((c .before .before .before .before .before .before .before .before .before .before .before .before .before .before .before .before .before .before .before .before .before .before .enter-function) .ensures .0, (c .before .before .before .before .before .before .before .before .before .before .before .before .before .before .before .before .before .before .before .before .before .before .before .before .before .before .before .before .before .before .define-of) .ensures .0) at ((c .before .before .before .before .before .before .before .before .before .before .before .before .before .before .before .before .before .before .open-fun) .ensures)) in
+    let o = opened _ _ _ _ (g .0 .ready .width) ((c .before .before .before .before .before .before .before .before .before .before .before .before .before .before .before .before .before .before .before .before .before .before .before .before .before .before .before .before .payload-of) .ensures) (k .1) (rw ((c .before .before .before .before .before .before .before .before .before .before .before .before .before .before .before .before .before .before .before .before .before .before .enter-function) .ensures .0, (c .before .before .before .before .before .before .before .before .before .before .before .before .before .before .before .before .before .before .before .before .before .before .before .before .before .before .before .before .before .before .define-of) .ensures .0) at ((c .before .before .before .before .before .before .before .before .before .before .before .before .before .before .before .before .before .before .open-fun) .ensures)) in
     let b = rw ((c .before .before .before .before .before .before .before .before .before .before .before .before .before .before .before .before .before .before .before .before .before .before .enter-function) .ensures .0, (c .before .before .before .before .before .before .before .before .before .before .before .before .before .before .before .before .before .before .before .before .before .before .before .before .before .before .before .before .before .before .define-of) .ensures .0) at ((c .before .before .before .before .before .before .before .before .before .before .before .body) .ensures) in
     lowers g x (rw ((c .before .before .before .before .before .before .before .before .before .before .before .before .before .before .before .before .before .before .before .before .before .before .before .before .before .before .before .before .before .before .define-of) .ensures .0) at ((c .before .before .before .before .before .before .before .before .before .before .before .before .before .before .before .before .before .before .before .before .before .before .before .before .before .before .declare) .ensures)) (rw ((c .before .before .before .before .before .before .before .before .before .before .before .before .before .before .before .before .before .before .before .before .before .before .before .before .before .before .before .before .before .before .define-of) .ensures .0) at ((c .before .before .before .before .before .before .before .before .before .before .before .before .before .before .before .before .before .before .before .before .before .before .enter-function) .ensures .1)) o b (rw ((c .before .before .before .before .before .before .before .before .before .before .before .before .before .before .before .before .before .before .before .before .before .before .before .before .before .before .before .before .before .before .define-of) .ensures .0) at ((c .before .before .before .before .end-fun) .ensures))

@@ -25,7 +25,7 @@ use Rattle.meaning.specs.Lower.{lower-expr}
 use Rattle.meaning.specs.Opcode.{Length, Lt, inst}
 use Rattle.meaning.specs.State.{Res, done, refused}
 use Rattle.meaning.specs.Statements.{iterate}
-use Rattle.meaning.specs.Syntax.{Token}
+use Rattle.meaning.specs.declared.Token.{Token}
 use Rattle.meaning.specs.declared.Instruction.{Instruction}
 use Rattle.routines.specs.Pieces.{HasPairs, tokens-from}
 use Rattle.store.proofs.Around.{loop-around, loop-entered, loop-left}

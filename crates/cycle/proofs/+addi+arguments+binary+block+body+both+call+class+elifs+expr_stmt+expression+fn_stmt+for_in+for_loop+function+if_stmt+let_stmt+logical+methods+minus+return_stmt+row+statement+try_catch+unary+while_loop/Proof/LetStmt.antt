@@ -142,7 +142,7 @@ expression-requires t c κs =
     let x = a-let (g .ready .lawful) (g .known) ((c .before .before .before .before .before .before .before .before .before .before .before .before .before .before .before) .pre .1 .1) in
     let three = three-words x _ (ap (λ (y : let-node.Let). y .value) ((c .before .before .before .before .before .before .before .before .before .before .let-of) .ensures .0)) ((c .before .before .before .before .before .before .before .before .if1) .left) in
     let e = (c .before .before .before .before .before .before .before .before .before .before .let-of) .ensures .0 in
-    rw (e, the-value x three) (omega (arith, (c .before .before .before .before .before .before .before .before .before .before .before .before .before .before .before) .pre .0, x .value three .below), value-after g x three ((c .before .before .before .before .before .before .before .is-global-context) .ensures .1 _ _ (g .ready .fine .sound)) ((c .before .before .before .before .before .before .if2) .taken) (rw e at ((c .before .before .before .before .new-global) .ensures ((c .before .before .before .before .before .before .before .before .before .before .let-of) .result .mark))))
+    rw (e, the-value x three) (omega (arith, (c .before .before .before .before .before .before .before .before .before .before .before .before .before .before .before) .pre .0, x .value three .below), value-after g x three ((c .before .before .before .before .before .before .before .is-global-context) .ensures .1 _ _ (g .ready .fine .sound)) ((c .before .before .before .before .before .before .if2) .taken) (rw e at ((c .before .before .before .before .new-global) .ensures)))
 
 pub emit-wide-requires : (t : ℕ) → lts.Need-emit-wide-requires (claims t) (let-stmt-at t) let-stmt.Post
 emit-wide-requires t c κs =
@@ -150,10 +150,10 @@ emit-wide-requires t c κs =
     let x = a-let (g .ready .lawful) (g .known) ((c .before .before .before .before .before .before .before .before .before .before .before .before .before .before .before .before .before .before .before .before .before) .pre .1 .1) in
     let three = three-words x _ (ap (λ (y : let-node.Let). y .value) ((c .before .before .before .before .before .before .before .before .before .before .before .before .before .before .before .before .let-of) .ensures .0)) ((c .before .before .before .before .before .before .before .before .before .before .before .before .before .before .if1) .left) in
     let e = (c .before .before .before .before .before .before .before .before .before .before .before .before .before .before .before .before .let-of) .ensures .0 in
-    at-emit g x three ((c .before .before .before .before .before .before .before .before .before .before .before .before .before .is-global-context) .ensures .1 _ _ (g .ready .fine .sound)) ((c .before .before .before .before .before .before .before .before .before .before .before .before .if2) .taken) (rw e at ((c .before .before .before .before .before .before .before .before .before .before .new-global) .ensures ((c .before .before .before .before .before .before .before .before .before .before .before .before .before .before .before .before .let-of) .result .mark))) (rw (e, the-value x three) at ((c .before .before .before .before .before .expression) .ensures))
+    at-emit g x three ((c .before .before .before .before .before .before .before .before .before .before .before .before .before .is-global-context) .ensures .1 _ _ (g .ready .fine .sound)) ((c .before .before .before .before .before .before .before .before .before .before .before .before .if2) .taken) (rw e at ((c .before .before .before .before .before .before .before .before .before .before .new-global) .ensures)) (rw (e, the-value x three) at ((c .before .before .before .before .before .expression) .ensures))
 
 pub same-length-2 : (t : ℕ) → lts.Need-same-length-2 (claims t) (let-stmt-at t) let-stmt.Post
-same-length-2 t c = (c .before .before .emit-wide) .ensures .moves .kept .same ∙ (c .before .before .before .before .before .before .before .before .expression) .ensures .does .moves .kept .same ∙ (c .before .before .before .before .before .before .before .before .before .before .before .before .before .new-global) .ensures 0 .moves .kept .same
+same-length-2 t c = (c .before .before .emit-wide) .ensures .moves .kept .same ∙ (c .before .before .before .before .before .before .before .before .expression) .ensures .does .moves .kept .same ∙ (c .before .before .before .before .before .before .before .before .before .before .before .before .before .new-global) .ensures .moves .kept .same
 
 pub same-length-3 : (t : ℕ) → lts.Need-same-length-3 (claims t) (let-stmt-at t) let-stmt.Post
 same-length-3 t c = (c .before .before .before .before .before .before .before .before .expression) .ensures .does .same
@@ -164,7 +164,7 @@ returns-2 t c =
     let x = a-let (g .ready .lawful) (g .known) ((c .before .before .before .before .before .before .before .before .before .before .before .before .before .before .before .before .before .before .before .before .before .before .before .before) .pre .1 .1) in
     let three = three-words x _ (ap (λ (y : let-node.Let). y .value) ((c .before .before .before .before .before .before .before .before .before .before .before .before .before .before .before .before .before .before .before .let-of) .ensures .0)) ((c .before .before .before .before .before .before .before .before .before .before .before .before .before .before .before .before .before .if1) .left) in
     let e = (c .before .before .before .before .before .before .before .before .before .before .before .before .before .before .before .before .before .before .before .let-of) .ensures .0 in
-    lowers-global g x three ((c .before .before .before .before .before .before .before .before .before .before .before .before .before .before .before .before .is-global-context) .ensures .1 _ _ (g .ready .fine .sound)) ((c .before .before .before .before .before .before .before .before .before .before .before .before .before .before .before .if2) .taken) (rw e at ((c .before .before .before .before .before .before .before .before .before .before .before .before .before .new-global) .ensures ((c .before .before .before .before .before .before .before .before .before .before .before .before .before .before .before .before .before .before .before .let-of) .result .mark))) (rw (e, the-value x three) at ((c .before .before .before .before .before .before .before .before .expression) .ensures)) (rw e at ((c .before .before .emit-wide) .ensures))
+    lowers-global g x three ((c .before .before .before .before .before .before .before .before .before .before .before .before .before .before .before .before .is-global-context) .ensures .1 _ _ (g .ready .fine .sound)) ((c .before .before .before .before .before .before .before .before .before .before .before .before .before .before .before .if2) .taken) (rw e at ((c .before .before .before .before .before .before .before .before .before .before .before .before .before .new-global) .ensures)) (rw (e, the-value x three) at ((c .before .before .before .before .before .before .before .before .expression) .ensures)) (rw e at ((c .before .before .emit-wide) .ensures))
 
 pub expression-requires-2 : (t : ℕ) → lts.Need-expression-requires-2 (claims t) (let-stmt-at t) let-stmt.Post
 expression-requires-2 t c κs =

@@ -10,7 +10,7 @@ use Rattle.meaning.specs.Grammar.{wide-marks}
 use mathlib.Core.Path.{_≡_}
 use Prim.Native.Nat.{_-_}
 use Rattle.meaning.specs.At.{count-of}
-use Rattle.nodes.proofs.Held.{Held, Rest, few-wide, class-held}
+use Rattle.nodes.proofs.Held.{Held, Rest, few-wide, token-held, class-held}
 use Rattle.nodes.proofs.statements.class_of.Statement.{statement}
 use Rattle.nodes.proofs.statements.class_of.Tie as tie
 
@@ -20,33 +20,29 @@ holds c = let start = c .before .before .before in class-held (start .pre .0) (c
 narrow : (c : tie.After-payload-of) → c .before .before .before .args .wide ≤ 1
 narrow c = few-wide (wide-marks (fields (now (c .before .before .before .args .tree)))) (c .before .before .before .pre .1)
 
-child-requires : tie.Need-child-requires
-child-requires c κs = omega (arith, holds c .0 .many)
-
-mark-requires : tie.Need-mark-requires
-mark-requires c κs = omega (arith, holds (c .before) .0 .many)
+token-requires : tie.Need-token-requires
+token-requires c κs = omega (arith, holds c .0 .many)
 
 add-child : tie.Need-add-child
-add-child c = omega (arith, narrow (c .before .before))
+add-child c = omega (arith, narrow (c .before))
+
+child-requires : tie.Need-child-requires
+child-requires c κs = omega (arith, holds (c .before) .0 .many)
+
+add-child-2 : tie.Need-add-child-2
+add-child-2 c = omega (arith, narrow (c .before .before))
 
 child-requires-2 : tie.Need-child-requires-2
 child-requires-2 c κs = omega (arith, holds (c .before .before) .0 .many)
 
-add-child-2 : tie.Need-add-child-2
-add-child-2 c = omega (arith, narrow (c .before .before .before))
-
-child-requires-3 : tie.Need-child-requires-3
-child-requires-3 c κs = omega (arith, holds (c .before .before .before) .0 .many)
-
 returns : tie.Need-returns
 returns c =
-    let h = holds (c .before .before .before .before .before) in
-    let e0 = c .before .before .before .before .child .ensures .0 ∙ h .0 .before 0 (lit< tt) (lit≤ tt) in
-    let e1 = c .before .before .before .mark .ensures ∙ h .0 .mark (lit≤ tt) in
-    let e2 = c .before .before .child2 .ensures .0 ∙ h .0 .after 2 (lit< tt) (lit≤ tt) in
-    let e3 = c .before .child3 .ensures .0 ∙ h .0 .after 3 (lit< tt) (lit≤ tt) in
-    let n : c .count .result - c .before .before .before .before .before .before .before .before .args .wide ≡ count-of (fields (now (c .before .before .before .before .before .before .before .before .args .tree))) (c .before .before .before .before .before .before .before .before .args .node) = omega (arith, c .count .ensures, h .1 .size) in
-    (rw (e0, e1, e2, e3, n) refl, c .before .child3 .ensures .1)
+    let h = holds (c .before .before .before .before) in
+    let e0 = token-held 0 (lit≤ tt) (h .0) (c .before .before .before .token .ensures .0) in
+    let e1 = c .before .before .child .ensures .0 ∙ h .0 .after 2 (lit< tt) (lit≤ tt) in
+    let e2 = c .before .child2 .ensures .0 ∙ h .0 .after 3 (lit< tt) (lit≤ tt) in
+    let n : c .count .result - c .before .before .before .before .before .before .before .args .wide ≡ count-of (fields (now (c .before .before .before .before .before .before .before .args .tree))) (c .before .before .before .before .before .before .before .args .node) = omega (arith, c .count .ensures, h .1 .size) in
+    (rw (e0, e1, e2, n) refl, c .before .child2 .ensures .1)
 
 pub class-of-spec : {M : Type 1} → statement M
-class-of-spec = tie.close (tie.spec (λ c κs. search needs) child-requires mark-requires add-child child-requires-2 add-child-2 child-requires-3 (λ c κs. search needs) (λ c. omega (arith, c .count .ensures, holds (c .before .before .before .before .before) .0 .many)) returns)
+class-of-spec = tie.close (tie.spec (λ c κs. search needs) token-requires add-child child-requires add-child-2 child-requires-2 (λ c κs. search needs) (λ c. omega (arith, c .count .ensures, holds (c .before .before .before .before) .0 .many)) returns)

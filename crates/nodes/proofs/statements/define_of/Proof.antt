@@ -10,7 +10,7 @@ use lib.ListN.{length}
 use Rattle.meaning.specs.Fields.{fields, words}
 use Rattle.meaning.specs.At.{word-of, count-of}
 use Rattle.meaning.specs.Grammar.{wide-marks}
-use Rattle.nodes.proofs.Held.{Held, few-wide, define-held}
+use Rattle.nodes.proofs.Held.{Held, few-wide, token-held, define-held}
 use Rattle.nodes.proofs.statements.define_of.Statement.{statement}
 use Rattle.nodes.proofs.statements.define_of.Tie as tie
 
@@ -26,34 +26,30 @@ add-child c = omega (arith, narrow c)
 child-requires : tie.Need-child-requires
 child-requires c κs = omega (arith, holds c .0 .many)
 
-child-requires-2 : tie.Need-child-requires-2
-child-requires-2 c κs = omega (arith, holds (c .before) .0 .many)
-
-mark-requires : tie.Need-mark-requires
-mark-requires c κs = omega (arith, holds (c .before .before) .0 .many)
+token-requires : tie.Need-token-requires
+token-requires c κs = omega (arith, holds (c .before) .0 .many)
 
 -- the words of the file are those of the node, and one more for each wide mark
-size : (c : tie.After-more-words) → c .before .count .result ≡ count-of (fields (now (c .before .before .before .before .before .before .before .before .args .tree))) (c .before .before .before .before .before .before .before .before .args .node) + (c .before .before .before .before .before .before .before .before .args .wide + c .more-words .result)
+size : (c : tie.After-more-words) → c .before .count .result ≡ count-of (fields (now (c .before .before .before .before .before .before .before .args .tree))) (c .before .before .before .before .before .before .before .args .node) + (c .before .before .before .before .before .before .before .args .wide + c .more-words .result)
 size c =
-    let h = holds (c .before .before .before .before .before) in
-    let e = c .before .before .before .before .child .ensures .0 ∙ h .0 .after 2 (lit< tt) (lit≤ tt) in
+    let h = holds (c .before .before .before .before) in
+    let e = c .before .before .before .child .ensures .0 ∙ h .0 .after 2 (lit< tt) (lit≤ tt) in
     omega (arith, c .before .count .ensures, h .1, rw e at (c .more-words .ensures .0))
 
-add-t11 : tie.Need-add-t11
-add-t11 c = omega (arith, narrow (c .before .before .before .before .before), c .more-words .ensures .1, c .before .before .before .before .child .ensures .1)
+add-t10 : tie.Need-add-t10
+add-t10 c = omega (arith, narrow (c .before .before .before .before), c .more-words .ensures .1, c .before .before .before .child .ensures .1)
 
-sub-t12 : tie.Need-sub-t12
-sub-t12 c = omega (arith, size c)
+sub-t11 : tie.Need-sub-t11
+sub-t11 c = omega (arith, size c)
 
 returns : tie.Need-returns
 returns c =
-    let start = c .before .before .before .before .before .before .before .before in
-    let h = holds (c .before .before .before .before .before) in
-    let params = c .before .before .before .before .child .ensures .0 ∙ h .0 .after 2 (lit< tt) (lit≤ tt) in
-    let name = c .before .before .before .child2 .ensures .0 ∙ h .0 .before 0 (lit< tt) (lit≤ tt) in
-    let mark = c .before .before .mark .ensures ∙ h .0 .mark (lit≤ tt) in
+    let start = c .before .before .before .before .before .before .before in
+    let h = holds (c .before .before .before .before) in
+    let params = c .before .before .before .child .ensures .0 ∙ h .0 .after 2 (lit< tt) (lit≤ tt) in
+    let token = token-held 0 (lit≤ tt) (h .0) (c .before .before .token .ensures .0) in
     let end : c .before .count .result - (start .args .wide + c .more-words .result) ≡ count-of (fields (now (start .args .tree))) (start .args .node) = omega (arith, size c) in
-    (rw (params, name, mark, end) refl, c .before .before .before .before .child .ensures .1)
+    (rw (params, token, end) refl, c .before .before .before .child .ensures .1)
 
 pub define-of-spec : {M : Type 1} → statement M
 define-of-spec =
@@ -62,10 +58,9 @@ define-of-spec =
     (λ c κs. search needs)
     add-child
     child-requires
-    child-requires-2
-    mark-requires
+    token-requires
     (λ c κs. search needs)
     (λ c κs. search needs)
-    add-t11
-    sub-t12
+    add-t10
+    sub-t11
     returns)

@@ -7,7 +7,7 @@ use borrow.Author.Needs.{needs}
 use Prim.Native.Nat.{_≤_}
 use Rattle.meaning.specs.Fields.{fields}
 use Rattle.meaning.specs.Grammar.{wide-marks}
-use Rattle.nodes.proofs.Held.{Held, few-wide, try-held}
+use Rattle.nodes.proofs.Held.{Held, few-wide, token-held, try-held}
 use Rattle.nodes.proofs.statements.try_of.Statement.{statement}
 use Rattle.nodes.proofs.statements.try_of.Tie as tie
 
@@ -20,26 +20,22 @@ narrow c = few-wide (wide-marks (fields (now (c .before .before .before .args .t
 child-requires : tie.Need-child-requires
 child-requires c κs = omega (arith, holds c .many)
 
-child-requires-2 : tie.Need-child-requires-2
-child-requires-2 c κs = omega (arith, holds (c .before) .many)
-
-mark-requires : tie.Need-mark-requires
-mark-requires c κs = omega (arith, holds (c .before .before) .many)
+token-requires : tie.Need-token-requires
+token-requires c κs = omega (arith, holds (c .before) .many)
 
 add-child : tie.Need-add-child
-add-child c = omega (arith, narrow (c .before .before .before))
+add-child c = omega (arith, narrow (c .before .before))
 
-child-requires-3 : tie.Need-child-requires-3
-child-requires-3 c κs = omega (arith, holds (c .before .before .before) .many)
+child-requires-2 : tie.Need-child-requires-2
+child-requires-2 c κs = omega (arith, holds (c .before .before) .many)
 
 returns : tie.Need-returns
 returns c =
-    let h = holds (c .before .before .before .before) in
-    let e0 = c .before .before .before .child .ensures .0 ∙ h .before 0 (lit< tt) (lit≤ tt) in
-    let e1 = c .before .before .child2 .ensures .0 ∙ h .before 1 (lit< tt) (lit≤ tt) in
-    let e2 = c .before .mark .ensures ∙ h .mark (lit≤ tt) in
-    let e3 = c .child3 .ensures .0 ∙ h .after 3 (lit< tt) (lit≤ tt) in
-    rw (e0, e1, e2, e3) refl
+    let h = holds (c .before .before .before) in
+    let e0 = c .before .before .child .ensures .0 ∙ h .before 0 (lit< tt) (lit≤ tt) in
+    let e1 = token-held 1 (lit≤ tt) h (c .before .token .ensures .0) in
+    let e2 = c .child2 .ensures .0 ∙ h .after 3 (lit< tt) (lit≤ tt) in
+    rw (e0, e1, e2) refl
 
 pub try-of-spec : {M : Type 1} → statement M
-try-of-spec = tie.close (tie.spec (λ c κs. search needs) child-requires child-requires-2 mark-requires add-child child-requires-3 returns)
+try-of-spec = tie.close (tie.spec (λ c κs. search needs) child-requires token-requires add-child child-requires-2 returns)

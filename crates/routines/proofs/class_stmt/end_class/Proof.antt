@@ -2,7 +2,6 @@
 use borrow.Author.Needs.{needs}
 use Rattle.routines.proofs.class_stmt.end_class.Statement.{statement}
 use Rattle.routines.proofs.class_stmt.end_class.Tie as tie
-use Rattle.meaning.specs.Read.{token}
 use Rattle.forward.proofs.Leaves.{end-class-chain}
 use Rattle.store.specs.Promise.{uses}
 use Rattle.store.proofs.Runs.{due, goes, none-due, leaf-absorbed}
@@ -30,7 +29,7 @@ returns-2 c =
     let line = from (start .pre .0) (start .pre .1) in
     let class = settling line (due (s .step .outcome) (start .pre .3) (goes (c .before .before .before .before .before .enum-told .given .1))) in
     let last = rw (c .before .before .before .before .settle .ensures) at (c .before .before .name-result .ensures) in
-    (ends _ (line ▹ class ▹ last .0) (search needs) (λ ps. end-class-chain (s .node) (token (s .name) (s .mark)) (s .class) _ _ (class .runs ps) _ (last .0 .runs ps)), last .1)
+    (ends _ (line ▹ class ▹ last .0) (search needs) (λ ps. end-class-chain (s .node) (s .token) (s .class) _ _ (class .runs ps) _ (last .0 .runs ps)), last .1)
 
 pub end-class-spec : {M : Type 1} → statement M
 end-class-spec =

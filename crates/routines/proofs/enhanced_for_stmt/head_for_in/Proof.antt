@@ -5,7 +5,7 @@ use mathlib.Core.List.{List}
 use native.Mathlib.Omega.{arith}
 use borrow.Author.Needs.{needs}
 use Rattle.meaning.specs.Opcode.{inst, Length, Lt}
-use Rattle.meaning.specs.Syntax.{Token}
+use Rattle.meaning.specs.declared.Token.{Token}
 use Rattle.meaning.specs.Statements.{iterate}
 use Rattle.forward.specs.Forward.{Run, bind, sure, emit, put, test-and-jump, fwd-code, head-for-in}
 use Rattle.forward.proofs.Calls.{Calls, finally, entry, _>>_, Chain, chain}

@@ -4,7 +4,7 @@ use mathlib.Core.List.{List, [], _∷_}
 use native.Mathlib.Omega.{arith}
 use borrow.Author.Needs.{needs}
 use lib.ListN.{length}
-use Rattle.meaning.specs.Syntax.{Token}
+use Rattle.meaning.specs.declared.Token.{Token}
 use Rattle.meaning.specs.Statements.{iterate}
 use Rattle.forward.specs.Forward.{Run, fwd-code}
 use Rattle.forward.proofs.Calls.{Chain}

@@ -2,7 +2,6 @@
 use Prim.Native.Nat.{_+_, _-_}
 use native.Mathlib.Omega.{arith}
 use borrow.Author.Needs.{needs}
-use Rattle.meaning.specs.Read.{token}
 use Rattle.forward.proofs.Leaves.{end-fun-chain}
 use Rattle.store.specs.Promise.{uses, both}
 use Rattle.store.proofs.Runs.{due, promised}
@@ -33,7 +32,7 @@ name-result-requires c κs =
     let leaves = leaves-then (c .before .before .before .before .before .before .before .before .before .leave-function .ensures .0 .leaves) made in (
       leaves .fine,
       owes-then leaves 2 1 _ (start .pre .2) (search needs),
-      there leaves (λ g. omega (arith, closure-keeps (s .register) (s .mark) made g .result, due (s .step .outcome) (start .pre .3) (leaves .back g) .1)),
+      there leaves (λ g. omega (arith, closure-keeps (s .register) (s .token .mark) made g .result, due (s .step .outcome) (start .pre .3) (leaves .back g) .1)),
       start .pre .5,
     )
 
@@ -52,7 +51,7 @@ returns c =
             record {
               protos = a .protos;
               image = named .0 .image _ (a .protos) (made .image _ (a .protos) (a .image));
-              runs = end-fun-chain (s .first) (s .node) (token (s .name) (s .mark)) (s .params) (s .register) _ _ (a .runs) _ (made .runs (a .protos)) _ (named .0 .runs (a .protos));
+              runs = end-fun-chain (s .first) (s .node) (s .token) (s .params) (s .register) _ _ (a .runs) _ (made .runs (a .protos)) _ (named .0 .runs (a .protos));
             };
       },
       named .1,

@@ -4,7 +4,6 @@ use mathlib.Core.Path.{refl}
 use Rattle.routines.proofs.fn_stmt.open_fun.Statement.{statement}
 use Rattle.routines.proofs.fn_stmt.open_fun.Tie as tie
 use native.Mathlib.Omega.{arith}
-use Rattle.meaning.specs.Read.{token}
 use Rattle.store.proofs.Compose.{known}
 use Rattle.routines.proofs.PieceLine.{from, _▹_, room, here, ends}
 use Rattle.routines.proofs.Named.{open-fun-chain}
@@ -31,7 +30,7 @@ returns c =
     let params = c .before .before .before .before .before .before .parameters .ensures in
     let last = c .before .before .emit .ensures in
     let line = from (start .pre .0) (start .pre .1) ▹ own ▹ params .0 ▹ last in (
-      ends _ line (search needs) (λ ps. open-fun-chain (s .node) (token (s .name) (s .mark)) _ _ _ (own .runs ps) _ (known _ _ _ ps) _ (params .0 .runs ps) _ (last .runs ps)),
+      ends _ line (search needs) (λ ps. open-fun-chain (s .node) (s .token) _ _ _ (own .runs ps) _ (known _ _ _ ps) _ (params .0 .runs ps) _ (last .runs ps)),
       here line (λ g. omega (arith, params .1, emit-keeps _ last g .result)),
     )
 

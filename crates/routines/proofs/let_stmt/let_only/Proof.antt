@@ -6,7 +6,6 @@ use native.Mathlib.Omega.{arith}
 use lib.Dec.{lit<}
 use denote.Ref.{now}
 use Rattle.meaning.specs.Fields.{fields}
-use Rattle.meaning.specs.Read.{token}
 use Rattle.meaning.specs.Lower.{lower-stmt}
 use Rattle.meaning.proofs.Reading.{let-node}
 use Rattle.forward.proofs.Chains.{let-only-chain}
@@ -35,14 +34,14 @@ new-global-requires c κs =
 next-register-requires : tie.Need-next-register-requires
 next-register-requires c κs =
     let new-global = c .before .before .before .new-global in
-    new-global .ensures 0 .moves .fine
+    new-global .ensures .moves .fine
 
 emit-requires : tie.Need-emit-requires
 emit-requires c κs =
     let new-global = c .before .before .before .before .before .before .before .new-global in
     let next-register = c .before .before .before .next-register in
     let start = c .before .before .before .before .before .before .before .before .before .before .before .before .before .before .before in
-    let line = one (new-global .ensures 0) ▹ one (next-register .ensures .0) in
+    let line = one (new-global .ensures) ▹ one (next-register .ensures .0) in
     let register = next-register .result .result in
     let small = next-register .ensures .1 in
     let bytes : Bytes 2 register 0 0 = record { op-small = lit< tt; a-small = omega arith; b-small = lit< tt; c-small = lit< tt } in
@@ -54,7 +53,7 @@ put-wide-requires c κs =
     let next-register = c .before .before .before .before .before .before .before .next-register in
     let emit = c .before .before .before .emit in
     let start = c .before .before .before .before .before .before .before .before .before .before .before .before .before .before .before .before .before .before .before in
-    let line = one (new-global .ensures 0) ▹ one (next-register .ensures .0) ▹ one (emit .ensures) in
+    let line = one (new-global .ensures) ▹ one (next-register .ensures .0) ▹ one (emit .ensures) in
     let register = next-register .result .result in
     let small = next-register .ensures .1 in
     let bytes : (45 < 256) × (register < 256) = (lit< tt, omega arith) in
@@ -74,7 +73,7 @@ returns c =
     let if1 = c .before .before .before .before .before .before .before .before .before .before .before .before .before .before .before .before .if1 in
     let given = start .pre .0 in
     let held = let-node (fields (now (start .args .tree))) (given .lawful .shapes) (start .args .node) (inside (given .lawful) (given .known)) (start .pre .1) in
-    let k = new-global .ensures (let-of .result .mark) in
+    let k = new-global .ensures in
     let a = next-register .ensures .0 in
     let b = emit .ensures in
     let d = put-wide .ensures in
@@ -104,7 +103,7 @@ returns-2 c =
     let a = next-register2 .ensures .0 in
     let d = allocate-register .ensures in
     gives (uses 8 1 0) (one a ▹ one d) (omega arith) (omega arith) (omega arith) (λ z. omega arith) (omega arith)
-    (λ ps. rw (held .is-only (start .pre .2)) (rw (let-of .ensures .0) at (let-only-chain _ (token (let-of .result .name) (let-of .result .mark)) _ _ _ (is-global-context .ensures .1 _ (start .args .step) (given .fine .sound) ps) .1 (if1 .left) _ (a .runs ps) _ (known _ _ _ ps) _ (d .runs ps))))
+    (λ ps. rw (held .is-only (start .pre .2)) (rw (let-of .ensures .0) at (let-only-chain _ (let-of .result .token) _ _ _ (is-global-context .ensures .1 _ (start .args .step) (given .fine .sound) ps) .1 (if1 .left) _ (a .runs ps) _ (known _ _ _ ps) _ (d .runs ps))))
     (always (next-register2 .result .outcome) (next-register2 .ensures .1))
 
 pub let-only-spec : {M : Type 1} → statement M

@@ -3,7 +3,6 @@ use borrow.Author.Needs.{needs}
 use Rattle.routines.proofs.let_stmt.new_global.Statement.{statement}
 use Rattle.routines.proofs.let_stmt.new_global.Tie as tie
 use native.Mathlib.Omega.{arith}
-use Rattle.meaning.specs.Read.{token}
 use Rattle.meaning.specs.declared.Cause.the-variants.{Redefined}
 use Rattle.forward.proofs.Chains.{new-global-chain}
 use Rattle.store.specs.Promise.{nothing}
@@ -17,7 +16,7 @@ returns c =
     let told = c .before .before .is-global-var .ensures .1 in
     let last = refused-leaf (s .step) Redefined (s .node) nothing (start .pre .0) in
     rw (c .refuse .ensures)
-    (λ mark. ends _ (from (start .pre .0) (start .pre .1) ▹ last) (search needs) (λ ps. new-global-chain (s .node) (token (s .name) mark) _ _ _ (told ps) .0 (c .before .if1 .taken) _ (last .runs ps)))
+    (ends _ (from (start .pre .0) (start .pre .1) ▹ last) (search needs) (λ ps. new-global-chain (s .node) (s .token) _ _ _ (told ps) .0 (c .before .if1 .taken) _ (last .runs ps)))
 
 add-global-requires : tie.Need-add-global-requires
 add-global-requires c κs =
@@ -32,7 +31,7 @@ returns-2 c =
     let told = c .before .before .before .before .before .before .before .before .before .is-global-var .ensures .1 in
     let name = c .before .before .before .before .before .before .add-global .ensures in
     let last = c .before .before .add-name .ensures in
-    λ mark. ends _ (from (start .pre .0) (start .pre .1) ▹ name ▹ last) (search needs) (λ ps. new-global-chain (s .node) (token (s .name) mark) _ _ _ (told ps) .1 (c .before .before .before .before .before .before .before .before .if1 .left) _ (name .runs ps) _ (last .runs ps))
+    ends _ (from (start .pre .0) (start .pre .1) ▹ name ▹ last) (search needs) (λ ps. new-global-chain (s .node) (s .token) _ _ _ (told ps) .1 (c .before .before .before .before .before .before .before .before .if1 .left) _ (name .runs ps) _ (last .runs ps))
 
 pub new-global-spec : {M : Type 1} → statement M
 new-global-spec =

@@ -4,7 +4,6 @@ use Rattle.routines.proofs.names.declare.Statement.{statement}
 use Rattle.routines.proofs.names.declare.Tie as tie
 use mathlib.Core.Path.{sym, _∙_}
 use native.Mathlib.Omega.{arith}
-use Rattle.meaning.specs.Read.{token}
 use Rattle.forward.proofs.Leaves.{declare-chain}
 use Rattle.forward.proofs.Chains.{declare-name-chain}
 use Rattle.routines.proofs.PieceLine.{from, _▹_, owes, spared, here, ends, stays-put}
@@ -28,8 +27,8 @@ returns c =
     let global = c .before .before .before .before .before .is-global-context .ensures in
     let at = alone (s .scope) (sym (global .0) ∙ c .before .before .before .before .if1 .taken) in
     let line = from (start .pre .0) (start .pre .1) ▹ register .0 ▹ name in (
-      λ mark. ends _ line (record { words = omega arith; locals = omega arith; names = omega (arith, at .depth, at .block); still = λ z. z; visits = omega arith })
-          (λ ps. let x = token (s .name) mark in declare-chain (s .node) x _ _ (register .0 .runs ps) _ (declare-name-chain x _ _ _ (global .1 _ _ (register .0 .moves .fine .sound) ps) .0 (c .before .before .before .before .if1 .taken) _ (name .runs ps))),
+      ends _ line (record { words = omega arith; locals = omega arith; names = omega (arith, at .depth, at .block); still = λ z. z; visits = omega arith })
+          (λ ps. declare-chain (s .node) (s .token) _ _ (register .0 .runs ps) _ (declare-name-chain (s .token) _ _ _ (global .1 _ _ (register .0 .moves .fine .sound) ps) .0 (c .before .before .before .before .if1 .taken) _ (name .runs ps))),
       here line (λ g. omega (arith, register .1, global-keeps _ name g .result)),
     )
 
@@ -40,8 +39,8 @@ returns-2 c =
     let register = c .before .before .before .before .next-register .ensures in
     let global = c .before .is-global-context .ensures in
     let line = from (start .pre .0) (start .pre .1) ▹ register .0 in (
-      λ mark. ends _ line (search needs)
-          (λ ps. let x = token (s .name) mark in declare-chain (s .node) x _ _ (register .0 .runs ps) _ (declare-name-chain x _ _ _ (global .1 _ _ (register .0 .moves .fine .sound) ps) .1 (c .if1 .left) _ (stays-put _))),
+      ends _ line (search needs)
+          (λ ps. declare-chain (s .node) (s .token) _ _ (register .0 .runs ps) _ (declare-name-chain (s .token) _ _ _ (global .1 _ _ (register .0 .moves .fine .sound) ps) .1 (c .if1 .left) _ (stays-put _))),
       here line (λ g. register .1),
     )
 

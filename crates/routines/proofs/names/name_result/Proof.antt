@@ -4,7 +4,6 @@ use Rattle.routines.proofs.names.name_result.Statement.{statement}
 use Rattle.routines.proofs.names.name_result.Tie as tie
 use mathlib.Core.Path.{sym, _∙_}
 use native.Mathlib.Omega.{arith}
-use Rattle.meaning.specs.Read.{token}
 use Rattle.forward.proofs.Leaves.{name-result-chain}
 use Rattle.store.proofs.Runs.{due}
 use Rattle.store.proofs.Compose.{known}
@@ -40,7 +39,7 @@ returns c =
     let last = c .before .before .put-wide .ensures in
     let line = owing-from (start .pre .0) (start .pre .1) ▹ constant ▹ last in (
       ends _ line (record { words = omega arith; locals = omega arith; names = omega (arith, at .depth, at .block); still = λ z. omega (arith, z); visits = omega arith })
-          (λ ps. name-result-chain (s .node) (token (s .name) (s .mark)) _ _ (known _ _ _ ps) _ _ (global .1 _ _ (start .pre .0 .sound) ps) .0 (c .before .before .before .before .before .before .before .before .if1 .taken) _ (constant .runs ps) _ (known _ _ _ ps) _ (last .runs ps)),
+          (λ ps. name-result-chain (s .node) (s .token) _ _ (known _ _ _ ps) _ _ (global .1 _ _ (start .pre .0 .sound) ps) .0 (c .before .before .before .before .before .before .before .before .if1 .taken) _ (constant .runs ps) _ (known _ _ _ ps) _ (last .runs ps)),
       here line (λ g. omega (arith, due (s .step .outcome) (start .pre .2) (line .moves .back g), put-keeps _ _ last g .result)),
     )
 
@@ -53,7 +52,7 @@ returns-2 c =
     let last = c .before .before .allocate-register .ensures in
     let line = owing-from (start .pre .0) (start .pre .1) ▹ last in (
       ends _ line (record { words = omega arith; locals = omega arith; names = omega (arith, apart); still = λ z. omega (arith, z); visits = omega arith })
-          (λ ps. name-result-chain (s .node) (token (s .name) (s .mark)) _ _ (known _ _ _ ps) _ _ (global .1 _ _ (start .pre .0 .sound) ps) .1 (c .before .before .before .before .if1 .left) _ (last .runs ps)),
+          (λ ps. name-result-chain (s .node) (s .token) _ _ (known _ _ _ ps) _ _ (global .1 _ _ (start .pre .0 .sound) ps) .1 (c .before .before .before .before .if1 .left) _ (last .runs ps)),
       start .pre .2,
     )
 

@@ -2,7 +2,6 @@
 use borrow.Author.Needs.{needs}
 use Rattle.routines.proofs.try_catch_stmt.open_catch.Statement.{statement}
 use Rattle.routines.proofs.try_catch_stmt.open_catch.Tie as tie
-use Rattle.meaning.specs.Read.{token}
 use Rattle.store.proofs.Compose.{known}
 use Rattle.routines.proofs.PieceLine.{from, _▹_, room, here, ends}
 use Rattle.routines.proofs.Named.{open-catch-chain}
@@ -34,7 +33,7 @@ returns c =
     let except = c .before .before .before .before .before .before .emit .ensures in
     let last = c .before .before .emit2 .ensures in
     ends _ (from (start .pre .0) (start .pre .1) ▹ register ▹ except ▹ last) (search needs)
-    (λ ps. open-catch-chain (s .node) (token (s .name) (s .mark)) _ _ (register .runs ps) _ (known _ _ _ ps) _ (except .runs ps) _ (last .runs ps))
+    (λ ps. open-catch-chain (s .node) (s .token) _ _ (register .runs ps) _ (known _ _ _ ps) _ (except .runs ps) _ (last .runs ps))
 
 pub open-catch-spec : {M : Type 1} → statement M
 open-catch-spec =
