@@ -6,7 +6,7 @@
 //     HIGH      times the highest that it may be
 // Most nodes have a form, and are told without going from row to row: a first word, any words, and expressions. Where a payload may have two lengths, the
 // longer one has the form. specs/Starts.antt has the same table, and proofs/Forms.antt proves that the forms say what the rows say.
-use fields::wide;
+use fields::as_size;
 ghost use mathlib.Core.Path.{_≡_};
 ghost use Rattle.tree.specs.Rows.{start-of};
 ghost use Rattle.tree.specs.Starts.{start-list, first-in, Start};
@@ -160,7 +160,7 @@ pub(crate) fn start_of(starts: &[usize; 30], four: bool, tag: u8, last: bool) ->
         return NO_FORM;
     }
     if tag < 0x1E {
-        return starts[wide(tag)];
+        return starts[as_size(tag)];
     }
     NO_FORM
 }

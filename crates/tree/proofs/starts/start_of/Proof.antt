@@ -21,7 +21,7 @@ returns-2 c = (rw (c .before .if1 .taken, c .if2 .left), record { low = omega ar
 
 returns-3 : tie.Need-returns-3
 returns-3 c = let t = c .before .before in let s = t .before .before in
-    rw (s .pre, c .before .wide .ensures .0)
+    rw (s .pre, c .before .as-size .ensures .0)
     (start-row _ _ (t .if3 .taken) ∙ start-tag _ _ (t .if3 .taken) ∙ rw (t .before .if1 .left), start-is _ _ (t .if3 .taken))
 
 returns-4 : tie.Need-returns-4
