@@ -2,14 +2,14 @@
 -- what is returned (r) and what is left behind each reference (s).
 use mathlib.Core.Path.{_≡_, sym, _∙_}
 use denote.Ref.{now}
-use Rattle.fields.proofs.wide.Reads as wide
+use Rattle.fields.proofs.as_size.Reads as as-size
 use Rattle.fields.proofs.word.Reads as word
 use Rattle.fields.proofs.is_whole.Reads as is-whole
 use Rattle.fields.proofs.span_of.Reads as span-of
 use Rattle.fields.proofs.payload.Reads as payload
 
-pub wide-determined : (κs : _) (args : _) (r r' : _) (s s' : _) → wide.Post κs args r s → wide.Post κs args r' s' → r ≡ r'
-wide-determined κs args r r' s s' p q = p .0 ∙ sym (q .0)
+pub as-size-determined : (κs : _) (args : _) (r r' : _) (s s' : _) → as-size.Post κs args r s → as-size.Post κs args r' s' → r ≡ r'
+as-size-determined κs args r r' s s' p q = p .0 ∙ sym (q .0)
 
 pub word-determined : (κs : _) (args : _) (r r' : _) (s s' : _) → word.Post κs args r s → word.Post κs args r' s' → r ≡ r'
 word-determined κs args r r' s s' p q = p .0 ∙ sym (q .0)

@@ -4,7 +4,7 @@ ghost use Prim.Native.Nat.{_+_, _<_, _≤_};
 ghost use lib.ListN.{length};
 ghost use Rattle.meaning.specs.Fields.{word-at, span, whole, payload-of};
 
-pub fn wide(x: u8) -> usize
+pub fn as_size(x: u8) -> usize
     ensures { λ r. ⌜ (r ≡ x) × (r < 256) ⌝ }
 {
     x as usize
@@ -15,7 +15,7 @@ pub fn word(s: &[u8], at: usize) -> usize
     requires { ⌜ at + 2 ≤ length (now s) ⌝ }
     ensures { λ r. ⌜ (r ≡ word-at (now (s .entry)) at) × (r < 65536) ⌝ }
 {
-    wide(s[at]) * 256 + wide(s[at + 1])
+    as_size(s[at]) * 256 + as_size(s[at + 1])
 }
 
 // A whole field stands at the front.

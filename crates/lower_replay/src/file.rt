@@ -34,7 +34,7 @@ pub(crate) fn byte(text: &[u8; 1000000], at: usize) -> u8 {
     if at < 1000000 { text[at] } else { 0 }
 }
 
-pub(crate) fn wide(x: u8) -> usize
+pub(crate) fn as_size(x: u8) -> usize
     ensures { λ r. ⌜ r < 256 ⌝ }
 {
     x as usize
@@ -44,7 +44,7 @@ pub(crate) fn wide(x: u8) -> usize
 pub(crate) fn short(text: &[u8; 1000000], at: usize) -> usize
     ensures { λ r. ⌜ r < 65536 ⌝ }
 {
-    wide(byte(text, at)) * 256 + wide(byte(text, forth(at, 1)))
+    as_size(byte(text, at)) * 256 + as_size(byte(text, forth(at, 1)))
 }
 
 // Four bytes.
@@ -152,7 +152,7 @@ fn grow(text: &[u8; 1000000], steps: usize, tree: &mut [u8], from: usize, j: usi
         let step = forth(steps, 2 + 4 * i);
         let high = onward(from, short(text, step));
         let low = onward(high, 1);
-        let old = wide(get(tree, high)) * 256 + wide(get(tree, low));
+        let old = as_size(get(tree, high)) * 256 + as_size(get(tree, low));
         let new = grown(old, j, short(text, forth(step, 2)));
         put(tree, high, (new / 256) as u8);
         put(tree, low, (new % 256) as u8);

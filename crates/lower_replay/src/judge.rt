@@ -73,7 +73,7 @@ fn checksum(out: &[u8], count: usize) -> usize {
     let mut b: usize = 0;
     let mut i: usize = 0;
     while i < count && i < out.len() {
-        a = (a + file::wide(out[i])) % 65521;
+        a = (a + file::as_size(out[i])) % 65521;
         b = (b + a) % 65521;
         i += 1;
     }

@@ -1,7 +1,7 @@
 // The walk over the fields of an image in order: which of them are instructions that are replaced.
 use fields::is_whole;
 use fields::span_of;
-use fields::wide;
+use fields::as_size;
 use fields::word;
 use reader::is_replaced;
 ghost use mathlib.Core.Path.{_≡_};
@@ -27,7 +27,7 @@ pub(crate) fn is_hit(t: &[u8], tag: u8, c: Course) -> bool
 {
     let size = word(t, 1);
     if ((t[0] == tag) & (4 <= size)) & ((0 < c.met) & (c.index < c.code)) {
-        return is_replaced(t[3], wide(t[4]), word(t, 5), c.index, c.code);
+        return is_replaced(t[3], as_size(t[4]), word(t, 5), c.index, c.code);
     }
     false
 }

@@ -45,7 +45,7 @@ pub fn decimal(word: &[u8]) -> Spelled
     let mut value: u64 = 0;
     let mut i: usize = 0;
     while i < word.len() {
-        let digit = wide(word[i]);
+        let digit = as_u64(word[i]);
         if digit < 48 {
             return Spelled::Wrong;
         }
@@ -61,7 +61,7 @@ pub fn decimal(word: &[u8]) -> Spelled
     Spelled::Number(value)
 }
 
-fn wide(x: u8) -> u64
+fn as_u64(x: u8) -> u64
     ensures { λ r. ⌜ r ≡ x ⌝ }
 {
     x as u64

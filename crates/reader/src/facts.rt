@@ -1,5 +1,5 @@
 // The facts of an instruction (specs/Rules), as tests of numbers (specs/Tests).
-use fields::wide;
+use fields::as_size;
 ghost use mathlib.Core.Path.{_≡_};
 ghost use mathlib.Core.Bool.{Bool, true, _&&_, _||_};
 ghost use Prim.Native.Nat.{ℕ, max, _+_, _*_, _<_, _≤_};
@@ -240,7 +240,7 @@ fn kind_of(kinds: &[u8; 51], o: u8) -> u8
     ensures { λ r. ⌜ r ≡ kind-seen o ⌝ }
 {
     if o < 51 {
-        return kinds[wide(o)];
+        return kinds[as_size(o)];
     }
     4
 }
@@ -356,9 +356,9 @@ pub(crate) fn first_unlawful(
     while i < n {
         let base = at + i * span;
         let o = t[base + 3];
-        let a = wide(t[base + 4]);
-        let b = wide(t[base + 5]);
-        let c = wide(t[base + 6]);
+        let a = as_size(t[base + 4]);
+        let b = as_size(t[base + 5]);
+        let c = as_size(t[base + 6]);
         let w = b * 256 + c;
         if !has_facts(
             v,

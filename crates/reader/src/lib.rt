@@ -39,7 +39,7 @@ fn ruled(spot: Spot, count: usize) -> Outcome
 }
 
 // The facts of an image in order, which has `count` fields. The tables stand on the stack, small ones for a short image, so that few bytes are made.
-fn judged(image: &[u8], tag: u8, count: usize, mend: bool) -> Outcome
+fn read_facts(image: &[u8], tag: u8, count: usize, mend: bool) -> Outcome
     requires { ⌜ Ordered (now image) tag ⌝ }
     ensures { λ r. ⌜ r ≡ read-outcome count (ruled (lens-image mend (image-of tag (fields (now (image .entry))))) (broken (lens-image mend (image-of tag (fields (now (image .entry))))))) ⌝ }
 {
@@ -71,7 +71,7 @@ fn read_as(image: &[u8], tag: u8, mend: bool) -> Outcome
     }
     let spot = framed.spot;
     match spot {
-        Spot::Nowhere => judged(image, tag, framed.count, mend),
+        Spot::Nowhere => read_facts(image, tag, framed.count, mend),
         Spot::At(place) => Outcome::Refused(Cause::ImageRule, place),
     }
 }

@@ -1,7 +1,7 @@
 // Frame, and which field may follow which (specs/Follow).
+use fields::as_size;
 use fields::is_whole;
 use fields::span_of;
-use fields::wide;
 use fields::word;
 use meaning::Due;
 ghost use mathlib.Core.Path.{_≡_};
@@ -73,7 +73,7 @@ fn glance(t: &[u8]) -> Seen
         return Seen {
             tag: tag,
             size: size,
-            first: wide(t[3]),
+            first: as_size(t[3]),
             captures: 0,
             code: 0,
         };

@@ -1,5 +1,5 @@
 -- A payload of fixed length is told by its form: the loop over its words (`Fitting`) is followed over a first word, any words and the expressions at its
--- end, each of which says that the rest is as the rows say. That each start's form is its rows' is one test, computed over both tables.
+-- end, each of which says that the rest is as the rows say. That each start's form is its rows' is one test, computed over the table.
 use mathlib.Core.Path.{_≡_, refl, sym, ap, subst, _∙_}
 use mathlib.Core.Bool.{Bool, true, false, not, _&&_, cond}
 use mathlib.Core.Logic.{_⊎_, inl, inr, ⊎-elim}
@@ -14,7 +14,7 @@ use Rattle.meaning.specs.Fields.{word-at}
 use Rattle.meaning.specs.Grammar.{any, expr, bounds, bound, inside, names, lawful}
 use Rattle.meaning.proofs.Lists.{tail-part, and-left, and-right, false-true, all-to, all-below}
 use Rattle.tree.specs.Rows.{row-list, first-rows, row-at, kind-in, next-in, flow-in, ends-in, next-left, next-row, fits-row}
-use Rattle.tree.specs.Starts.{start-list, first-in, size-in, children-in, low-in, high-in, like, led, reaches, lead, says, formed, Start}
+use Rattle.tree.specs.Starts.{start-list, start-at, first-in, size-in, children-in, low-in, high-in, like, led, reaches, lead, says, formed, Start}
 use Rattle.tree.specs.Scratch.{tags-in, note-word, note-row}
 use Rattle.tree.proofs.Payloads.{Fitting, fitting-start, fitting-more, fitting-stop, fitting-end}
 
@@ -82,7 +82,7 @@ module _ (l₀ : List ℕ) (i first : ℕ) (p : List ℕ) where
       (x .0, x .1, subst (λ (n : List ℕ). Fitting l₀ i first p l n (x .0) 0) (drop-drop (2 * m) 2 q ∙ ap (λ (n : ℕ). drop n q) d) (x .2))
 
   -- b words, the first one of a kind
-  led-more : (b k : ℕ) (ks : List ℕ) → first < 163 → k < 6 → like first (led k b ++ ks) ≡ true → 2 * b ≤ length p → ((j : ℕ) → getD p j 0 < 256) → (0 < b → inside k (word-at p 0) ≡ true)
+  led-more : (b k : ℕ) (ks : List ℕ) → first < 122 → k < 6 → like first (led k b ++ ks) ≡ true → 2 * b ≤ length p → ((j : ℕ) → getD p j 0 < 256) → (0 < b → inside k (word-at p 0) ≡ true)
       → (r′ : ℕ) × (like r′ ks ≡ true) × Fitting l₀ i first p l₀ (drop (2 * b) p) r′ 0
   unfolding led
   led-more zero k ks low h e size bytes ok = (first, e, fitting-start l₀ i first p low)
@@ -148,7 +148,7 @@ module _ (k low high w : ℕ) (e : reaches k low high ≡ true) (h : w < 65536) 
       go false t = refl
 
 -- a first word that is not within its bounds
-first-stop : (l₀ : List ℕ) (i r : ℕ) (p : List ℕ) (n k : ℕ) (ks : List ℕ) → r < 163 → k < 6 → (n ≡ 0 → k ≡ any) → like r (led k n ++ ks) ≡ true → 2 * n ≤ length p → word-at p 0 < 65536
+first-stop : (l₀ : List ℕ) (i r : ℕ) (p : List ℕ) (n k : ℕ) (ks : List ℕ) → r < 122 → k < 6 → (n ≡ 0 → k ≡ any) → like r (led k n ++ ks) ≡ true → 2 * n ≤ length p → word-at p 0 < 65536
     → inside k (word-at p 0) ≡ false → Told l₀ i r p false l₀
 unfolding led
 first-stop l₀ i r p zero k ks low h none e size small bad = absurd (false-true (sym bad ∙ ap (λ (m : ℕ). inside m (word-at p 0)) (none refl) ∙ any-inside (word-at p 0) small))
@@ -189,7 +189,7 @@ module _ (r size c low high : ℕ) (e : says r size c low high ≡ true) where
       (eqb-true size (2 * (n + c)) (and-right (ltb k expr) _ x), ltb-true 0 size (and-left _ _ y), leb-true c 2 (and-right (ltb 0 size) _ y))
 
   -- a payload of that size, with w for its first word
-  module _ (l₀ : List ℕ) (i : ℕ) (p : List ℕ) (row : r < 163) (len : length p ≡ size) (bytes : (j : ℕ) → getD p j 0 < 256) (w : ℕ) (ew : w ≡ word-at p 0) where
+  module _ (l₀ : List ℕ) (i : ℕ) (p : List ℕ) (row : r < 122) (len : length p ≡ size) (bytes : (j : ℕ) → getD p j 0 < 256) (w : ℕ) (ew : w ≡ word-at p 0) where
     word-small : word-at p 0 < 65536
     word-small = omega (arith, bytes 0, bytes 1)
 
@@ -245,8 +245,8 @@ start-says start s h = s .form h
 
 start-right : (wide : Bool) (tag : ℕ) → Bool
 start-right wide tag =
-    let start = getD (start-list wide) tag 0 in
-    (eqb (first-in start) (getD (first-rows wide) tag 0) && ltb (first-in start) 163) && cond (ltb (size-in start) 65536) (formed start) true
+    let start = start-at wide tag in
+    (eqb (first-in start) (getD (first-rows wide) tag 0) && ltb (first-in start) 122) && cond (ltb (size-in start) 65536) (formed start) true
 
 all-right : (wide : Bool) → all-to (start-right wide) 30 ≡ true
 unfolding all-to start-right start-list first-rows row-list formed says like led reaches bound bounds
@@ -255,18 +255,18 @@ all-right false = refl
 
 module _ (wide : Bool) (tag : ℕ) (h : tag < 30) where
   abbrev it : ℕ
-  it = getD (start-list wide) tag 0
+  it = start-at wide tag
 
   right : start-right wide tag ≡ true
   right = all-below (start-right wide) 30 tag (all-right wide) h
 
   pub start-row : first-in it ≡ getD (first-rows wide) tag 0
   unfolding start-right
-  start-row = eqb-true _ _ (and-left _ _ (and-left (eqb (first-in it) (getD (first-rows wide) tag 0) && ltb (first-in it) 163) _ right))
+  start-row = eqb-true _ _ (and-left _ _ (and-left (eqb (first-in it) (getD (first-rows wide) tag 0) && ltb (first-in it) 122) _ right))
 
   pub start-is : Start it
   unfolding start-right
   start-is = record {
-    low = ltb-true (first-in it) 163 (and-right (eqb (first-in it) (getD (first-rows wide) tag 0)) _ (and-left (eqb (first-in it) (getD (first-rows wide) tag 0) && ltb (first-in it) 163) _ right));
-    form = λ q. rw (lt-ltb (size-in it) 65536 q) at (and-right (eqb (first-in it) (getD (first-rows wide) tag 0) && ltb (first-in it) 163) _ right);
+    low = ltb-true (first-in it) 122 (and-right (eqb (first-in it) (getD (first-rows wide) tag 0)) _ (and-left (eqb (first-in it) (getD (first-rows wide) tag 0) && ltb (first-in it) 122) _ right));
+    form = λ q. rw (lt-ltb (size-in it) 65536 q) at (and-right (eqb (first-in it) (getD (first-rows wide) tag 0) && ltb (first-in it) 122) _ right);
   }

@@ -63,13 +63,13 @@ two-less q h = simp (tail-part, length-drop) (omega arith)
 -- ---- the loop: l₀ and p are the scratch and the payload at the start, l and q as they are now
 
 pub record Fitting (l₀ : List ℕ) (i first : ℕ) (p l q : List ℕ) (at left : ℕ) : Type 0 where
-  pub low : at < 163
+  pub low : at < 122
   pub size : length l ≡ length l₀
   pub tags : tags-in l ≡ tags-in l₀
   pub fit : fits-row (lawful (tags-in l₀) i) first 0 p ≡ fits-row (lawful (tags-in l₀) i) at left q
   pub notes : note-row (lawful (tags-in l₀) i) l₀ i first 0 p ≡ note-row (lawful (tags-in l₀) i) l i at left q
 
-pub fitting-start : (l₀ : List ℕ) (i first : ℕ) (p : List ℕ) → first < 163 → Fitting l₀ i first p l₀ p first 0
+pub fitting-start : (l₀ : List ℕ) (i first : ℕ) (p : List ℕ) → first < 122 → Fitting l₀ i first p l₀ p first 0
 fitting-start l₀ i first p h = record { low = h; size = refl; tags = refl; fit = refl; notes = refl }
 
 module _ (l₀ : List ℕ) (i first : ℕ) (p l q : List ℕ) (at left : ℕ) (v : Fitting l₀ i first p l q at left) where

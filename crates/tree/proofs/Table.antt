@@ -88,18 +88,27 @@ all-spots : List (List Item) → List Spot
 all-spots [] = []
 all-spots (is ∷ iss) = spots-of is ++ all-spots iss
 
--- of these payloads those that wide marks change
-widened : List (List Item) → List (List Item)
+is-among : Spot → List Spot → Bool
+is-among p [] = false
+is-among p (q ∷ qs) = cond (eq-list (p .pre) (q .pre) && (eq-list (p .grp) (q .grp) && eq-items (p .post) (q .post))) true (is-among p qs)
+
+-- of these spots those that are not among the old ones
+fresh : (old new : List Spot) → List Spot
+fresh old [] = []
+fresh old (p ∷ ps) = cond (is-among p old) [] (p ∷ []) ++ fresh old ps
+
+-- the spots of these payloads that only wide marks make
+widened : List (List Item) → List Spot
 widened [] = []
-widened (is ∷ iss) = cond (eq-items (spread true is) (spread false is)) [] (spread true is ∷ []) ++ widened iss
+widened (is ∷ iss) = fresh (spots-of (spread false is)) (spots-of (spread true is)) ++ widened iss
 
 -- the tags up to 1E: what stands from 1F to 3D is never, and the payload of 3E is that of 1E
 tags : List (List Item)
 tags = take 31 grammar
 
--- narrow ones first, then those that wide marks change
+-- narrow ones first, then those that wide marks make
 spots : List Spot
-spots = at-items never ∷ at-items [] ∷ all-spots (map (spread false) tags ++ widened tags)
+spots = at-items never ∷ at-items [] ∷ all-spots (map (spread false) tags) ++ widened tags
 
 spot : ℕ → Spot
 spot r = getD spots r (at-items [])
@@ -178,8 +187,8 @@ module _ (r : ℕ) where
   common =
       eqb kind (kind-of (fixed here))
       ∷ same (ends-in (row-at r)) (ends (fixed here))
-      ∷ ltb next 163
-      ∷ ltb done 163
+      ∷ ltb next 122
+      ∷ ltb done 122
       ∷ cond (plain here) true (not (null (here .pre)))
       ∷ ltb kind 12
       ∷ []
@@ -224,8 +233,8 @@ module _ (r : ℕ) where
       all-true common
       && cond (eqb flow 0) (cond (plain here) (all-true alone) (all-true within)) (cond (eqb flow 1) (all-true counts) (all-true last))
 
-rows-ok : all-to ok-row 163 ≡ true
-unfolding all-to ok-row common alone within counts last all-true same spot spots all-spots tags widened spread spread-kinds spots-of in-group at-items fixed null plain uncounted eq-list eq-items ctor args row-list grammar ends kind-of due-after
+rows-ok : all-to ok-row 122 ≡ true
+unfolding all-to ok-row common alone within counts last all-true same spot spots all-spots tags widened fresh is-among spread spread-kinds spots-of in-group at-items fixed null plain uncounted eq-list eq-items ctor args row-list grammar ends kind-of due-after
 rows-ok = refl
 
 -- ---- what the test says
@@ -236,7 +245,7 @@ Valid r l = (plain (spot r) ≡ true) ⊎ (1 ≤ l)
 -- row r′ is one where these items are due, with l′ groups left
 record Goes (r′ l′ : ℕ) (is : List Item) : Type 0 where
   due : state (spot r′) l′ ≡ is
-  low : r′ < 163
+  low : r′ < 122
   valid : Valid r′ l′
 
 rest-ones : (ks : List ℕ) (is : List Item) (w : ℕ) → not (null ks) ≡ true → due-after (ones ks is) w ≡ ones (drop 1 ks) is
@@ -244,9 +253,9 @@ unfolding null due-after
 rest-ones [] is w e = absurd (false-true e)
 rest-ones (k ∷ ks) is w e = refl
 
-module _ (r : ℕ) (h : r < 163) where
+module _ (r : ℕ) (h : r < 122) where
   ok : ok-row r ≡ true
-  ok = all-below ok-row 163 r rows-ok h
+  ok = all-below ok-row 122 r rows-ok h
 
   every : (k : ℕ) → getD (common r) k true ≡ true
   unfolding ok-row
@@ -256,20 +265,20 @@ module _ (r : ℕ) (h : r < 163) where
   unfolding common
   kind-low = ltb-true _ 12 (every 5)
 
-  next-low : next r < 163
+  next-low : next r < 122
   unfolding common
-  next-low = ltb-true _ 163 (every 2)
+  next-low = ltb-true _ 122 (every 2)
 
-  done-low : done r < 163
+  done-low : done r < 122
   unfolding common
-  done-low = ltb-true _ 163 (every 3)
+  done-low = ltb-true _ 122 (every 3)
 
   -- whatever is left, the next row is a row
-  pub row-low : (l : ℕ) → next-row (row-at r) l < 163
+  pub row-low : (l : ℕ) → next-row (row-at r) l < 122
   unfolding next-row
   row-low l = go (eqb (flow r) 0) (eqb l 0)
     where
-      go : (a b : Bool) → cond a (next r) (cond b (done r) (next r)) < 163
+      go : (a b : Bool) → cond a (next r) (cond b (done r) (next r)) < 122
       go true b = next-low
       go false true = done-low
       go false false = next-low
@@ -435,7 +444,7 @@ module _ (r : ℕ) (h : r < 163) where
 
 -- ---- a payload fits by the rows as it fits by the items, and names the same children
 
-fits-state : (ok : ℕ → ℕ → Bool) (p : List ℕ) (r l : ℕ) → r < 163 → Valid r l → fits-row ok r l p ≡ fits ok (state (spot r) l) p
+fits-state : (ok : ℕ → ℕ → Bool) (p : List ℕ) (r l : ℕ) → r < 122 → Valid r l → fits-row ok r l p ≡ fits ok (state (spot r) l) p
 unfolding fits-row fits
 fits-state ok [] r l h v = ends-is r h l v
 fits-state ok (a ∷ []) r l h v = refl
@@ -444,7 +453,7 @@ fits-state ok (a ∷ b ∷ p) r l h v =
     ap₂ _&&_ (ap (λ (k : ℕ). ok k (a * 256 + b)) (kind-is r h l v))
     (fits-state ok p _ _ (g .low) (g .valid) ∙ ap (λ (is : List Item). fits ok is p) (g .due))
 
-kids-state : (p : List ℕ) (r l : ℕ) → r < 163 → Valid r l → kids-row r l p ≡ kids (state (spot r) l) p
+kids-state : (p : List ℕ) (r l : ℕ) → r < 122 → Valid r l → kids-row r l p ≡ kids (state (spot r) l) p
 unfolding kids-row kids
 kids-state [] r l h v = refl
 kids-state (a ∷ []) r l h v = refl
@@ -456,14 +465,14 @@ kids-state (a ∷ b ∷ p) r l h v =
 -- ---- the first row of each tag
 
 start-tests : ℕ → List Item → List Bool
-start-tests row is = eq-items (fixed (spot row)) is ∷ ltb row 163 ∷ plain (spot row) ∷ []
+start-tests row is = eq-items (fixed (spot row)) is ∷ ltb row 122 ∷ plain (spot row) ∷ []
 
 -- the row of a tag: a program's is 77
 abbrev row-of : (wide : Bool) → (tag : ℕ) → ℕ
 row-of wide tag = cond (is-program tag) 77 (getD (first-rows wide) tag 0)
 
 starts-ok : (wide : Bool) → all-to (λ tag. all-true (start-tests (row-of wide tag) (spread wide (getD grammar tag never)))) 63 ≡ true
-unfolding all-to all-true start-tests first-rows spot spots all-spots tags widened spread spread-kinds spots-of in-group at-items fixed null plain eq-list eq-items ctor args grammar
+unfolding all-to all-true start-tests first-rows spot spots all-spots tags widened fresh is-among spread spread-kinds spots-of in-group at-items fixed null plain eq-list eq-items ctor args grammar
 starts-ok false = refl
 starts-ok true = refl
 
@@ -493,9 +502,9 @@ start-true wide tag =
     (lt-or-le tag 63)
 
 module _ (row : ℕ) (is : List Item) (t : all-true (start-tests row is) ≡ true) where
-  first-low : row < 163
+  first-low : row < 122
   unfolding start-tests
-  first-low = ltb-true _ 163 (nth-true (start-tests row is) t 1)
+  first-low = ltb-true _ 122 (nth-true (start-tests row is) t 1)
 
   first-valid : Valid row 0
   unfolding start-tests

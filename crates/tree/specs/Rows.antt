@@ -1,5 +1,5 @@
--- The grammar as the code has it: a table of rows, a row for each place in the payload of each tag, and further rows for tags whose marks are wide.
--- A row is one number:
+-- The grammar as the code has it: a table of rows, a row for each place in the payload of each tag, and further ones for the places that only
+-- wide marks make. A row is one number:
 --     kind      what the word there is, in the lowest four bits
 --     next      16 times the row of the word after it
 --     done      4,096 times the row of the word after it, where no group of a counted run is left to come
@@ -138,112 +138,71 @@ row-list =
     ending (word stmt 77) ∷
     -- 78: 04 variable, wide
     word name 79 ∷
-    word any 80 ∷
-    word any 1 ∷
-    -- 81: 05 unary, wide
-    word op 82 ∷
-    word any 83 ∷
-    word any 84 ∷
-    word expr 1 ∷
-    -- 85: 06 binary, wide
-    word op12 86 ∷
-    word any 87 ∷
-    word any 88 ∷
-    word expr 89 ∷
-    word expr 1 ∷
-    -- 90: 07 logical, wide
-    word op 91 ∷
-    word any 92 ∷
-    word any 93 ∷
-    word expr 94 ∷
-    word expr 1 ∷
-    -- 95: 08 call, wide
-    word expr 96 ∷
+    word any 9 ∷
+    -- 80: 05 unary, wide
+    word op 81 ∷
+    word any 11 ∷
+    -- 82: 06 binary, wide
+    word op12 83 ∷
+    word any 14 ∷
+    -- 84: 07 logical, wide
+    word op 85 ∷
+    word any 18 ∷
+    -- 86: 08 call, wide
+    word expr 87 ∷
+    word any 22 ∷
+    -- 88: 09 function, wide
+    counts 89 27 ∷
+    word name 90 ∷
+    word any 91 ∷
+    closes any 89 27 ∷
+    -- 92: 11 let, wide
+    word name 93 ∷
+    word any 30 ∷
+    -- 94: 13 while, wide
+    word any 33 ∷
+    -- 95: 14 for, wide
+    word any 36 ∷
+    -- 96: 15 for-in, wide
     word any 97 ∷
     word any 98 ∷
-    ending (word expr 98) ∷
-    -- 99: 09 function, wide
-    counts 100 103 ∷
+    word expr 99 ∷
+    word stmt 100 ∷
     word name 101 ∷
     word any 102 ∷
-    closes any 100 103 ∷
-    ending (word stmt 103) ∷
-    -- 104: 11 let, wide
-    word name 105 ∷
-    word any 106 ∷
-    word any 107 ∷
-    ending (word expr 1) ∷
-    -- 108: 13 while, wide
-    word any 109 ∷
-    word any 110 ∷
-    word expr 111 ∷
-    word stmt 1 ∷
-    -- 112: 14 for, wide
-    word any 113 ∷
-    word any 114 ∷
-    word init 115 ∷
-    word expr 116 ∷
-    word expr 117 ∷
-    word stmt 1 ∷
-    -- 118: 15 for-in, wide
+    word any 103 ∷
+    ending (word name 104) ∷
+    word any 105 ∷
+    word any 103 ∷
+    -- 106: 16 break, wide
+    word any 48 ∷
+    -- 107: 17 continue, wide
+    word any 49 ∷
+    -- 108: 18 return, wide
+    word any 50 ∷
+    -- 109: 19 if, wide
+    word any 52 ∷
+    -- 110: 1B try, wide
+    word stmt 111 ∷
+    word name 112 ∷
+    word any 63 ∷
+    -- 113: 1C function statement, wide
+    word name 114 ∷
+    word any 115 ∷
+    word any 116 ∷
+    counts 117 70 ∷
+    word name 118 ∷
     word any 119 ∷
-    word any 120 ∷
-    word expr 121 ∷
-    word stmt 122 ∷
-    word name 123 ∷
-    word any 124 ∷
-    word any 125 ∷
-    ending (word name 126) ∷
-    word any 127 ∷
-    word any 125 ∷
-    -- 128: 16 break, wide
-    word any 129 ∷
-    word any 1 ∷
-    -- 130: 17 continue, wide
-    word any 131 ∷
-    word any 1 ∷
-    -- 132: 18 return, wide
-    word any 133 ∷
-    word any 134 ∷
-    ending (word expr 1) ∷
-    -- 135: 19 if, wide
-    word any 136 ∷
-    word any 137 ∷
-    word expr 138 ∷
-    counts 139 140 ∷
-    closes stmt 139 140 ∷
-    counts 141 142 ∷
-    closes elif 141 142 ∷
-    ending (word stmt 142) ∷
-    -- 143: 1B try, wide
-    word stmt 144 ∷
-    word name 145 ∷
-    word any 146 ∷
-    word any 147 ∷
-    word stmt 1 ∷
-    -- 148: 1C function statement, wide
-    word name 149 ∷
-    word any 150 ∷
-    word any 151 ∷
-    counts 152 155 ∷
-    word name 153 ∷
-    word any 154 ∷
-    closes any 152 155 ∷
-    ending (word stmt 155) ∷
-    -- 156: 1D class, wide
-    word name 157 ∷
-    word any 158 ∷
-    word any 159 ∷
-    word super 160 ∷
-    counts 161 162 ∷
-    closes method 161 162 ∷
-    ending (word method 162) ∷
+    closes any 117 70 ∷
+    -- 120: 1D class, wide
+    word name 121 ∷
+    word any 72 ∷
     []
 
 -- the first row of each tag but a program's, from 00 on, and 0 for a number that is no tag; what has no mark shares its rows in a wide tree
 unfoldable pub first-rows : (wide : Bool) → List ℕ
 first-rows false = 0 ∷ 2 ∷ 6 ∷ 7 ∷ 8 ∷ 10 ∷ 13 ∷ 17 ∷ 21 ∷ 24 ∷ 0 ∷ 0 ∷ 0 ∷ 0 ∷ 0 ∷ 0 ∷ 28 ∷ 29 ∷ 32 ∷ 33 ∷ 36 ∷ 41 ∷ 48 ∷ 49 ∷ 50 ∷ 52 ∷ 59 ∷ 61 ∷ 65 ∷ 71 ∷ []
-first-rows true = 0 ∷ 2 ∷ 6 ∷ 7 ∷ 78 ∷ 81 ∷ 85 ∷ 90 ∷ 95 ∷ 99 ∷ 0 ∷ 0 ∷ 0 ∷ 0 ∷ 0 ∷ 0 ∷ 28 ∷ 104 ∷ 32 ∷ 108 ∷ 112 ∷ 118 ∷ 128 ∷ 130 ∷ 132 ∷ 135 ∷ 59 ∷ 143 ∷ 148 ∷ 156 ∷ []
+first-rows true = 0 ∷ 2 ∷ 6 ∷ 7 ∷ 78 ∷ 80 ∷ 82 ∷ 84 ∷ 86 ∷ 88 ∷ 0 ∷ 0 ∷ 0 ∷ 0 ∷ 0 ∷ 0 ∷ 28 ∷ 92 ∷ 32 ∷ 94 ∷ 95 ∷ 96 ∷ 106 ∷ 107 ∷ 108 ∷ 109 ∷ 59 ∷ 110 ∷ 113 ∷ 120 ∷ []
 
 -- ---- what a row says
 

@@ -1,4 +1,5 @@
-// The payloads of all tags as a table: a row for each place in a payload, and further ones where wide marks make another. A row is one number:
+// The payloads of all tags as a table: a row for each place in a payload, and further ones for the places that only wide marks make: a wide payload
+// goes on in the rows of the narrow one as soon as the same is due. A row is one number:
 //     its kind, what the word there is, in the lowest four bits
 //     NEXT      times the row of the word after it
 //     COUNTS    the word is a count of groups; CLOSES: it is the last of its group. Where no group is left to come,
@@ -46,7 +47,7 @@ const CLOSES: u32 = 2097152;
 
 const ENDS: u32 = 4194304;
 
-pub(crate) const ROWS: [u32; 163] = [
+pub(crate) const ROWS: [u32; 122] = [
     // 0: no tag: nothing fits
     NONE + 1 * NEXT,
     // 1: the end of a payload of fixed length
@@ -153,106 +154,65 @@ pub(crate) const ROWS: [u32; 163] = [
     STMT + 77 * NEXT + ENDS,
     // 78: 04 variable, wide
     NAME + 79 * NEXT,
-    ANY + 80 * NEXT,
-    ANY + 1 * NEXT,
-    // 81: 05 unary, wide
-    OP + 82 * NEXT,
-    ANY + 83 * NEXT,
-    ANY + 84 * NEXT,
-    EXPR + 1 * NEXT,
-    // 85: 06 binary, wide
-    OP12 + 86 * NEXT,
-    ANY + 87 * NEXT,
-    ANY + 88 * NEXT,
-    EXPR + 89 * NEXT,
-    EXPR + 1 * NEXT,
-    // 90: 07 logical, wide
-    OP + 91 * NEXT,
-    ANY + 92 * NEXT,
-    ANY + 93 * NEXT,
-    EXPR + 94 * NEXT,
-    EXPR + 1 * NEXT,
-    // 95: 08 call, wide
-    EXPR + 96 * NEXT,
+    ANY + 9 * NEXT,
+    // 80: 05 unary, wide
+    OP + 81 * NEXT,
+    ANY + 11 * NEXT,
+    // 82: 06 binary, wide
+    OP12 + 83 * NEXT,
+    ANY + 14 * NEXT,
+    // 84: 07 logical, wide
+    OP + 85 * NEXT,
+    ANY + 18 * NEXT,
+    // 86: 08 call, wide
+    EXPR + 87 * NEXT,
+    ANY + 22 * NEXT,
+    // 88: 09 function, wide
+    COUNT + 89 * NEXT + 27 * DONE + COUNTS,
+    NAME + 90 * NEXT,
+    ANY + 91 * NEXT,
+    ANY + 89 * NEXT + 27 * DONE + CLOSES,
+    // 92: 11 let, wide
+    NAME + 93 * NEXT,
+    ANY + 30 * NEXT,
+    // 94: 13 while, wide
+    ANY + 33 * NEXT,
+    // 95: 14 for, wide
+    ANY + 36 * NEXT,
+    // 96: 15 for-in, wide
     ANY + 97 * NEXT,
     ANY + 98 * NEXT,
-    EXPR + 98 * NEXT + ENDS,
-    // 99: 09 function, wide
-    COUNT + 100 * NEXT + 103 * DONE + COUNTS,
+    EXPR + 99 * NEXT,
+    STMT + 100 * NEXT,
     NAME + 101 * NEXT,
     ANY + 102 * NEXT,
-    ANY + 100 * NEXT + 103 * DONE + CLOSES,
-    STMT + 103 * NEXT + ENDS,
-    // 104: 11 let, wide
-    NAME + 105 * NEXT,
-    ANY + 106 * NEXT,
-    ANY + 107 * NEXT,
-    EXPR + 1 * NEXT + ENDS,
-    // 108: 13 while, wide
-    ANY + 109 * NEXT,
-    ANY + 110 * NEXT,
-    EXPR + 111 * NEXT,
-    STMT + 1 * NEXT,
-    // 112: 14 for, wide
-    ANY + 113 * NEXT,
-    ANY + 114 * NEXT,
-    INIT + 115 * NEXT,
-    EXPR + 116 * NEXT,
-    EXPR + 117 * NEXT,
-    STMT + 1 * NEXT,
-    // 118: 15 for-in, wide
+    ANY + 103 * NEXT,
+    NAME + 104 * NEXT + ENDS,
+    ANY + 105 * NEXT,
+    ANY + 103 * NEXT,
+    // 106: 16 break, wide
+    ANY + 48 * NEXT,
+    // 107: 17 continue, wide
+    ANY + 49 * NEXT,
+    // 108: 18 return, wide
+    ANY + 50 * NEXT,
+    // 109: 19 if, wide
+    ANY + 52 * NEXT,
+    // 110: 1B try, wide
+    STMT + 111 * NEXT,
+    NAME + 112 * NEXT,
+    ANY + 63 * NEXT,
+    // 113: 1C function statement, wide
+    NAME + 114 * NEXT,
+    ANY + 115 * NEXT,
+    ANY + 116 * NEXT,
+    COUNT + 117 * NEXT + 70 * DONE + COUNTS,
+    NAME + 118 * NEXT,
     ANY + 119 * NEXT,
-    ANY + 120 * NEXT,
-    EXPR + 121 * NEXT,
-    STMT + 122 * NEXT,
-    NAME + 123 * NEXT,
-    ANY + 124 * NEXT,
-    ANY + 125 * NEXT,
-    NAME + 126 * NEXT + ENDS,
-    ANY + 127 * NEXT,
-    ANY + 125 * NEXT,
-    // 128: 16 break, wide
-    ANY + 129 * NEXT,
-    ANY + 1 * NEXT,
-    // 130: 17 continue, wide
-    ANY + 131 * NEXT,
-    ANY + 1 * NEXT,
-    // 132: 18 return, wide
-    ANY + 133 * NEXT,
-    ANY + 134 * NEXT,
-    EXPR + 1 * NEXT + ENDS,
-    // 135: 19 if, wide
-    ANY + 136 * NEXT,
-    ANY + 137 * NEXT,
-    EXPR + 138 * NEXT,
-    COUNT + 139 * NEXT + 140 * DONE + COUNTS,
-    STMT + 139 * NEXT + 140 * DONE + CLOSES,
-    COUNT + 141 * NEXT + 142 * DONE + COUNTS,
-    ELIF + 141 * NEXT + 142 * DONE + CLOSES,
-    STMT + 142 * NEXT + ENDS,
-    // 143: 1B try, wide
-    STMT + 144 * NEXT,
-    NAME + 145 * NEXT,
-    ANY + 146 * NEXT,
-    ANY + 147 * NEXT,
-    STMT + 1 * NEXT,
-    // 148: 1C function statement, wide
-    NAME + 149 * NEXT,
-    ANY + 150 * NEXT,
-    ANY + 151 * NEXT,
-    COUNT + 152 * NEXT + 155 * DONE + COUNTS,
-    NAME + 153 * NEXT,
-    ANY + 154 * NEXT,
-    ANY + 152 * NEXT + 155 * DONE + CLOSES,
-    STMT + 155 * NEXT + ENDS,
-    // 156: 1D class, wide
-    NAME + 157 * NEXT,
-    ANY + 158 * NEXT,
-    ANY + 159 * NEXT,
-    SUPER + 160 * NEXT,
-    COUNT + 161 * NEXT + 162 * DONE + COUNTS,
-    METHOD + 161 * NEXT + 162 * DONE + CLOSES,
-    METHOD + 162 * NEXT + ENDS,
+    ANY + 117 * NEXT + 70 * DONE + CLOSES,
+    // 120: 1D class, wide
+    NAME + 121 * NEXT,
+    ANY + 72 * NEXT,
 ];
 
 // Of each kind the lowest, the highest and one more that is not lawful: of the word, and from EXPR on of the child's tag.

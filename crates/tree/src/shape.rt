@@ -12,7 +12,6 @@ use crate::starts::HIGH;
 use crate::starts::LOW;
 use crate::starts::SIZE;
 use crate::starts::STARTS;
-use crate::starts::WIDE_STARTS;
 use crate::starts::start_of;
 use fields::is_whole;
 use fields::payload;
@@ -119,13 +118,13 @@ fn admit(scratch: &mut [u32], limits: &[u32; 36], i: usize, kind: usize, w: usiz
 // The payload p of node i fits from a row on.
 fn fits_from(
     scratch: &mut [u32],
-    rows: &[u32; 163],
+    rows: &[u32; 122],
     limits: &[u32; 36],
     i: usize,
     first: usize,
     p: &[u8],
 ) -> bool
-    requires { ⌜ (i < 32768) × (i ≤ length (now scratch)) × (first < 163) × (now rows ≡ row-list) × (now limits ≡ bounds) ⌝ }
+    requires { ⌜ (i < 32768) × (i ≤ length (now scratch)) × (first < 122) × (now rows ≡ row-list) × (now limits ≡ bounds) ⌝ }
     ensures fits { λ r. ⌜ r ≡ fits-row (lawful (tags-in (now (scratch .entry))) i) first 0 (now (p .entry)) ⌝ }
     ensures noted { λ r. ⌜ now (scratch .exit) ≡ note-row (lawful (tags-in (now (scratch .entry))) i) (now (scratch .entry)) i first 0 (now (p .entry)) ⌝ }
 {
@@ -178,7 +177,7 @@ fn fits_form(scratch: &mut [u32], i: usize, start: usize, p: &[u8]) -> bool
 // The payload p of node i fits: by the start's form where it is as long, else from the start's row on.
 fn fits(
     scratch: &mut [u32],
-    rows: &[u32; 163],
+    rows: &[u32; 122],
     limits: &[u32; 36],
     i: usize,
     start: usize,
@@ -214,19 +213,19 @@ pub(crate) struct Walked {
     pub(crate) wrong: usize,
 }
 
-// One walk over the file, by the tables that are lent: the first `limit` nodes are judged, and the offsets of the first `notes` are noted. The contract
-// alone reads whether marks have four bytes, as the starts say.
+// One walk over the file, by the tables that are lent: the first `limit` nodes are judged, by marks of two bytes or of four, and the offsets of the
+// first `notes` are noted.
 fn walk_by(
     scratch: &mut [u32],
     tree: &[u8],
     limit: usize,
     notes: usize,
     four: bool,
-    rows: &[u32; 163],
-    starts: &[usize; 30],
+    rows: &[u32; 122],
+    starts: &[[usize; 2]; 30],
     limits: &[u32; 36],
 ) -> Walked
-    requires { ⌜ Apart limit notes (now scratch) × (now rows ≡ row-list) × (now starts ≡ start-list four) × (now limits ≡ bounds) ⌝ }
+    requires { ⌜ Apart limit notes (now scratch) × (now rows ≡ row-list) × (now starts ≡ start-list) × (now limits ≡ bounds) ⌝ }
     ensures count { λ r. ⌜ r .count ≡ length (fields (now (tree .entry))) ⌝ }
     ensures found { λ r. ⌜ (few (r .count) ≤ limit → Found four (now (tree .entry)) (now (scratch .exit)) (r .count) (r .after) (r .wrong)) ⌝ }
     ensures last { λ r. ⌜ r .last ≡ last-tag (fields (now (tree .entry))) ⌝ }
@@ -271,10 +270,11 @@ pub(crate) fn walk(scratch: &mut [u32], tree: &[u8], limit: usize, notes: usize)
     ensures beyond { λ r. ⌜ Beyond (min (r .count) limit) (with-offsets (now (tree .entry)) (min (r .count) notes) (now (scratch .entry))) (now (scratch .exit)) ⌝ }
 {
     let rows = ROWS;
+    let starts = STARTS;
     let limits = LIMITS;
-    let narrow = walk_by(scratch, tree, limit, notes, false, &rows, &STARTS, &limits);
+    let narrow = walk_by(scratch, tree, limit, notes, false, &rows, &starts, &limits);
     if narrow.last != 0x3E {
         return narrow;
     }
-    walk_by(scratch, tree, limit, 0, true, &rows, &WIDE_STARTS, &limits)
+    walk_by(scratch, tree, limit, 0, true, &rows, &starts, &limits)
 }

@@ -11,16 +11,16 @@ fn main() {
     deep(b"depth 127", 126);
     deep(b"depth 128", 127);
     deep(b"depth 129", 128);
-    wide(b"32,768 nodes", 32767, 32767, 536576);
-    wide(b"32,768 nodes, a word too few", 32767, 32767, 536575);
-    wide(
+    broad(b"32,768 nodes", 32767, 32767, 536576);
+    broad(b"32,768 nodes, a word too few", 32767, 32767, 536575);
+    broad(
         b"32,768 nodes, the last but one no child",
         32767,
         32766,
         536576,
     );
-    wide(b"32,769 fields", 32768, 0, 536592);
-    wide(b"40,000 fields, no work area", 39999, 0, 0);
+    broad(b"32,769 fields", 32768, 0, 536592);
+    broad(b"40,000 fields, no work area", 39999, 0, 0);
 }
 
 fn cases(text: &[u8]) {
@@ -144,7 +144,7 @@ fn deep(label: &[u8], blocks: usize)
 }
 
 // As many blocks side by side, and a program that has the first of them as children.
-fn wide(label: &[u8], blocks: usize, children: usize, work: usize)
+fn broad(label: &[u8], blocks: usize, children: usize, work: usize)
     requires { ⌜ (blocks < 40000) × (children ≤ blocks) × (children < 32768) ⌝ }
 {
     let mut tree = [0u8; 200000];

@@ -1,5 +1,5 @@
 // What a turn of the walk asks and does, in numbers: o is the opcode where it stands, `struck` whether a failure strikes at this step.
-use fields::wide;
+use fields::as_size;
 use meaning::Ending;
 ghost use mathlib.Core.Path.{_≡_};
 ghost use mathlib.Core.Bool.{Bool, true, not, _&&_, _||_, cond};
@@ -59,7 +59,7 @@ pub(crate) fn decision(asks: bool, decisions: &[u8], k: usize) -> usize
     ensures { λ r. ⌜ (asks ≡ true → r ≡ getD (now (decisions .entry)) k 0) × (r < 256) ⌝ }
 {
     if asks {
-        return wide(decisions[k]);
+        return as_size(decisions[k]);
     }
     0
 }

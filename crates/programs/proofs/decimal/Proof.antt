@@ -18,26 +18,26 @@ abbrev μ-loop : tie.MeasureT-loop
 returns-2 : tie.Need-returns-2 Inv-loop μ-loop
 returns-2 c =
     let l = c .before .before .before .before in
-    let w = c .before .wide .ensures in
+    let w = c .before .as-u64 .ensures in
     below _ (l .loop .value) (l .loop .i) (l .loop .inv) (omega (arith, c .before .before .before .loop-test .taken)) (omega (arith, w, c .if2 .taken))
 
 returns-3 : tie.Need-returns-3 Inv-loop μ-loop
 returns-3 c =
     let l = c .before .before .before .before .before in
-    let w = c .before .before .wide .ensures in
+    let w = c .before .before .as-u64 .ensures in
     above _ (l .loop .value) (l .loop .i) (l .loop .inv) (omega (arith, c .before .before .before .before .loop-test .taken)) (omega (arith, w, c .before .if2 .left)) (omega (arith, w, c .if3 .taken))
 
 returns-4 : tie.Need-returns-4 Inv-loop μ-loop
 returns-4 c =
     let l = c .before .before .before .before .before .before in
-    let w = c .before .before .before .wide .ensures in
+    let w = c .before .before .before .as-u64 .ensures in
     too-large _ (l .loop .value) (l .loop .i) (l .loop .inv) (omega (arith, c .before .before .before .before .before .loop-test .taken)) (omega (arith, w, c .before .before .if2 .left)) (omega (arith, w, c .before .if3 .left))
     (omega (arith, w, c .if4 .taken, c .before .if3 .left, c .before .before .if2 .left))
 
 loop-again : tie.Need-loop-again Inv-loop μ-loop
 loop-again c =
     let l = c .before .before .before .before .before .before in
-    let w = c .before .before .before .wide .ensures in
+    let w = c .before .before .before .as-u64 .ensures in
     rw w (one-more _ (l .loop .value) (l .loop .i) (l .loop .inv) (omega (arith, c .before .before .before .before .before .loop-test .taken)) (omega (arith, w, c .before .before .if2 .left)) (omega (arith, w, c .before .if3 .left))
     (omega (arith, w, c .if4 .left, c .before .if3 .left, c .before .before .if2 .left)))
 

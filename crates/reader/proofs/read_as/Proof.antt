@@ -23,5 +23,5 @@ read-as-spec =
       order = order-holds _ _ _ (f .order .ensures .2) (c .enum-told .given .1);
     })
     (λ c. search needs)
-    (λ c. let e = c .before in let o = e .before .before in let f = o .before .before .before in c .judged .ensures ∙ facts-tell _ _ (framed-is o) _ _ (f .order .ensures .2) _ (f .order .ensures .0) (e .enum-told .given .1))
+    (λ c. let e = c .before in let o = e .before .before in let f = o .before .before .before in c .read-facts .ensures ∙ facts-tell _ _ (framed-is o) _ _ (f .order .ensures .2) _ (f .order .ensures .0) (e .enum-told .given .1))
     (λ c. let o = c .before .before .before in order-fails _ _ (framed-is o) _ _ (o .before .before .before .order .ensures .2) _ (c .before .spot .given .1)))

@@ -27,10 +27,10 @@ grow-spec =
     (λ c κs. search needs)  -- onward-requires
     (λ c κs. search needs)  -- onward-requires-2
     (λ c κs. search needs)  -- get-requires
-    (λ c κs. search needs)  -- wide-requires
+    (λ c κs. search needs)  -- as-size-requires
     (λ c. search needs)  -- mul-old
     (λ c κs. search needs)  -- get-requires-2
-    (λ c κs. search needs)  -- wide-requires-2
+    (λ c κs. search needs)  -- as-size-requires-2
     (λ c. search needs)  -- add-old
     (λ c κs. search needs)  -- forth-requires-2
     (λ c κs. search needs)  -- short-requires-3

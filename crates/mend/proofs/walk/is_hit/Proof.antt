@@ -26,7 +26,7 @@ returns c =
     let v = w .before in
     let e = v .before .before .before in
     let s = S e in
-    hit-if (now (s .args .t)) (s .pre .0) (s .args .tag) (s .args .c) _ (e .before .before .before .before .word .ensures .0) (e .if1 .taken) _ _ _ (v .wide .ensures .0) (w .word2 .ensures .0) (c .is-replaced .ensures)
+    hit-if (now (s .args .t)) (s .pre .0) (s .args .tag) (s .args .c) _ (e .before .before .before .before .word .ensures .0) (e .if1 .taken) _ _ _ (v .as-size .ensures .0) (w .word2 .ensures .0) (c .is-replaced .ensures)
 
 returns-2 : tie.Need-returns-2
 returns-2 c =

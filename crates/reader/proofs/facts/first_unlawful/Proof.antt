@@ -43,7 +43,7 @@ answer c =
     let l = e .before in
     let s = S l in
     passed-is (now (s .args .t)) (s .args .tag) (s .args .span) (s .args .at) (s .args .n) (l .loop .i) (e .loop-test .taken) (s .args .v) _ _ _ _ (s .args .mend)
-    _ _ _ (w1 .wide .ensures .0) (w2 .wide2 .ensures .0) (w .wide3 .ensures .0) _ _ _ refl refl (c .has-facts .ensures)
+    _ _ _ (w1 .as-size .ensures .0) (w2 .as-size2 .ensures .0) (w .as-size3 .ensures .0) _ _ _ refl refl (c .has-facts .ensures)
 
 returns : tie.Need-returns Inv-loop μ-loop
 returns c =
@@ -85,10 +85,10 @@ first-unlawful-spec =
     (λ c. let e = c .before .before .before .before .before in omega (arith, fit e, S (e .before) .good))
     (λ c. omega (arith, fit (c .before .before .before .before .before .before)))
     (λ c κs. tt)
-    (λ c. omega (arith, c .before .before .wide2 .ensures .1))
-    (λ c. omega (arith, c .before .before .wide2 .ensures .1, c .wide3 .ensures .1))
+    (λ c. omega (arith, c .before .before .as-size2 .ensures .1))
+    (λ c. omega (arith, c .before .before .as-size2 .ensures .1, c .as-size3 .ensures .1))
     (λ c κs. let w2 = c .before .before in let e = w2 .before .before .before .before .before in let s = S (e .before) in
-    ((omega (arith, w2 .wide2 .ensures .1, c .wide3 .ensures .1), omega (arith, e .loop-test .taken, s .pre .0), s .pre .0, w2 .before .before .wide .ensures .1, w2 .wide2 .ensures .1, s .pre .4, s .pre .3, omega (arith, e .loop-test .taken, s .pre .5)), s .pre .6))
+    ((omega (arith, w2 .as-size2 .ensures .1, c .as-size3 .ensures .1), omega (arith, e .loop-test .taken, s .pre .0), s .pre .0, w2 .before .before .as-size .ensures .1, w2 .as-size2 .ensures .1, s .pre .4, s .pre .3, omega (arith, e .loop-test .taken, s .pre .5)), s .pre .6))
     returns
     (λ c. let e = c .before .before .before .before .before .before .before .before .before in omega (arith, e .loop-test .taken, S (e .before) .pre .0))
     (λ c. let e = c .before .before .before .before .before .before .before .before .before in omega (arith, e .loop-test .taken))

@@ -9,7 +9,7 @@ use Rattle.reader.proofs.facts.kind_of.Statement.{statement}
 use Rattle.reader.proofs.facts.kind_of.Tie as tie
 
 returns : tie.Need-returns
-returns c = let s = c .before .before .before in ap (λ (k : ℕ). getD (now (s .args .kinds)) k 0) (c .before .wide .ensures .0) ∙ s .pre .each (s .args .o) (c .before .before .if1 .taken)
+returns c = let s = c .before .before .before in ap (λ (k : ℕ). getD (now (s .args .kinds)) k 0) (c .before .as-size .ensures .0) ∙ s .pre .each (s .args .o) (c .before .before .if1 .taken)
 
 returns-2 : tie.Need-returns-2
 returns-2 c = sym (kind-beyond (c .before .args .o) (omega (arith, c .before .good)) (c .if1 .left))

@@ -25,7 +25,7 @@ returns-2 c =
     record {
       tag = refl;
       size = e ∙ sym (front-size _ (s .pre));
-      first = λ q. c .wide .ensures .0 ∙ sym (front-at _ (s .pre) 0 (omega (arith, two)));
+      first = λ q. c .as-size .ensures .0 ∙ sym (front-at _ (s .pre) 0 (omega (arith, two)));
       captures = λ q. absurd (omega (arith, two, front-size _ (s .pre)));
       code = λ q. absurd (omega (arith, two, front-size _ (s .pre)));
     }

@@ -5,7 +5,7 @@ use Rattle.walk.proofs.turn.decision.Statement.{statement}
 use Rattle.walk.proofs.turn.decision.Tie as tie
 
 returns : tie.Need-returns
-returns c = (λ e. c .wide .ensures .0, c .wide .ensures .1)
+returns c = (λ e. c .as-size .ensures .0, c .as-size .ensures .1)
 
 returns-2 : tie.Need-returns-2
 returns-2 c = (λ e. absurd (false-true (sym (c .if1 .left) ∙ e)), omega arith)

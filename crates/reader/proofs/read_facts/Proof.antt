@@ -9,11 +9,11 @@ use Rattle.meaning.specs.Images.{image-of}
 use Rattle.reader.specs.Lens.{lens-image}
 use Rattle.reader.proofs.Scanned.{inst-size-small}
 use Rattle.reader.proofs.Answered.{facts-are}
-use Rattle.reader.proofs.judged.Statement.{statement}
-use Rattle.reader.proofs.judged.Tie as tie
+use Rattle.reader.proofs.read_facts.Statement.{statement}
+use Rattle.reader.proofs.read_facts.Tie as tie
 
-pub judged-spec : {M : Type 1} → statement M
-judged-spec =
+pub read-facts-spec : {M : Type 1} → statement M
+read-facts-spec =
     tie.close
     (tie.spec
     (λ c κs. tt)

@@ -4,8 +4,8 @@ use mathlib.Core.Path.{_≡_}
 use Prim.Native.Nat.{ℕ, _+_, _*_, _-_, _≤_}
 use native.Mathlib.Omega.{arith}
 use lib.ListN.{length, length-set, length-replicate}
-use Rattle.tree_main.proofs.wide.Statement.{statement}
-use Rattle.tree_main.proofs.wide.Tie as tie
+use Rattle.tree_main.proofs.broad.Statement.{statement}
+use Rattle.tree_main.proofs.broad.Tie as tie
 
 abbrev Inv-loop : tie.InvT-loop
 Inv-loop label blocks children work tree₀ i₀ tree i = (i ≤ blocks) × (length tree ≡ 200000)
@@ -19,8 +19,8 @@ Inv-loop2 label blocks children work tree₀ i end k₀ tree k = (k ≤ children
 abbrev μ-loop2 : tie.MeasureT-loop2
 μ-loop2 label blocks children work tree₀ i end k₀ tree k = children - k
 
-pub wide-spec : {M : Type 1} → statement M
-wide-spec =
+pub broad-spec : {M : Type 1} → statement M
+broad-spec =
     tie.close
     (tie.spec
     Inv-loop
