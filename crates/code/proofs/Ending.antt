@@ -5,7 +5,7 @@ use Prim.Native.Nat.{ℕ}
 use native.Mathlib.Omega.{arith}
 use Rattle.store.specs.declared.Step.{Step}
 use Rattle.store.specs.declared.Scope.{Scope}
-use Rattle.store.specs.Store.{run, inner, deeper, Sound}
+use Rattle.store.specs.Store.{depth-of, block-of, outcome-of, run, inner, deeper, Sound}
 use Rattle.store.specs.Promise.{nothing, Popped}
 use Rattle.store.specs.Opening.{Leavable}
 use Rattle.store.proofs.Regions.{same-count}
@@ -24,15 +24,15 @@ module _ {w w' o o' : List ℕ} {p : Scope} {s r : Step} {first node params : �
   leaves : Leaves first w p s w' r nothing
   leaves =
       let d = adds .fine .sound .deep in
-      let e = popped-edge p sound g (p .block) (omega arith) in
-      let t = popped-taken p sound g (p .depth) (omega arith) in
+      let e = popped-edge p sound g (block-of p) (omega arith) in
+      let t = popped-taken p sound g (depth-of p) (omega arith) in
       record {
         fine = closed-fine (adds .fine) here g;
         kept = popped-kept p sound g p refl (omega arith) (omega arith);
         back = adds .back;
-        used = promised (r .outcome)
+        used = promised (outcome-of r)
             (λ z.
-            let k = due (r .outcome) (adds .code) z in
+            let k = due (outcome-of r) (adds .code) z in
             record { words = omega (arith, e, t, k); locals = omega (arith, e, t); names = omega (arith, adds .constants, adds .globals); registers = omega (arith, t); visits = same-count (popped-count p sound g) });
         longer = adds .longer;
         still = λ z. e;

@@ -6,7 +6,7 @@ use native.Mathlib.Omega.{arith}
 use lib.Dec.{eqb}
 use borrow.Author.Tests.{eqb-true, eq-eqb}
 use Rattle.store.specs.Layout.{unpacked}
-use Rattle.meaning.specs.Opcode.{wide, Jmp, is-continue, is-break, is-end-jump}
+use Rattle.meaning.specs.Opcode.{inst-bx, Jmp, is-continue, is-break, is-end-jump}
 use Rattle.meaning.specs.Chunk.{continue-offset, patch-jump, patch-end, jump-by}
 use Rattle.meaning.proofs.Lists.{and-left, and-right}
 use Rattle.store.specs.Cell.{Packs}
@@ -30,11 +30,11 @@ module _ (x k : ℕ) (small : k < 256) where
       cases false c p q = refl
 
 module _ {x y : ℕ} (goal size i : ℕ) where
-  pub turns-continue : is-continue (unpacked x 0) ≡ true → Packs y (wide Jmp 0 (continue-offset goal i)) → Turns x (patch-jump goal size i) y
-  turns-continue h packs = record { is = λ m. packs .is m ∙ sym (rw h (ap (λ o. wide o 0 (continue-offset goal i) m) (jump-opcode x 1 h))) }
+  pub turns-continue : is-continue (unpacked x 0) ≡ true → Packs y (inst-bx Jmp 0 (continue-offset goal i)) → Turns x (patch-jump goal size i) y
+  turns-continue h packs = record { is = λ m. packs .is m ∙ sym (rw h (ap (λ o. inst-bx o 0 (continue-offset goal i) m) (jump-opcode x 1 h))) }
 
-  pub turns-break : is-continue (unpacked x 0) ≡ false → is-break (unpacked x 0) ≡ true → Packs y (wide Jmp 0 (size - i)) → Turns x (patch-jump goal size i) y
-  turns-break n h packs = record { is = λ m. packs .is m ∙ sym (rw (n, h) (ap (λ o. wide o 0 (size - i) m) (jump-opcode x 2 h))) }
+  pub turns-break : is-continue (unpacked x 0) ≡ false → is-break (unpacked x 0) ≡ true → Packs y (inst-bx Jmp 0 (size - i)) → Turns x (patch-jump goal size i) y
+  turns-break n h packs = record { is = λ m. packs .is m ∙ sym (rw (n, h) (ap (λ o. inst-bx o 0 (size - i) m) (jump-opcode x 2 h))) }
 
 pub turns-neither : {x : ℕ} (goal size i : ℕ) → is-continue (unpacked x 0) ≡ false → is-break (unpacked x 0) ≡ false → Turns x (patch-jump goal size i) x
 turns-neither goal size i n h = record { is = λ m. rw (n, h) }
@@ -67,10 +67,10 @@ no-end x small ne = cases (is-end-jump (unpacked x 0)) refl
 pub end-is : (x : ℕ) → x ≡ 3 → is-end-jump (unpacked x 0) ≡ true
 end-is x e = rw e
 
-pub turns-end : {x y : ℕ} (size i : ℕ) → x ≡ 3 → Packs y (wide Jmp 0 (size - i)) → Turns x (patch-end size i) y
+pub turns-end : {x y : ℕ} (size i : ℕ) → x ≡ 3 → Packs y (inst-bx Jmp 0 (size - i)) → Turns x (patch-end size i) y
 turns-end size i e packs = record { is = λ m. packs .is m ∙ sym (rw e) }
 
-pub turns-first : {x y : ℕ} (offset : ℕ) → x ≡ 3 → Packs y (wide Jmp 0 offset) → Turns x (λ j. jump-by j offset) y
+pub turns-first : {x y : ℕ} (offset : ℕ) → x ≡ 3 → Packs y (inst-bx Jmp 0 offset) → Turns x (λ j. jump-by j offset) y
 turns-first offset e packs = record { is = λ m. packs .is m ∙ sym (rw e) }
 
 pub turns-no-end : {x : ℕ} (size i : ℕ) → x < 4294967296 → ¬ (x ≡ 3) → Turns x (patch-end size i) x

@@ -1,10 +1,10 @@
 // One instruction more, and code cut off.
 ghost use mathlib.Core.Path.{_≡_};
 ghost use Prim.Native.Nat.{_<_};
-ghost use Rattle.meaning.specs.Opcode.{inst, wide};
+ghost use Rattle.meaning.specs.Opcode.{inst, inst-bx};
 ghost use Rattle.forward.specs.Forward.{sure, emit, put};
 ghost use Rattle.store.specs.Store.{outcome-of, Fine, while-going};
-ghost use Rattle.store.specs.Promise.{uses, Room, Leaf};
+ghost use Rattle.store.specs.Promise.{uses, Space, Leaf};
 ghost use Rattle.store.specs.Cell.{Bytes};
 ghost use Rattle.code.specs.Cuts.{rolled-step};
 use meaning::Outcome;
@@ -25,7 +25,7 @@ pub fn put(
     mark: u32,
     result: u32,
 ) -> Step
-    requires { ⌜ Fine (now work) scope step × Room (now work) scope step 0 2 0 × while-going (outcome-of step) (Bytes op a b c) × while-going (outcome-of step) (result < 1024) ⌝ }
+    requires { ⌜ Fine (now work) scope step × Space (now work) scope step 0 2 0 × while-going (outcome-of step) (Bytes op a b c) × while-going (outcome-of step) (result < 1024) ⌝ }
     ensures { λ r. ⌜ Leaf (now (work .entry)) scope step (now (work .exit)) scope r (uses 2 0 0) (sure (put result (inst op a b c mark))) ⌝ }
 {
     let o = step.outcome;
@@ -38,7 +38,7 @@ pub fn put(
 }
 
 // The same with a 16-bit number.
-pub fn put_wide(
+pub fn put_bx(
     work: &mut [u32],
     step: Step,
     scope: Scope,
@@ -48,8 +48,8 @@ pub fn put_wide(
     mark: u32,
     result: u32,
 ) -> Step
-    requires { ⌜ Fine (now work) scope step × Room (now work) scope step 0 2 0 × while-going (outcome-of step) ((op < 256) × (a < 256)) × while-going (outcome-of step) (result < 1024) ⌝ }
-    ensures { λ r. ⌜ Leaf (now (work .entry)) scope step (now (work .exit)) scope r (uses 2 0 0) (sure (put result (wide op a n mark))) ⌝ }
+    requires { ⌜ Fine (now work) scope step × Space (now work) scope step 0 2 0 × while-going (outcome-of step) ((op < 256) × (a < 256)) × while-going (outcome-of step) (result < 1024) ⌝ }
+    ensures { λ r. ⌜ Leaf (now (work .entry)) scope step (now (work .exit)) scope r (uses 2 0 0) (sure (put result (inst-bx op a n mark))) ⌝ }
 {
     let h = instruction::forward(n as usize);
     let b = h.b as u32;
@@ -68,14 +68,14 @@ pub fn emit(
     c: u32,
     mark: u32,
 ) -> Step
-    requires { ⌜ Fine (now work) scope step × Room (now work) scope step 0 2 0 × while-going (outcome-of step) (Bytes op a b c) ⌝ }
+    requires { ⌜ Fine (now work) scope step × Space (now work) scope step 0 2 0 × while-going (outcome-of step) (Bytes op a b c) ⌝ }
     ensures { λ r. ⌜ Leaf (now (work .entry)) scope step (now (work .exit)) scope r (uses 2 0 0) (sure (emit (inst op a b c mark))) ⌝ }
 {
     put(work, step, scope, op, a, b, c, mark, step.result)
 }
 
 // The same with a 16-bit number.
-pub fn emit_wide(
+pub fn emit_bx(
     work: &mut [u32],
     step: Step,
     scope: Scope,
@@ -84,10 +84,10 @@ pub fn emit_wide(
     n: u32,
     mark: u32,
 ) -> Step
-    requires { ⌜ Fine (now work) scope step × Room (now work) scope step 0 2 0 × while-going (outcome-of step) ((op < 256) × (a < 256)) ⌝ }
-    ensures { λ r. ⌜ Leaf (now (work .entry)) scope step (now (work .exit)) scope r (uses 2 0 0) (sure (emit (wide op a n mark))) ⌝ }
+    requires { ⌜ Fine (now work) scope step × Space (now work) scope step 0 2 0 × while-going (outcome-of step) ((op < 256) × (a < 256)) ⌝ }
+    ensures { λ r. ⌜ Leaf (now (work .entry)) scope step (now (work .exit)) scope r (uses 2 0 0) (sure (emit (inst-bx op a n mark))) ⌝ }
 {
-    put_wide(work, step, scope, op, a, n, mark, step.result)
+    put_bx(work, step, scope, op, a, n, mark, step.result)
 }
 
 // binary_literal at Minus: the code of the dropped pass is cut off.

@@ -2,14 +2,14 @@
 ghost use Prim.Native.Nat.{_*_, _≤_};
 ghost use lib.ListN.{length};
 ghost use Rattle.meaning.specs.Chunk.{continue-offset, patch-jump, patch-loop, patch-end, patch-ends, patch-first};
-ghost use Rattle.meaning.specs.Opcode.{wide, Jmp};
+ghost use Rattle.meaning.specs.Opcode.{inst-bx, Jmp};
 ghost use Rattle.store.specs.Store.{nodes-of, top-of};
 ghost use Rattle.store.specs.Cell.{Packs};
 ghost use Rattle.code.specs.Words.{Turns, Recoded, mended, patch-by, patched};
 use crate::JMP;
 use store::Scope;
 use store::jump_back;
-use store::pack_wide;
+use store::pack_bx;
 use store::set_word;
 use store::word_at;
 
@@ -20,10 +20,10 @@ const BREAK: u32 = JMP + 256 * (instruction::JMP_BREAK as u32);
 
 // A jump from instruction i of a loop to its instruction `goal`.
 fn jump_to(goal: usize, i: usize) -> u32
-    ensures { λ r. ⌜ Packs r (wide Jmp 0 (continue-offset goal i)) ⌝ }
+    ensures { λ r. ⌜ Packs r (inst-bx Jmp 0 (continue-offset goal i)) ⌝ }
 {
     if i <= goal {
-        return pack_wide(JMP, 0, goal - i);
+        return pack_bx(JMP, 0, goal - i);
     }
     jump_back(i - goal)
 }
@@ -38,7 +38,7 @@ fn patch_jump(x: u32, goal: usize, size: usize, i: usize) -> u32
         return jump_to(goal, i);
     }
     if kind == BREAK {
-        return pack_wide(JMP, 0, size - i);
+        return pack_bx(JMP, 0, size - i);
     }
     x
 }
@@ -49,7 +49,7 @@ fn patch_end(x: u32, size: usize, i: usize) -> u32
     ensures { λ r. ⌜ Turns x (patch-end size i) r ⌝ }
 {
     if x == JMP {
-        return pack_wide(JMP, 0, size - i);
+        return pack_bx(JMP, 0, size - i);
     }
     x
 }
@@ -103,7 +103,7 @@ pub fn patch_first(work: &mut [u32], scope: Scope, first: usize, end: usize, off
     let mut i = first;
     while i < end {
         if word_at(work, scope, i) == JMP {
-            set_word(work, scope, i, pack_wide(JMP, 0, offset));
+            set_word(work, scope, i, pack_bx(JMP, 0, offset));
             return;
         }
         i += 1;

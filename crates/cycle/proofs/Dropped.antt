@@ -8,7 +8,7 @@ use Rattle.forward.specs.Forward.{Run, bind, sure, roll-back}
 use Rattle.meaning.specs.State.{Proto}
 use Rattle.store.specs.declared.Step.{Step}
 use Rattle.store.specs.declared.Scope.{Scope}
-use Rattle.store.specs.Store.{run, goes-on, while-going, Image, Fine}
+use Rattle.store.specs.Store.{outcome-of, pc-of, constants-of, globals-of, run, goes-on, while-going, Image, Fine}
 use Rattle.store.specs.Promise.{Cost, takes, Used, Moves, After}
 use Rattle.store.proofs.Runs.{due, promised}
 use Rattle.code.specs.Cuts.{rolled-step}
@@ -20,13 +20,13 @@ pub record Rolls (s : Step) (first : ℕ) (r : Step) : Type 0 where
   pub runs : (w : List ℕ) (p : Scope) (ps : List Proto) → run w p r ps ≡ bind (run w p s ps) (sure (roll-back first))
   pub image : (p : Scope) (o : List ℕ) (ps : List Proto) → Image p o s ps → Image p o r ps
   pub fine : (w : List ℕ) (p : Scope) → Fine w p s → Fine w p r
-  pub outcome : r .outcome ≡ s .outcome
-  pub code : while-going (s .outcome) (r .pc ≡ first)
-  pub least : first ≤ s .pc → first ≤ r .pc
-  pub constants : r .constants ≡ s .constants
-  pub globals : r .globals ≡ s .globals
+  pub outcome : outcome-of r ≡ outcome-of s
+  pub code : while-going (outcome-of s) (pc-of r ≡ first)
+  pub least : first ≤ pc-of s → first ≤ pc-of r
+  pub constants : constants-of r ≡ constants-of s
+  pub globals : globals-of r ≡ globals-of s
 
-pub rolls : (s : Step) (first : ℕ) {r : Step} → first ≤ s .pc → r ≡ rolled-step s first → Rolls s first r
+pub rolls : (s : Step) (first : ℕ) {r : Step} → first ≤ pc-of s → r ≡ rolled-step s first → Rolls s first r
 rolls s first h e =
     rw e
     (record {
@@ -34,27 +34,27 @@ rolls s first h e =
       image = rolled-image s first;
       fine = λ w p. rolled-fine s first w p h;
       outcome = rolled-outcome s first;
-      code = promised (s .outcome) (rolled-code s first);
+      code = promised (outcome-of s) (rolled-code s first);
       least = rolled-least s first;
       constants = rolled-pools s first .0;
       globals = rolled-pools s first .1;
     })
 
-rolled-moves : {w w2 : List ℕ} {p : Scope} {s s2 r : Step} {u : Cost} → Rolls s2 (s .pc) r → u .locals ≡ 0 → u .names ≤ u .names-back → Moves w p s w2 p s2 u → Moves w p s w2 p r (takes 0 0 (u .visits))
+rolled-moves : {w w2 : List ℕ} {p : Scope} {s s2 r : Step} {u : Cost} → Rolls s2 (pc-of s) r → u .locals ≡ 0 → u .names ≤ u .names-back → Moves w p s w2 p s2 u → Moves w p s w2 p r (takes 0 0 (u .visits))
 rolled-moves {w} {w2} {p} {s} {s2} {r} {u} x z n m =
     record {
       fine = x .fine w2 p (m .fine);
       kept = m .kept;
       back = λ g. m .back (going g);
-      used = promised (r .outcome) (λ g. again (due (s2 .outcome) (x .code) (going g)) (due (s2 .outcome) (m .used) (going g)));
+      used = promised (outcome-of r) (λ g. again (due (outcome-of s2) (x .code) (going g)) (due (outcome-of s2) (m .used) (going g)));
       longer = x .least (m .longer);
       still = λ y. m .still z;
     }
   where
-    going : goes-on (r .outcome) → goes-on (s2 .outcome)
+    going : goes-on (outcome-of r) → goes-on (outcome-of s2)
     going g = rw (x .outcome) at g
 
-    again : r .pc ≡ s .pc → Used w p s w2 p s2 u → Used w p s w2 p r (takes 0 0 (u .visits))
+    again : pc-of r ≡ pc-of s → Used w p s w2 p s2 u → Used w p s w2 p r (takes 0 0 (u .visits))
     again e h =
         record {
           words = omega (arith, e, m .still z, h .registers);
@@ -65,7 +65,7 @@ rolled-moves {w} {w2} {p} {s} {s2} {r} {u} x z n m =
         }
 
 -- where a member stands after it
-pub rolled : {t w w2 : List ℕ} {p : Scope} {s s2 r : Step} {k a b : ℕ} {u : Cost} → Rolls s2 (s .pc) r → u .locals ≡ 0 → u .names ≤ u .names-back → Way t w p s k a b w2 p s2 u → Way t w p s k a b w2 p r (takes 0 0 (u .visits))
+pub rolled : {t w w2 : List ℕ} {p : Scope} {s s2 r : Step} {k a b : ℕ} {u : Cost} → Rolls s2 (pc-of s) r → u .locals ≡ 0 → u .names ≤ u .names-back → Way t w p s k a b w2 p s2 u → Way t w p s k a b w2 p r (takes 0 0 (u .visits))
 rolled x z n y = record { ready = y .ready; moves = rolled-moves x z n (y .moves); nodes = y .nodes; wide = y .wide; depth = y .depth; block = y .block }
 
 -- what it does

@@ -21,6 +21,7 @@ use Rattle.meaning.specs.Visits.{under-expr, under-stmt}
 use Rattle.meaning.proofs.Places.{none-of, unmarked, heads-none, heads-0, heads-1, function-places, define-places, for-in-places}
 use Rattle.store.specs.declared.Scope.{Scope}
 use Rattle.store.specs.declared.Step.{Step}
+use Rattle.store.specs.Store.{wide-of}
 use Rattle.cycle.specs.Cycle.{Ready}
 use Rattle.cycle.proofs.Way.{inside}
 
@@ -174,5 +175,5 @@ pub behind-later : {fs : List Field} {i k d : ℕ} (j : ℕ) → k ≤ j → Beh
 behind-later j l b = record { same = λ m z. b .same m (omega arith); size = b .size }
 
 -- as the scope has the width
-pub behind-here : {t w : List ℕ} {p : Scope} {s : Step} {j a b i k : ℕ} → Ready t w p s j a b → Behind (fields t) i k (extra (wide-marks (fields t))) → Behind (fields t) i k (p .wide)
+pub behind-here : {t w : List ℕ} {p : Scope} {s : Step} {j a b i k : ℕ} → Ready t w p s j a b → Behind (fields t) i k (extra (wide-marks (fields t))) → Behind (fields t) i k (wide-of p)
 behind-here r h = rw (r .width) h

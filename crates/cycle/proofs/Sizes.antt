@@ -14,6 +14,7 @@ use Rattle.forward.proofs.FunctionsForward.{stmt-count}
 use Rattle.nodes.specs.Nodes.{Width}
 use Rattle.routines.specs.Pieces.{HasPairs, tokens-from}
 use Rattle.store.specs.declared.Scope.{Scope}
+use Rattle.store.specs.Store.{wide-of}
 use Rattle.cycle.proofs.Way.{few-wide, wide-is}
 use Rattle.meaning.proofs.Rows.{exprs-more, exprs-none, stmts-more, stmts-none, funs-more, funs-none, elifs-more, elifs-none}
 
@@ -164,13 +165,13 @@ stmts-count fs i k to l = go (to - k) k refl
     go (suc d) k e = rw (stmts-more fs i k to (omega arith) l) (ap suc (go d (k + 1) (omega arith)))
 
 -- the pairs of a payload, as those of its node's words in the file
-pub tokens-same : (t : List ℕ) (q : Scope) (i : ℕ) (payload : List ℕ) (f f' n : ℕ) → Width t (q .wide) → payload ≡ field-at (fields t) i .payload → f ≡ f'
+pub tokens-same : (t : List ℕ) (q : Scope) (i : ℕ) (payload : List ℕ) (f f' n : ℕ) → Width t (wide-of q) → payload ≡ field-at (fields t) i .payload → f ≡ f'
     → tokens-from q payload f n ≡ pairs-in (wide-marks (fields t)) (file-words (fields t) i) f' n
 unfolding tokens-from
 tokens-same t q i payload f f' n w e k = rw (e, k, wide-is q (wide-marks (fields t)) w) refl
 
 -- and those that are in the file are there
-pub has-pairs : (t : List ℕ) (q : Scope) (i : ℕ) (payload : List ℕ) (f f' n : ℕ) → Width t (q .wide) → payload ≡ field-at (fields t) i .payload → f ≡ f'
+pub has-pairs : (t : List ℕ) (q : Scope) (i : ℕ) (payload : List ℕ) (f f' n : ℕ) → Width t (wide-of q) → payload ≡ field-at (fields t) i .payload → f ≡ f'
     → f' + pair-place (wide-marks (fields t)) n ≤ length (file-words (fields t) i) → HasPairs q payload f n
 has-pairs t q i payload f f' n w e k h = record { inside = rw (e, k, wide-is q (wide-marks (fields t)) w) h; width = few-wide q (wide-marks (fields t)) w }
 

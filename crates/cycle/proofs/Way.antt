@@ -22,8 +22,8 @@ use Rattle.nodes.specs.Nodes.{Node, Width}
 use Rattle.forward.specs.Forward.{Config, Run, going, bind, sure, fwd, fwd-unit}
 use Rattle.store.specs.declared.Step.{Step}
 use Rattle.store.specs.declared.Scope.{Scope}
-use Rattle.store.specs.Store.{is-wide, run, config-of, goes-on, result-limit, while-going, deeper, looped, Image, Fine}
-use Rattle.store.specs.Promise.{Cost, uses, takes, nothing, a-visit, both, Used, Roomy, Room, Moves, Leaf, After, Does, Ticked}
+use Rattle.store.specs.Store.{nodes-of, depth-of, block-of, loops-of, wide-of, outcome-of, pc-of, result-of, is-wide, run, config-of, goes-on, result-limit, while-going, deeper, looped, Image, Fine}
+use Rattle.store.specs.Promise.{Cost, uses, takes, nothing, a-visit, both, Used, Roomy, Space, Moves, Leaf, After, Does, Ticked}
 use Rattle.store.proofs.Runs.{due, promised, going-is, none-due, run-going, leaf-absorbed}
 use Rattle.store.proofs.Compose.{none-moved, moves-then, moves-by, leaf-after, leaf-does, known}
 use Rattle.store.proofs.Around.{loop-entered}
@@ -39,10 +39,10 @@ use Rattle.cycle.specs.Cycle.{Ready, Given, AskExpr, AskStmt, Children, 
 pub record Way (t w : List ℕ) (p : Scope) (s : Step) (k a b : ℕ) (w' : List ℕ) (q : Scope) (r : Step) (u : Cost) : Type 0 where
   pub ready : Ready t w p s k a b
   pub moves : Moves w p s w' q r u
-  pub nodes : p .nodes ≡ q .nodes
-  pub wide : p .wide ≡ q .wide
-  pub depth : p .depth ≤ q .depth
-  pub block : p .block ≤ q .block
+  pub nodes : nodes-of p ≡ nodes-of q
+  pub wide : wide-of p ≡ wide-of q
+  pub depth : depth-of p ≤ depth-of q
+  pub block : block-of p ≤ block-of q
 
 pub from : {t w : List ℕ} {p : Scope} {s : Step} {k a b : ℕ} → Ready t w p s k a b → Way t w p s k a b w p s nothing
 from h = record { ready = h; moves = none-moved (h .fine); nodes = refl; wide = refl; depth = omega arith; block = omega arith }
@@ -52,7 +52,7 @@ infixl 5 _▹_
 pub _▹_ : {t w w1 w2 : List ℕ} {p q : Scope} {s s1 s2 : Step} {k a b : ℕ} {u v : Cost} → Way t w p s k a b w1 q s1 u → Moves w1 q s1 w2 q s2 v → Way t w p s k a b w2 q s2 (both u v)
 _▹_ x m = record { ready = x .ready; moves = moves-then (x .nodes) (x .depth) (x .block) (x .moves) m; nodes = x .nodes; wide = x .wide; depth = x .depth; block = x .block }
 
-pub to : {t w w1 w2 : List ℕ} {p q : Scope} {s s1 s2 : Step} {k a b : ℕ} {u v : Cost} (q' : Scope) → p .nodes ≡ q' .nodes → p .wide ≡ q' .wide → p .depth ≤ q' .depth → p .block ≤ q' .block
+pub to : {t w w1 w2 : List ℕ} {p q : Scope} {s s1 s2 : Step} {k a b : ℕ} {u v : Cost} (q' : Scope) → nodes-of p ≡ nodes-of q' → wide-of p ≡ wide-of q' → depth-of p ≤ depth-of q' → block-of p ≤ block-of q'
     → Way t w p s k a b w1 q s1 u → Moves w1 q s1 w2 q' s2 v → Way t w p s k a b w2 q' s2 (both u v)
 to q' n v d e x m = record { ready = x .ready; moves = moves-then (x .nodes) (x .depth) (x .block) (x .moves) m; nodes = n; wide = v; depth = d; block = e }
 
@@ -60,8 +60,8 @@ to q' n v d e x m = record { ready = x .ready; moves = moves-then (x .nodes) (x 
 
 -- what is used up to here leaves room for k' nodes, a' words and b' locals
 pub stand-at : {t w w' : List ℕ} {p q : Scope} {s r : Step} {k a b : ℕ} {u : Cost} (k' a' b' : ℕ) → Way t w p s k a b w' q r u
-    → 8 * k' + a' + u .words ≤ 8 * k + a + u .words-back → k' + b' + u .locals ≤ k + b + u .locals-back → u .names + min 2 (p .block) ≤ u .names-back + min 2 (q .block)
-    → q .block + k' ≤ q .nodes + 1 + q .depth → q .loops + k' ≤ q .nodes + 1 → Ready t w' q r k' a' b'
+    → 8 * k' + a' + u .words ≤ 8 * k + a + u .words-back → k' + b' + u .locals ≤ k + b + u .locals-back → u .names + min 2 (block-of p) ≤ u .names-back + min 2 (block-of q)
+    → block-of q + k' ≤ nodes-of q + 1 + depth-of q → loops-of q + k' ≤ nodes-of q + 1 → Ready t w' q r k' a' b'
 stand-at {t} {w} {w'} {p} {q} {s} {r} {k} {a} {b} {u} k' a' b' x l l' m c d =
     record { lawful = rw (sym (x .nodes)) (lawful-kept (x .ready .lawful) (x .moves .kept)); width = sym (x .wide) ∙ x .ready .width; fine = x .moves .fine; room = room; blocks = c; loops = d }
   where
@@ -73,8 +73,8 @@ stand-at {t} {w} {w'} {p} {q} {s} {r} {k} {a} {b} {u} k' a' b' x l l' m c d =
           globals = omega (arith, i .names, j .globals);
         }
 
-    room : Room w' q r k' a' b'
-    room = record { roomy = promised (r .outcome) (λ g. after (due (r .outcome) (x .moves .used) g) (due (s .outcome) (x .ready .room .roomy) (x .moves .back g))) }
+    room : Space w' q r k' a' b'
+    room = record { roomy = promised (outcome-of r) (λ g. after (due (outcome-of r) (x .moves .used) g) (due (outcome-of s) (x .ready .room .roomy) (x .moves .back g))) }
 
 -- the same in the scope that it was called in
 pub stand : {t w w' : List ℕ} {p : Scope} {s r : Step} {k a b : ℕ} {u : Cost} (k' a' b' : ℕ) → Way t w p s k a b w' p r u
@@ -105,11 +105,11 @@ ends a e = record { protos = a .protos; image = a .image; runs = e }
 
 -- of the code's length and the result, where the step goes on
 pub leaf-known : {w w' : List ℕ} {p q : Scope} {s r : Step} {u : Cost} {op : Config → Run} (P : (code result code' result' : ℕ) → Type 0)
-    → Leaf w p s w' q r u op → ((c d : Config) → op c ≡ going d → P (length (c .code)) (c .result) (length (d .code)) (d .result)) → while-going (r .outcome) (P (s .pc) (s .result) (r .pc) (r .result))
+    → Leaf w p s w' q r u op → ((c d : Config) → op c ≡ going d → P (length (c .code)) (c .result) (length (d .code)) (d .result)) → while-going (outcome-of r) (P (pc-of s) (result-of s) (pc-of r) (result-of r))
 unfolding bind config-of
-leaf-known {w} {w'} {p} {q} {s} {r} {u} {op} P l h = promised (r .outcome) λ g.
-    let e = going-is (r .outcome) g in
-    let f = going-is (s .outcome) (l .moves .back g) in
+leaf-known {w} {w'} {p} {q} {s} {r} {u} {op} P l h = promised (outcome-of r) λ g.
+    let e = going-is (outcome-of r) g in
+    let f = going-is (outcome-of s) (l .moves .back g) in
     let c = config-of w p s [] in
     let d = config-of w' q r [] in
     let n = known w p s [] in
@@ -123,23 +123,23 @@ sure-is : (f : Config → Config) (c d : Config) → sure f c ≡ going d → f 
 sure-is f c d e = cc
 
 -- a result that is v, below 255
-pub sets-by : {w w' : List ℕ} {p q : Scope} {s r : Step} {u : Cost} {op : Config → Run} (v : ℕ) → Leaf w p s w' q r u op → ((c d : Config) → op c ≡ going d → d .result ≡ v) → (goes-on (r .outcome) → v < 255) → Small r
-sets-by {r = r} v l h m = promised (r .outcome) λ g. let e = due (r .outcome) (leaf-known (λ n x n' x'. x' ≡ v) l h) g in omega (arith, e, m g)
+pub sets-by : {w w' : List ℕ} {p q : Scope} {s r : Step} {u : Cost} {op : Config → Run} (v : ℕ) → Leaf w p s w' q r u op → ((c d : Config) → op c ≡ going d → d .result ≡ v) → (goes-on (outcome-of r) → v < 255) → Small r
+sets-by {r = r} v l h m = promised (outcome-of r) λ g. let e = due (outcome-of r) (leaf-known (λ n x n' x'. x' ≡ v) l h) g in omega (arith, e, m g)
 
 module _ {w w' : List ℕ} {p q : Scope} {s r : Step} {u : Cost} {f : Config → Config} (l : Leaf w p s w' q r u (sure f)) where
   -- the result stays, or is v
   pub keeps : ((c : Config) → f c .result ≡ c .result) → Small s → Small r
   keeps h m =
-      promised (r .outcome) λ g.
-      let e = due (r .outcome) (leaf-known (λ n v n' v'. v' ≡ v) l (λ c d e. sym (ap (λ (x : Config). x .result) (sure-is f c d e)) ∙ h c)) g in
-      omega (arith, e, due (s .outcome) m (l .moves .back g))
+      promised (outcome-of r) λ g.
+      let e = due (outcome-of r) (leaf-known (λ n v n' v'. v' ≡ v) l (λ c d e. sym (ap (λ (x : Config). x .result) (sure-is f c d e)) ∙ h c)) g in
+      omega (arith, e, due (outcome-of s) m (l .moves .back g))
 
-  pub sets : (v : ℕ) → ((c : Config) → f c .result ≡ v) → (goes-on (r .outcome) → v < 255) → Small r
+  pub sets : (v : ℕ) → ((c : Config) → f c .result ≡ v) → (goes-on (outcome-of r) → v < 255) → Small r
   sets v h m = sets-by v l (λ c d e. sym (ap (λ (x : Config). x .result) (sure-is f c d e)) ∙ h c) m
 
   -- n instructions more
-  pub adds : (n : ℕ) → ((c : Config) → length (f c .code) ≡ length (c .code) + n) → goes-on (r .outcome) → r .pc ≡ s .pc + n
-  adds n h g = due (r .outcome) (leaf-known (λ m x m' x'. m' ≡ m + n) l (λ c d e. sym (ap (λ (x : Config). length (x .code)) (sure-is f c d e)) ∙ h c)) g
+  pub adds : (n : ℕ) → ((c : Config) → length (f c .code) ≡ length (c .code) + n) → goes-on (outcome-of r) → pc-of r ≡ pc-of s + n
+  adds n h g = due (outcome-of r) (leaf-known (λ m x m' x'. m' ≡ m + n) l (λ c d e. sym (ap (λ (x : Config). length (x .code)) (sure-is f c d e)) ∙ h c)) g
 
 pub twice : (l : List Instruction) (i j : Instruction) → length ((l ++ i ∷ []) ++ j ∷ []) ≡ length l + 2
 twice l i j = simp length-append (omega arith)
@@ -149,16 +149,16 @@ pub meanwhile : (o : Outcome) (P : Type 0) → (goes-on o → P) → while-going
 meanwhile o P h = promised o h
 
 -- a register
-pub small : (s : Step) → s .result < 255 → Small s
-small s h = promised (s .outcome) λ g. h
+pub small : (s : Step) → result-of s < 255 → Small s
+small s h = promised (outcome-of s) λ g. h
 
 -- a result is below 1,024
 limit-few : (o : Outcome) (v : ℕ) → v < result-limit o → v < 1024
 limit-few (Accepted x) v h = h
 limit-few (Refused k n) v h = omega arith
 
-pub few-results : {w : List ℕ} {p : Scope} {s : Step} → Fine w p s → s .result < 1024
-few-results {s = s} h = limit-few (s .outcome) (s .result) (h .result)
+pub few-results : {w : List ℕ} {p : Scope} {s : Step} → Fine w p s → result-of s < 1024
+few-results {s = s} h = limit-few (outcome-of s) (result-of s) (h .result)
 
 -- operands that fit their bytes
 pub fits : (o : Outcome) (op a b c : ℕ) → (goes-on o → (op < 256) × (a < 256) × (b < 256) × (c < 256)) → while-going o (Bytes op a b c)
@@ -171,7 +171,7 @@ pub inside : {t w : List ℕ} {n i : ℕ} → Lawful t w n → i < n → i < len
 inside h l = omega (arith, l, h .nodes)
 
 -- its header can be read
-pub readable : {t w : List ℕ} {p : Scope} {s : Step} {k a b i : ℕ} → Ready t w p s k a b → i < p .nodes → Readable t w i
+pub readable : {t w : List ℕ} {p : Scope} {s : Step} {k a b i : ℕ} → Ready t w p s k a b → i < nodes-of p → Readable t w i
 readable r l = record { offsets = r .lawful .offsets; known = inside (r .lawful) l }
 
 -- with what is asked of a count
@@ -179,14 +179,14 @@ pub counted : {t w : List ℕ} {i k d : ℕ} → Readable t w i → Behind (fiel
 counted r b = (r, b .size)
 
 -- its words can be read, and what its reader asks of it
-pub node : {t w : List ℕ} {p : Scope} {s : Step} {k a b i : ℕ} → Ready t w p s k a b → i < p .nodes → Node t w i
+pub node : {t w : List ℕ} {p : Scope} {s : Step} {k a b i : ℕ} → Ready t w p s k a b → i < nodes-of p → Node t w i
 node r l = record { readable = readable r l; shapes = r .lawful .shapes }
 
-pub held : {t w : List ℕ} {p : Scope} {s : Step} {k a b i tag : ℕ} → Ready t w p s k a b → i < p .nodes → tag-of (fields t) i ≡ tag → Node t w i × Width t (p .wide) × (tag-of (fields t) i ≡ tag)
+pub held : {t w : List ℕ} {p : Scope} {s : Step} {k a b i tag : ℕ} → Ready t w p s k a b → i < nodes-of p → tag-of (fields t) i ≡ tag → Node t w i × Width t (wide-of p) × (tag-of (fields t) i ≡ tag)
 held r l e = (node r l, r .width, e)
 
 -- the same of a node without a mark
-pub held-bare : {t w : List ℕ} {p : Scope} {s : Step} {k a b i tag : ℕ} → Ready t w p s k a b → i < p .nodes → tag-of (fields t) i ≡ tag → Node t w i × (tag-of (fields t) i ≡ tag)
+pub held-bare : {t w : List ℕ} {p : Scope} {s : Step} {k a b i tag : ℕ} → Ready t w p s k a b → i < nodes-of p → tag-of (fields t) i ≡ tag → Node t w i × (tag-of (fields t) i ≡ tag)
 held-bare r l e = (node r l, e)
 
 -- a child of a row, by the word of the file
@@ -194,16 +194,16 @@ pub placed : {t w : List ℕ} {p : Scope} {s : Step} {i f g d k a j x : ℕ} {B 
 placed r l e = e ∙ sym (r .behind .same _ l)
 
 -- the width by the scope's number
-pub wide-is : (p : Scope) (b : Bool) → p .wide ≡ extra b → is-wide p ≡ b
+pub wide-is : (p : Scope) (b : Bool) → wide-of p ≡ extra b → is-wide p ≡ b
 wide-is p true e = ap not (ap (λ (n : ℕ). eqb n 0) e)
 wide-is p false e = ap not (ap (λ (n : ℕ). eqb n 0) e)
 
 -- that is 0 or 1
-pub few-wide : (p : Scope) (b : Bool) → p .wide ≡ extra b → p .wide ≤ 1
+pub few-wide : (p : Scope) (b : Bool) → wide-of p ≡ extra b → wide-of p ≤ 1
 few-wide p true e = omega arith
 few-wide p false e = omega arith
 
-pub narrow-or-wide : {t w : List ℕ} {p : Scope} {s : Step} {k a b : ℕ} → Ready t w p s k a b → p .wide ≤ 1
+pub narrow-or-wide : {t w : List ℕ} {p : Scope} {s : Step} {k a b : ℕ} → Ready t w p s k a b → wide-of p ≤ 1
 narrow-or-wide {t = t} {p = p} r = few-wide p (wide-marks (fields t)) (r .width)
 
 -- so many marks take no more places than there are
@@ -213,17 +213,17 @@ few-more n (suc zero) h l = omega arith
 few-more n (suc (suc w)) h l = absurd (omega arith)
 
 -- a node without children, where it stands
-pub on-node : {t w : List ℕ} {p : Scope} {s : Step} {k i : ℕ} → Ready t w p s k 0 0 → i < p .nodes → OnNode t w p s k i
+pub on-node : {t w : List ℕ} {p : Scope} {s : Step} {k i : ℕ} → Ready t w p s k 0 0 → i < nodes-of p → OnNode t w p s k i
 on-node {t = t} {p = p} r l = record { lawful = r .lawful; width = r .width; fine = r .fine; room = r .room; known = l }
 
 -- a child that is an expression, a statement
-pub ask-expr : {t w : List ℕ} {p : Scope} {s : Step} {i c : ℕ} → Ready t w p s (size-expr (expr-at (fields t) c)) 0 0 → i < p .nodes → ExprBelow (fields t) i c → AskExpr t w p s c
+pub ask-expr : {t w : List ℕ} {p : Scope} {s : Step} {i c : ℕ} → Ready t w p s (size-expr (expr-at (fields t) c)) 0 0 → i < nodes-of p → ExprBelow (fields t) i c → AskExpr t w p s c
 ask-expr r h e = (record { ready = r; known = omega (arith, h, e .below) }, e .low, e .high)
 
-pub ask-stmt : {t w : List ℕ} {p : Scope} {s : Step} {i c : ℕ} → Ready t w p s (size-stmt (stmt-at (fields t) c)) 0 0 → i < p .nodes → StmtBelow (fields t) i c → AskStmt t w p s c
+pub ask-stmt : {t w : List ℕ} {p : Scope} {s : Step} {i c : ℕ} → Ready t w p s (size-stmt (stmt-at (fields t) c)) 0 0 → i < nodes-of p → StmtBelow (fields t) i c → AskStmt t w p s c
 ask-stmt r h e = (record { ready = r; known = omega (arith, h, e .below) }, e .low, e .high, e .no-elif)
 
-module _ {t w w' : List ℕ} {p : Scope} {s r : Step} {k a b i : ℕ} {u : Cost} (x : Way t w p s k a b w' p r u) (h : i < p .nodes) where
+module _ {t w w' : List ℕ} {p : Scope} {s r : Step} {k a b i : ℕ} {u : Cost} (x : Way t w p s k a b w' p r u) (h : i < nodes-of p) where
   pub give-expr : {c : ℕ} → ExprBelow (fields t) i c → 8 * size-expr (expr-at (fields t) c) + u .words ≤ 8 * k + a + u .words-back → size-expr (expr-at (fields t) c) + u .locals ≤ k + b + u .locals-back → u .names ≤ u .names-back → size-expr (expr-at (fields t) c) ≤ k
       → AskExpr t w' p r c
   give-expr e l l' m z = ask-expr (stand _ 0 0 x (omega (arith, l)) (omega (arith, l')) m z) h e
@@ -268,8 +268,8 @@ pub recounted : {w o w' o' : List ℕ} {p : Scope} {s r : Step} {x y v v' : ℕ}
 recounted e d = rw (sym e) d
 
 -- a refused step stays
-pub refused-stays : {w o : List ℕ} {p : Scope} {s : Step} (u : Cost) (op : Config → Run) {k : Cause} {n : ℕ} → Fine w p s → s .outcome ≡ Refused k n → Lowers w o p s w o s u op
-refused-stays {w} {o} {p} {s} u op h e = record { does = leaf-does (leaf-absorbed u op h e) o; small = none-due (s .result < 255) e }
+pub refused-stays : {w o : List ℕ} {p : Scope} {s : Step} (u : Cost) (op : Config → Run) {k : Cause} {n : ℕ} → Fine w p s → outcome-of s ≡ Refused k n → Lowers w o p s w o s u op
+refused-stays {w} {o} {p} {s} u op h e = record { does = leaf-does (leaf-absorbed u op h e) o; small = none-due (result-of s < 255) e }
 
 -- a node without children, as a member: nothing is visited under it
 pub leaf-lowers : {w o w' : List ℕ} {p : Scope} {s r : Step} {x y : ℕ} {op : Config → Run} (x' y' v' : ℕ) → x' ≡ x → y' ≡ y → v' ≡ 0 → Gives w p s w' r (uses x y 0) op → Lowers w o p s w' o r (takes x' y' v') op

@@ -16,7 +16,7 @@ use Rattle.forward.specs.Forward.{Config, Run, fwd, fwd-code, fwd-row}
 use Rattle.store.specs.declared.Step.{Step}
 use Rattle.store.specs.declared.Scope.{Scope}
 use Rattle.store.specs.Store.{nodes-of, depth-of, block-of, loops-of, mode-of, wide-of, outcome-of, while-going, Fine}
-use Rattle.store.specs.Promise.{Cost, takes, Room, Does}
+use Rattle.store.specs.Promise.{Cost, takes, Space, Does}
 use Rattle.routines.specs.Pieces.{Small}
 use Rattle.nodes.specs.Nodes.{Width}
 use Rattle.routines.specs.Node.{Lawful}
@@ -28,7 +28,7 @@ pub record Ready (t w : List ℕ) (p : Scope) (s : Step) (k a b : ℕ) : Type 0 
   pub lawful : Lawful t w (nodes-of p)
   pub width : Width t (wide-of p)
   pub fine : Fine w p s
-  pub room : Room w p s k a b
+  pub room : Space w p s k a b
   pub blocks : block-of p + k ≤ nodes-of p + 1 + depth-of p
   pub loops : loops-of p + k ≤ nodes-of p + 1
 

@@ -207,7 +207,7 @@ fn let_stmt(
     if store::is_global_context(scope) {
         let name = routines::new_global(work, step, scope, node, x.token);
         let value = expression(tree, work, out, name, scope, x.value);
-        return code::emit_wide(
+        return code::emit_bx(
             work,
             value,
             scope,

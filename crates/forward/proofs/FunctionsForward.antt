@@ -9,7 +9,7 @@ use lib.ListN.{getD, length, length-append}
 use lib.Seq.{getD-append-add}
 use lib.Dec.{eqb}
 use borrow.Author.Tests.{eq-eqb, ne-eqb}
-use Rattle.meaning.specs.Opcode.{inst, wide, Return, Closure}
+use Rattle.meaning.specs.Opcode.{inst, inst-bx, Return, Closure}
 use Rattle.meaning.specs.declared.Token.{Token}
 use Rattle.meaning.specs.Syntax.{Stmts, no-stmt, and-stmt}
 use Rattle.meaning.specs.State.{State, Chunk, M, Res, refused, done, and-then, _>>=_, pure, only-if, leave-block, in-block}
@@ -132,4 +132,4 @@ pub fun-forward : (node : ℕ) (x : Token) (ps : List Token) (xs : M (List Chunk
 unfolding visit-fun declare end-fun closure
 fun-forward node x ps xs c =
     start _ _ _ _ (inner _ _ _ _ (step _ _ _ _ _ _ λ r t. next _ _ _ _ _ _ λ z u. bind-ext _ _ _ (λ e. joint _ _ _ _ (fun-code-forward node x ps xs e))
-    ∙ in-function-bracket node (x .name) (length ps) (fun-code node x ps xs) _ _ _ _ λ i v. define-forward node x (chunk (wide Closure r i (x .mark) ∷ []) r) (at v c) ∙ tail _ _ _))
+    ∙ in-function-bracket node (x .name) (length ps) (fun-code node x ps xs) _ _ _ _ λ i v. define-forward node x (chunk (inst-bx Closure r i (x .mark) ∷ []) r) (at v c) ∙ tail _ _ _))

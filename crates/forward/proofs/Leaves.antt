@@ -3,7 +3,7 @@
 use Prim.Native.Nat.{ℕ, _+_, _-_}
 use mathlib.Core.Path.{refl}
 use mathlib.Core.List.{List}
-use Rattle.meaning.specs.Opcode.{inst, wide, no-mark, Move, LoadK, Call, SetGlobal, GetCurrentFunc, DeregisterTryCatch, GetExcept}
+use Rattle.meaning.specs.Opcode.{inst, inst-bx, no-mark, Move, LoadK, Call, SetGlobal, GetCurrentFunc, DeregisterTryCatch, GetExcept}
 use Rattle.meaning.specs.Constant.{number, text}
 use Rattle.meaning.specs.declared.Token.{Token}
 use Rattle.meaning.specs.State.{next-register, allocate-register, add-constant, is-global-context}
@@ -84,7 +84,7 @@ name-result-calls node x =
     choose g
     (do
       s1 ← fwd-number (add-constant node (text (x .name)))
-      finally (sure (put (s .result) (wide SetGlobal (s .result) (s1 .result) (x .mark)))))
+      finally (sure (put (s .result) (inst-bx SetGlobal (s .result) (s1 .result) (x .mark)))))
     (finally (fwd-unit (allocate-register (x .name) (s .result))))
 
 pub name-result-chain : (node : ℕ) (x : Token) (r : Run) → Chain (name-result-calls node x) r (name-result node x)
@@ -110,7 +110,7 @@ open-for-in-calls node mark = do
   fwd-number (next-register node)
   fwd-number (next-register node)
   s5 ← fwd-number (add-constant node (number 0))
-  finally (sure (put (s1 .result) (wide LoadK (s1 .result) (s5 .result) mark)))
+  finally (sure (put (s1 .result) (inst-bx LoadK (s1 .result) (s5 .result) mark)))
 
 pub open-for-in-chain : (node mark : ℕ) (r : Run) → Chain (open-for-in-calls node mark) r (open-for-in node mark)
 unfolding open-for-in
@@ -136,7 +136,7 @@ open-class-calls node x = do
   s1 ← declare node x
   s2 ← fwd-number (next-register node)
   s3 ← fwd-number (add-constant node (text (x .name)))
-  finally (sure (put (s1 .result) (wide LoadK (s2 .result) (s3 .result) (x .mark))))
+  finally (sure (put (s1 .result) (inst-bx LoadK (s2 .result) (s3 .result) (x .mark))))
 
 pub open-class-chain : (node : ℕ) (x : Token) (r : Run) → Chain (open-class-calls node x) r (open-class node x)
 unfolding open-class
@@ -145,7 +145,7 @@ open-class-chain node x = chain (open-class-calls node x) _ (λ c. refl)
 abbrev pub add-method-calls : (node mark op class tmp name : ℕ) → Calls
 add-method-calls node mark op class tmp name = entry λ s. do
   s1 ← fwd-number (add-constant node (text name))
-  sure (emit (wide LoadK tmp (s1 .result) mark))
+  sure (emit (inst-bx LoadK tmp (s1 .result) mark))
   finally (sure (emit (inst op class tmp (s .result) mark)))
 
 pub add-method-chain : (node mark op class tmp name : ℕ) (r : Run) → Chain (add-method-calls node mark op class tmp name) r (add-method node mark op class tmp name)

@@ -6,7 +6,7 @@ use mathlib.Core.List.{List}
 use mathlib.Core.Option.{Option, none, some}
 use lib.ListN.{length}
 use lib.Dec.{eqb}
-use Rattle.meaning.specs.Opcode.{inst, wide, no-mark, unary-opcode, binary-opcode, or, Move, LoadK, LoadNil, Jmp, GetUpval, Addi, GetIter, GetIterk, GetIteri, GetGlobal, GetBuiltin, ClassMeth, ClassStMeth, SetGlobal}
+use Rattle.meaning.specs.Opcode.{inst, inst-bx, no-mark, unary-opcode, binary-opcode, or, Move, LoadK, LoadNil, Jmp, GetUpval, Addi, GetIter, GetIterk, GetIteri, GetGlobal, GetBuiltin, ClassMeth, ClassStMeth, SetGlobal}
 use Rattle.meaning.specs.Constant.{Constant, text}
 use Rattle.meaning.specs.declared.Token.{Token}
 use Rattle.meaning.specs.Syntax.{Super}
@@ -25,13 +25,13 @@ abbrev pub literal-calls : ℕ → Constant → Calls
 literal-calls node v = do
   s1 ← fwd-number (next-register node)
   s2 ← fwd-number (add-constant node v)
-  finally (sure (put (s1 .result) (wide LoadK (s1 .result) (s2 .result) no-mark)))
+  finally (sure (put (s1 .result) (inst-bx LoadK (s1 .result) (s2 .result) no-mark)))
 
 abbrev pub named-calls : (op node : ℕ) → Token → Calls
 named-calls op node x = do
   s1 ← fwd-number (next-register node)
   s2 ← fwd-number (add-constant node (text (x .name)))
-  finally (sure (put (s1 .result) (wide op (s1 .result) (s2 .result) (x .mark))))
+  finally (sure (put (s1 .result) (inst-bx op (s1 .result) (s2 .result) (x .mark))))
 
 abbrev pub outside-calls : ℕ → Token → Calls
 outside-calls node x =
@@ -157,7 +157,7 @@ let-as-calls node x y =
     (do
       s1 ← fwd-number (new-global node x)
       s2 ← fwd y
-      finally (sure (emit (wide SetGlobal (s2 .result) (s1 .result) (x .mark)))))
+      finally (sure (emit (inst-bx SetGlobal (s2 .result) (s1 .result) (x .mark)))))
     (do
       s1 ← fwd y
       finally (fwd-unit (allocate-register (x .name) (s1 .result))))
@@ -170,7 +170,7 @@ let-only-calls node x =
       s1 ← fwd-number (new-global node x)
       s2 ← fwd-number (next-register node)
       sure (emit (inst LoadNil (s2 .result) 0 0 (x .mark)))
-      finally (sure (put 0 (wide SetGlobal (s2 .result) (s1 .result) (x .mark)))))
+      finally (sure (put 0 (inst-bx SetGlobal (s2 .result) (s1 .result) (x .mark)))))
     (do
       s1 ← fwd-number (next-register node)
       finally (fwd-unit (allocate-register (x .name) (s1 .result))))

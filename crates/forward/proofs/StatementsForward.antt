@@ -7,7 +7,7 @@ use mathlib.Core.List.{List, [], _∷_, _++_, append-assoc, append-nil}
 use native.Mathlib.Omega.{arith}
 use lib.ListN.{length, length-append}
 use lib.Dec.{eqb}
-use Rattle.meaning.specs.Opcode.{inst, wide, no-mark, LoadK, LoadNil, Jmp, Test, Lt, Return, Class, ClassMeth, ClassStMeth, Addi, Length, RegisterTryCatch}
+use Rattle.meaning.specs.Opcode.{inst, inst-bx, no-mark, LoadK, LoadNil, Jmp, Test, Lt, Return, Class, ClassMeth, ClassStMeth, Addi, Length, RegisterTryCatch}
 use Rattle.meaning.specs.declared.Token.{Token}
 use Rattle.meaning.specs.Syntax.{Super, no-super, super}
 use Rattle.meaning.specs.State.{Chunk, M, pure, enter-loop, leave-loop, in-block, in-loop}
@@ -114,7 +114,7 @@ for-in-forward mode node mark names x y c =
     let f4 : r1 + 3 ≡ r4 = omega (arith, f3, registers-follow node node _ t3 t4 r3 r4 e3 e4) in
     inner _ _ _ _ (step _ _ _ _ _ _ λ k t5. now _ _ _ (step _ _ _ _ _ _ λ a t6. step-as _ _ _ _ _ _ _ (ap (λ i. iterate node mark i (a .result) r1 names) f4) λ h t7.
     bracket enter-loop leave-loop (λ k. k .code) (λ k r. k .result) y _ _ _ _ λ b t8. last _ _ _ _ (ap going
-    (end-loop-is (c .code) (wide LoadK r1 k mark ∷ a .code) (inst Length r2 (a .result) 0 mark ∷ inst Lt r3 r1 r2 mark ∷ []) r3 (h ++ (b .code ++ inst Addi r1 r1 1 mark ∷ [])) mark (inst Jmp 0 0 0 mark) mode _ _ _ _ _ _ _
+    (end-loop-is (c .code) (inst-bx LoadK r1 k mark ∷ a .code) (inst Length r2 (a .result) 0 mark ∷ inst Lt r3 r1 r2 mark ∷ []) r3 (h ++ (b .code ++ inst Addi r1 r1 1 mark ∷ [])) mark (inst Jmp 0 0 0 mark) mode _ _ _ _ _ _ _
     (for-in-list (c .code) (a .code) h (b .code) _ _ r1 r2 r3 (a .result) mark _ f2 f3) refl (ap length (append-assoc (c .code) (_ ∷ []) (a .code))) (simp length-append (omega arith)) (ap (continue-goal mode) (simp length-append (omega arith))))))))))))
 
 pub iterate-each-none : (node mark element i : ℕ) (c : Config) → going (give 0 c) ≡ fwd-code (iterate-each node mark element i []) c
@@ -195,4 +195,4 @@ class-forward node x p ms ts c =
     (step-as _ _ _ _ _ _ _ (ap (λ i. ms ClassMeth r i) (sym f)) λ l t7. group _ _ _ _ _ _ (step-as _ _ _ _ _ _ _ (ap (λ i. ts ClassStMeth r i) (sym f)) λ m t8. pass _ _ _ _ _
     (group-next _ _ _ _ _ _ (next _ _ _ _ _ _ λ z2 t9. pass _ _ _ _ _
     (ap (λ y. name-result node x (config y r t9)) (class-list (c .code) (a .code) l m _ r tmp (a .result) (x .mark) f)
-    ∙ define-forward node x (chunk (wide LoadK tmp k (x .mark) ∷ (a .code ++ (inst Class r tmp (a .result) (x .mark) ∷ (l ++ m)))) r) (at t9 c) ∙ tail _ _ _))))))))))))))
+    ∙ define-forward node x (chunk (inst-bx LoadK tmp k (x .mark) ∷ (a .code ++ (inst Class r tmp (a .result) (x .mark) ∷ (l ++ m)))) r) (at t9 c) ∙ tail _ _ _))))))))))))))

@@ -8,7 +8,7 @@ use mathlib.Core.Bool.{Bool, true, false}
 use mathlib.Core.List.{List, [], _∷_, _++_}
 use lib.ListN.{getD, length, set, take, drop}
 use lib.Dec.{eqb}
-use Rattle.meaning.specs.Opcode.{inst, wide, back, no-mark, Move, LoadK, Jmp, Test, Lt, Call, Return, Closure, Class, Addi, Length, SetGlobal, GetCurrentFunc, RegisterTryCatch, DeregisterTryCatch, GetExcept}
+use Rattle.meaning.specs.Opcode.{inst, inst-bx, back, no-mark, Move, LoadK, Jmp, Test, Lt, Call, Return, Closure, Class, Addi, Length, SetGlobal, GetCurrentFunc, RegisterTryCatch, DeregisterTryCatch, GetExcept}
 use Rattle.meaning.specs.Constant.{number, text}
 use Rattle.meaning.specs.declared.Token.{Token}
 use Rattle.meaning.specs.State.{State, Chunk, M, Res, refused, done, next-register, allocate-register, add-constant, is-global-context, add-prototype, close-function}
@@ -171,7 +171,7 @@ test-and-jump flag mark c = emit (inst Jmp 0 0 0 mark) (emit (inst Test (c .resu
 
 -- the jump after the Test at `test` goes to the end of the code
 unfoldable pub jump-here : (test mark : ℕ) → Config → Config
-jump-here test mark c = patch (test + 1) (wide Jmp 0 (length (c .code) - (test + 1)) mark) c
+jump-here test mark c = patch (test + 1) (inst-bx Jmp 0 (length (c .code) - (test + 1)) mark) c
 
 -- ---- expressions
 
@@ -230,7 +230,7 @@ leave-function first node params c = do
 
 -- Closure of the prototype that is the result
 unfoldable pub closure : (register mark : ℕ) → Config → Config
-closure register mark c = put register (wide Closure register (c .result) mark) c
+closure register mark c = put register (inst-bx Closure register (c .result) mark) c
 
 -- visit_function_expr after its body
 unfoldable pub end-function : (first node params register mark : ℕ) → Config → Run
@@ -251,7 +251,7 @@ name-result node x c =
     pick global
     (do
       e ← fwd-number (add-constant node (text (x .name))) d
-      going (put (c .result) (wide SetGlobal (c .result) (e .result) (x .mark)) e))
+      going (put (c .result) (inst-bx SetGlobal (c .result) (e .result) (x .mark)) e))
     (fwd-unit (allocate-register (x .name) (c .result)) d)
 
 -- visit_fn_stmt after its body
@@ -265,7 +265,7 @@ end-fun first node x params register c = do
 -- the jump back, the jump out, breaks and continues
 unfoldable pub end-loop : (mode first increment condition test result mark : ℕ) → Config → Config
 end-loop mode first increment condition test result mark c =
-    give result (mend (patch-loop (continue-goal mode (increment - first))) first (jump-here test mark (emit (wide Jmp 0 (back (length (c .code) - condition)) mark) c)))
+    give result (mend (patch-loop (continue-goal mode (increment - first))) first (jump-here test mark (emit (inst-bx Jmp 0 (back (length (c .code) - condition)) mark) c)))
 
 -- visit_enhanced_for_stmt before the collection: the counter's register is the result; those of size, condition and element follow it
 unfoldable pub open-for-in : (node mark : ℕ) → Config → Run
@@ -275,7 +275,7 @@ open-for-in node mark c = do
   condition ← fwd-number (next-register node) size
   element ← fwd-number (next-register node) condition
   k ← fwd-number (add-constant node (number 0)) element
-  going (put (counter .result) (wide LoadK (counter .result) (k .result) mark) k)
+  going (put (counter .result) (inst-bx LoadK (counter .result) (k .result) mark) k)
 
 -- visit_enhanced_for_stmt after the collection: the condition, then the names' registers
 unfoldable pub head-for-in : ℕ → List Token → (counter mark : ℕ) → Config → Run
@@ -320,7 +320,7 @@ open-catch node x c = do
 -- visit_try_catch_stmt: RegisterTryCatch at `first`, then the first jump that is not set; `body` is the length after the body
 unfoldable pub end-try : (first body : ℕ) → Config → Config
 end-try first body c =
-    give 0 (mend (patch-first (length (c .code) - (body + 1))) first (patch first (wide RegisterTryCatch 0 (body + 2 - first) no-mark) c))
+    give 0 (mend (patch-first (length (c .code) - (body + 1))) first (patch first (inst-bx RegisterTryCatch 0 (body + 2 - first) no-mark) c))
 
 -- visit_class_stmt before the superclass: the class's register is the result, that of names follows it
 unfoldable pub open-class : ℕ → Token → Config → Run
@@ -328,7 +328,7 @@ open-class node x c = do
   d ← declare node x c
   e ← fwd-number (next-register node) d
   f ← fwd-number (add-constant node (text (x .name))) e
-  going (put (d .result) (wide LoadK (e .result) (f .result) (x .mark)) f)
+  going (put (d .result) (inst-bx LoadK (e .result) (f .result) (x .mark)) f)
 
 -- Class, of the superclass that is the result
 unfoldable pub make-class : (class mark : ℕ) → Config → Config
@@ -338,7 +338,7 @@ make-class class mark c = emit (inst Class class (class + 1) (c .result) mark) c
 unfoldable pub add-method : (node mark op class tmp name : ℕ) → Config → Run
 add-method node mark op class tmp name c = do
   d ← fwd-number (add-constant node (text name)) c
-  going (emit (inst op class tmp (c .result) mark) (emit (wide LoadK tmp (d .result) mark) d))
+  going (emit (inst op class tmp (c .result) mark) (emit (inst-bx LoadK tmp (d .result) mark) d))
 
 -- visit_class_stmt after the methods
 unfoldable pub end-class : ℕ → Token → (class : ℕ) → Config → Run

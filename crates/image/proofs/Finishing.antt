@@ -15,7 +15,7 @@ use Rattle.store.specs.declared.Step.{Step}
 use Rattle.store.specs.declared.Scope.{Scope}
 use Rattle.store.specs.Table.{tab}
 use Rattle.store.specs.Layout.{constant-at}
-use Rattle.store.specs.Store.{state-of, config-of, run, is-wide, code-tag, written-by, Written, Image, Fine}
+use Rattle.store.specs.Store.{outcome-of, constants-of, functions-of, state-of, config-of, run, is-wide, code-tag, written-by, Written, Image, Fine}
 use Rattle.store.proofs.Runs.{run-going, run-stopped}
 use Rattle.writers.specs.Spliced.{Spliced}
 use Rattle.image.specs.Finish.{ended, Ending, Finishable, Finishes}
@@ -25,12 +25,12 @@ use Rattle.writers.proofs.Splicing.{spliced-take, spliced-length}
 ending-stopped : (o : List ℕ) (c : Cause) (k : ℕ) → Ending (stopped c k) o (Refused c k)
 ending-stopped o c k = record { told = refl; fits = omega arith; front = refl }
 
-pub ends-refused : (w o : List ℕ) (s : Step) (last : ℕ) {c : Cause} {k : ℕ} → s .outcome ≡ Refused c k → Finishes w o s last o (s .outcome)
+pub ends-refused : (w o : List ℕ) (s : Step) (last : ℕ) {c : Cause} {k : ℕ} → outcome-of s ≡ Refused c k → Finishes w o s last o (outcome-of s)
 ends-refused w o s last {c} {k} e = record { same = refl; ends = λ p ps i. rw (run-stopped w p s ps c k e, e) (ending-stopped o c k) }
 
 -- the constants' bytes
 abbrev pub pool : List ℕ → Step → List ℕ
-pool w s = constant-bytes (tab (constant-at w) (s .constants))
+pool w s = constant-bytes (tab (constant-at w) (constants-of s))
 
 -- what a list of bytes ends with that does not fit, and with one that does
 no-room : (o : List ℕ) (last : ℕ) (bytes : List ℕ) → length o < length bytes → Ending (fitted (length o) last bytes) o (Refused Room last)
@@ -39,7 +39,7 @@ no-room o last bytes h = rw (lt-ltb (length o) (length bytes) h) (ending-stopped
 with-room : (room : ℕ) (o : List ℕ) (last end : ℕ) (bytes : List ℕ) → room ≡ length o → end ≡ length bytes → end ≤ length o → take end o ≡ bytes → Ending (fitted room last bytes) o (Accepted end)
 with-room room o last end bytes r e h f = rw (le-ltb room (length bytes) (omega arith)) (record { told = ap Accepted e; fits = h; front = f })
 
-module _ (w o : List ℕ) (s : Step) (last : ℕ) {written : ℕ} (e : s .outcome ≡ Accepted written) where
+module _ (w o : List ℕ) (s : Step) (last : ℕ) {written : ℕ} (e : outcome-of s ≡ Accepted written) where
   -- the image: the prototypes, then the constants
   abbrev bytes : Scope → List Proto → List ℕ
   bytes p ps = proto-bytes (code-tag p) ps ++ pool w s
@@ -52,7 +52,7 @@ module _ (w o : List ℕ) (s : Step) (last : ℕ) {written : ℕ} (e : s .outcom
   unfolding config-of
   ended-is p ps = ap (ended (is-wide p) (length o) last) (run-going w p s ps written e) ∙ ap (fitted (length o) last) (image-is p ps)
 
-  held : (p : Scope) (ps : List Proto) → Image p o s ps → Written (code-tag p) o written (s .functions) ps
+  held : (p : Scope) (ps : List Proto) → Image p o s ps → Written (code-tag p) o written (functions-of s) ps
   held p ps i = rw e at i
 
   size : (p : Scope) (ps : List Proto) → Image p o s ps → length (bytes p ps) ≡ written + length (pool w s)
@@ -71,7 +71,7 @@ module _ (w o : List ℕ) (s : Step) (last : ℕ) {written : ℕ} (e : s .outcom
             (ap (λ k. take k o') n ∙ spliced-take x ∙ ap (λ b. b ++ pool w s) (held p ps i .bytes (omega (arith, x .fits)))));
       }
 
-pub written-is : (s : Step) {written : ℕ} → s .outcome ≡ Accepted written → written-by (s .outcome) < 4294967296 → written < 4294967296
+pub written-is : (s : Step) {written : ℕ} → outcome-of s ≡ Accepted written → written-by (outcome-of s) < 4294967296 → written < 4294967296
 written-is s e h = rw e at h
 
 -- every fine step has what `finish` goes by

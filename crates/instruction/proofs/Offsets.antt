@@ -13,7 +13,7 @@ use borrow.Author.Tests.{lt-ltb, le-ltb, ltb-true, ltb-false, le-leb, lt-leb}
 use mir.Syntax.{w16, w32}
 use mir.Val.{SFits, toZ, ofZ}
 use mir.Facts.{toZ-pos, toZ-ofZ}
-use Rattle.meaning.specs.Opcode.{wide, bx, back}
+use Rattle.meaning.specs.Opcode.{inst-bx, bx, back}
 use Rattle.meaning.specs.Steps.{target}
 use Rattle.instruction.specs.Offset.{signed, sbx, stored, halves-of}
 
@@ -69,10 +69,10 @@ last-halves n =
 -- ---- the law
 
 -- b and c hold a number's last 16 bits
-held : (op a n mark : ℕ) → bx (wide op a n mark) ≡ n % 65536
+held : (op a n mark : ℕ) → bx (inst-bx op a n mark) ≡ n % 65536
 held op a n mark = omega arith
 
-pub inverse : (op a mark : ℕ) (z : ℤ) → mag z < 32768 → sbx (wide op a (stored z) mark) ≡ z
+pub inverse : (op a mark : ℕ) (z : ℤ) → mag z < 32768 → sbx (inst-bx op a (stored z) mark) ≡ z
 inverse op a mark (pos n) h =
     let e : n % 65536 ≡ n = omega arith in
     rw (held op a n mark, e) (reads-low n h)
@@ -81,10 +81,10 @@ inverse op a mark (negsuc k) h =
     rw (held op a (back (suc k)) mark, e) (reads-high (65536 - suc k) k (omega arith) (omega arith))
 
 -- at a jump forward, and at one backward
-pub read-forward : (op a mark n : ℕ) → n ≤ 32767 → sbx (wide op a n mark) ≡ pos n
+pub read-forward : (op a mark n : ℕ) → n ≤ 32767 → sbx (inst-bx op a n mark) ≡ pos n
 read-forward op a mark n h = inverse op a mark (pos n) (omega arith)
 
-pub read-backward : (op a mark n : ℕ) → n ≤ 32768 → sbx (wide op a (back n) mark) ≡ negℤ (pos n)
+pub read-backward : (op a mark n : ℕ) → n ≤ 32768 → sbx (inst-bx op a (back n) mark) ≡ negℤ (pos n)
 read-backward op a mark zero h = inverse op a mark (pos 0) (omega arith)
 read-backward op a mark (suc k) h = inverse op a mark (negsuc k) (omega arith)
 

@@ -25,7 +25,7 @@ use Rattle.forward.specs.Forward.{config, going, bind, on, fwd-row, end-program
 use Rattle.forward.proofs.Chains.{program-chain}
 use Rattle.store.specs.declared.Step.{Step}
 use Rattle.store.specs.Layout.{visited}
-use Rattle.store.specs.Store.{is-wide, run, main-scope, first-step, goes-on}
+use Rattle.store.specs.Store.{outcome-of, is-wide, run, main-scope, first-step, goes-on}
 use Rattle.store.specs.Promise.{After}
 use Rattle.store.proofs.Runs.{due, run-stopped}
 use Rattle.code.specs.Cuts.{EndsProgram}
@@ -85,7 +85,7 @@ module _ (mode : ℕ) (t : List ℕ) (work n : ℕ) (e : checked mode t work ≡
         ∙ sym (finished-is (length o))
 
     -- a refused row ends in a refusal
-    row-going : {bytes : List ℕ} → finished mode t work (length o) ≡ imaged bytes → (x : Outcome) → s1 .outcome ≡ x → goes-on x
+    row-going : {bytes : List ℕ} → finished mode t work (length o) ≡ imaged bytes → (x : Outcome) → outcome-of s1 ≡ x → goes-on x
     unfolding bind
     row-going f (Accepted k) q = tt
     row-going f (Refused c k) q =
@@ -94,7 +94,7 @@ module _ (mode : ℕ) (t : List ℕ) (work n : ℕ) (e : checked mode t work ≡
     -- THE COUNT: what the words hold is the definition's, and does not wrap
     exact : {bytes : List ℕ} → finished mode t work (length o) ≡ imaged bytes → visited w' ≡ visits-program (read-program (fields t))
     exact {bytes} f =
-        let u = due (s1 .outcome) (rows .does .moves .used) (row-going f (s1 .outcome) refl) .visits in
+        let u = due (outcome-of s1) (rows .does .moves .used) (row-going f (outcome-of s1) refl) .visits in
         let l = finished-lowered mode t work (length o) bytes f in
         let small = program-exact mode t work (l .nodes) (l .main) (l .state) (l .accepted) (l .lowering) in
         let less : 1 + visits-stmts (stmts-at (fields t) (n - 1) 0 (count-of (fields t) (n - 1))) < 4294967296 = rw (program-is mode t work n e) at small in

@@ -68,17 +68,17 @@ unfolding left left-by
 left-cut s w = left-fuel (length s) (suc (length s)) s (le-refl _) (omega arith) ∙ simp w
 
 -- A walk over the file s stands before field n, and t is the rest of the file from there on.
-pub record Walk (s : List ℕ) (n : ℕ) (t : List ℕ) : Type 0 where
+pub record FieldWalk (s : List ℕ) (n : ℕ) (t : List ℕ) : Type 0 where
   pub here : drop n (fields s) ≡ fields t
   pub count : n + length (fields t) ≡ length (fields s)
   pub after : left t ≡ left s
   pub room : n + length t ≤ length s
 
-pub walk-start : (s : List ℕ) → Walk s 0 s
+pub walk-start : (s : List ℕ) → FieldWalk s 0 s
 walk-start s = record { here = refl; count = omega arith; after = refl; room = omega arith }
 
 -- t′ is the part `&t[k..]`, k being the field's span
-pub walk-more : (s : List ℕ) (n : ℕ) (t : List ℕ) → Walk s n t → whole t ≡ true → Walk s (n + 1) (rest t)
+pub walk-more : (s : List ℕ) (n : ℕ) (t : List ℕ) → FieldWalk s n t → whole t ≡ true → FieldWalk s (n + 1) (rest t)
 walk-more s n t i w = record {
   here = drop-more (fields s) n (front t) (fields (rest t)) (i .here ∙ fields-whole t w);
   count = omega (arith, ap length (fields-whole t w), i .count);
@@ -90,25 +90,25 @@ walk-more s n t i w = record {
 abbrev pub from : ℕ → List ℕ → List ℕ
 from k t = take (length t - k) (drop k t)
 
-pub walk-part : (s : List ℕ) (n : ℕ) (t : List ℕ) (k : ℕ) → Walk s n t → whole t ≡ true → k ≡ span t → Walk s (n + 1) (from k t)
+pub walk-part : (s : List ℕ) (n : ℕ) (t : List ℕ) (k : ℕ) → FieldWalk s n t → whole t ≡ true → k ≡ span t → FieldWalk s (n + 1) (from k t)
 walk-part s n t k i w e = rw (tail-part k t, e) (walk-more s n t i w)
 
 pub part-less : (t : List ℕ) (k : ℕ) → whole t ≡ true → k ≡ span t → length (from k t) < length t
 part-less t k w e = rw (tail-part k t, e) (simp length-drop (omega (arith, whole-true t w)))
 
 -- what a walk that meets no whole field has found
-pub walk-end : (s : List ℕ) (n : ℕ) (t : List ℕ) → Walk s n t → whole t ≡ false → (n ≡ length (fields s)) × (length t ≡ length (left s))
+pub walk-end : (s : List ℕ) (n : ℕ) (t : List ℕ) → FieldWalk s n t → whole t ≡ false → (n ≡ length (fields s)) × (length t ≡ length (left s))
 walk-end s n t i w = (omega (arith, ap length (fields-cut t w), i .count), ap length (sym (left-cut t w) ∙ i .after))
 
 -- the field that a walk stands before
-pub walk-at : (s : List ℕ) (n : ℕ) (t : List ℕ) (d : Field) → Walk s n t → whole t ≡ true → getD (fields s) n d ≡ front t
+pub walk-at : (s : List ℕ) (n : ℕ) (t : List ℕ) (d : Field) → FieldWalk s n t → whole t ≡ true → getD (fields s) n d ≡ front t
 walk-at s n t d i w = at-drop (fields s) n d (front t) (fields (rest t)) (i .here ∙ fields-whole t w)
 
-pub walk-below : (s : List ℕ) (n : ℕ) (t : List ℕ) → Walk s n t → whole t ≡ true → n < length (fields s)
+pub walk-below : (s : List ℕ) (n : ℕ) (t : List ℕ) → FieldWalk s n t → whole t ≡ true → n < length (fields s)
 walk-below s n t i w = omega (arith, ap length (fields-whole t w), i .count)
 
 -- a walk past every field has none left
-pub walk-done : (s : List ℕ) (n : ℕ) (t : List ℕ) → Walk s n t → length (fields s) ≤ n → fields t ≡ []
+pub walk-done : (s : List ℕ) (n : ℕ) (t : List ℕ) → FieldWalk s n t → length (fields s) ≤ n → fields t ≡ []
 walk-done s n t i h = empty (fields t) (omega (arith, i .count))
 
 -- the next header stands a field's span further

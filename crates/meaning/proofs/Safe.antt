@@ -14,7 +14,7 @@ use Rattle.meaning.proofs.Imaged.{number-zero, finished-lowered}
 use Rattle.meaning.proofs.Safe.Sound.{Protos}
 use Rattle.meaning.proofs.Safe.Program.{program-whole}
 use Rattle.meaning.proofs.Safe.Walk.{protos-safe, amended-inside, safe-inside, amended-stand, stands-01}
-pub mod Fine
+pub mod Obeys
 pub mod Patches
 pub mod Sound
 pub mod Lookup

@@ -4,7 +4,7 @@ use mathlib.Core.Bool.{cond}
 use mathlib.Core.List.{List, [], _∷_, _++_}
 use lib.ListN.{length}
 use lib.Dec.{eqb, leb}
-use Rattle.meaning.specs.Opcode.{inst, wide, back, no-mark, is-continue, is-break, is-end-jump, Jmp, Test, RegisterTryCatch, DeregisterTryCatch}
+use Rattle.meaning.specs.Opcode.{inst, inst-bx, back, no-mark, is-continue, is-break, is-end-jump, Jmp, Test, RegisterTryCatch, DeregisterTryCatch}
 use Rattle.meaning.specs.State.{Chunk}
 use Rattle.meaning.specs.declared.Instruction.{Instruction}
 
@@ -24,7 +24,7 @@ each-at f i (x ∷ xs) = f i x ∷ each-at f (suc i) xs
 
 -- the same jump, finished
 abbrev pub jump-by : Instruction → ℕ → Instruction
-jump-by x offset = wide (x .opcode) 0 offset (x .mark)
+jump-by x offset = inst-bx (x .opcode) 0 offset (x .mark)
 
 -- ---- loops: visit_while_stmt, visit_classic_for_stmt, visit_enhanced_for_stmt end alike
 
@@ -50,8 +50,8 @@ open-loop mark before condition register body =
     before
     ++ (condition
     ++ (inst Test register register 0 mark
-    ∷ wide Jmp 0 (length body + 2) mark
-    ∷ (body ++ wide Jmp 0 (back (length body + length condition + 2)) mark ∷ [])))
+    ∷ inst-bx Jmp 0 (length body + 2) mark
+    ∷ (body ++ inst-bx Jmp 0 (back (length body + length condition + 2)) mark ∷ [])))
 
 -- where the body of such a loop begins
 abbrev pub body-place : (before condition : List Instruction) → ℕ
@@ -66,7 +66,7 @@ loop-code goal mark before condition register body = patch-loop goal (open-loop 
 -- one condition and its body: Test, the jump past the body, the body, the jump to the end
 abbrev pub branch-code : ℕ → Chunk → List Instruction → List Instruction
 branch-code mark c body =
-    c .code ++ (inst Test (c .result) (c .result) 0 mark ∷ wide Jmp 0 (length body + 2) mark ∷ (body ++ inst Jmp 0 0 0 mark ∷ []))
+    c .code ++ (inst Test (c .result) (c .result) 0 mark ∷ inst-bx Jmp 0 (length body + 2) mark ∷ (body ++ inst Jmp 0 0 0 mark ∷ []))
 
 -- "Jump to the next instruction after this chunk"
 abbrev pub patch-end : ℕ → ℕ → Instruction → Instruction
@@ -86,7 +86,7 @@ patch-first offset (x ∷ xs) = cond (is-end-jump x) (jump-by x offset ∷ xs) (
 -- RegisterTryCatch with the distance to the catch part, the body, DeregisterTryCatch, a jump to be patched, the catch part
 abbrev pub open-try : List Instruction → List Instruction → List Instruction
 open-try body catch =
-    wide RegisterTryCatch 0 (length body + 3) no-mark
+    inst-bx RegisterTryCatch 0 (length body + 3) no-mark
     ∷ (body ++ (inst DeregisterTryCatch 0 0 0 no-mark ∷ inst Jmp 0 0 0 no-mark ∷ catch))
 
 -- a try's code, finished: the jump after the body goes past the catch part

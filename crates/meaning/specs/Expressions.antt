@@ -5,7 +5,7 @@ use mathlib.Core.List.{List, [], _∷_, _++_}
 use mathlib.Core.Option.{Option, none, some}
 use lib.ListN.{length}
 use lib.Dec.{eqb}
-use Rattle.meaning.specs.Opcode.{inst, wide, no-mark, unary-opcode, binary-opcode, or, Move, LoadK, Jmp, Test, Call, GetUpval, Closure, Addi, GetGlobal, GetBuiltin}
+use Rattle.meaning.specs.Opcode.{inst, inst-bx, no-mark, unary-opcode, binary-opcode, or, Move, LoadK, Jmp, Test, Call, GetUpval, Closure, Addi, GetGlobal, GetBuiltin}
 use Rattle.meaning.specs.Constant.{Constant, text}
 use Rattle.meaning.specs.declared.Token.{Token}
 use Rattle.meaning.specs.State.{Chunk, M, _>>=_, _>>_, pure, refuse, if-then, next-register, add-constant, is-global-var, is-builtin-var, get-var-register, get-upvalue}
@@ -18,14 +18,14 @@ unfoldable pub visit-literal : ℕ → Constant → M Chunk
 visit-literal node value = do
   r ← next-register node
   k ← add-constant node value
-  pure (chunk (wide LoadK r k no-mark ∷ []) r)
+  pure (chunk (inst-bx LoadK r k no-mark ∷ []) r)
 
 -- a builtin or a global: its name is a constant
 unfoldable pub named : ℕ → ℕ → Token → M Chunk
 named op node x = do
   r ← next-register node
   k ← add-constant node (text (x .name))
-  pure (chunk (wide op r k (x .mark) ∷ []) r)
+  pure (chunk (inst-bx op r k (x .mark) ∷ []) r)
 
 -- fn visit_variable_expr, after the current function's locals and the captures
 unfoldable pub visit-outside : ℕ → Token → M Chunk
@@ -104,7 +104,7 @@ visit-logical node op mark left right = do
       (chunk
       (l .code
       ++ (inst Test (l .result) (l .result) (or-flag (eqb op or)) mark
-      ∷ wide Jmp 0 (length (r .code) + 2) mark
+      ∷ inst-bx Jmp 0 (length (r .code) + 2) mark
       ∷ (r .code ++ inst Move (l .result) (r .result) 0 mark ∷ [])))
       (l .result))
 

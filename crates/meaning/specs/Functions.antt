@@ -3,7 +3,7 @@ use Prim.Native.Nat.{ℕ, _+_}
 use mathlib.Core.List.{List, [], _∷_, _++_}
 use lib.ListN.{length}
 use lib.Dec.{eqb}
-use Rattle.meaning.specs.Opcode.{inst, wide, no-mark, Return, Closure, SetGlobal, GetCurrentFunc}
+use Rattle.meaning.specs.Opcode.{inst, inst-bx, no-mark, Return, Closure, SetGlobal, GetCurrentFunc}
 use Rattle.meaning.specs.Constant.{text}
 use Rattle.meaning.specs.declared.Token.{Token}
 use Rattle.meaning.specs.State.{Chunk, M, _>>=_, _>>_, pure, refuse, if-then, only-if, next-register, allocate-register, in-block, add-constant, is-global-context, add-global, in-function}
@@ -62,7 +62,7 @@ unfoldable pub visit-function : ℕ → List Token → M (List Chunk) → M Chun
 visit-function node params body = do
   r ← next-register node
   index ← in-function node no-name (length params) (function-code node params body)
-  pure (chunk (wide Closure r index (first-mark params) ∷ []) r)
+  pure (chunk (inst-bx Closure r index (first-mark params) ∷ []) r)
 
 -- fn visit_fn_stmt, between enter_function and leave_function
 unfoldable pub fun-code : ℕ → Token → List Token → M (List Chunk) → M (List Instruction)
@@ -80,7 +80,7 @@ define-name node x c = do
   if-then global
       (do
         k ← add-constant node (text (x .name))
-        pure (chunk (c .code ++ wide SetGlobal (c .result) k (x .mark) ∷ []) (c .result)))
+        pure (chunk (c .code ++ inst-bx SetGlobal (c .result) k (x .mark) ∷ []) (c .result)))
       (do
         allocate-register (x .name) (c .result)
         pure c)
@@ -97,4 +97,4 @@ visit-fun node x params body = do
   r ← next-register node
   declare-name x
   index ← in-function node (x .name) (length params) (fun-code node x params body)
-  define-name node x (chunk (wide Closure r index (x .mark) ∷ []) r)
+  define-name node x (chunk (inst-bx Closure r index (x .mark) ∷ []) r)

@@ -265,8 +265,8 @@ abbrev pub no-mark : ℕ
 no-mark = 4294967295
 
 -- an instruction whose b and c hold a 16-bit number, high byte first
-abbrev pub wide : (opcode a n mark : ℕ) → Instruction
-wide opcode a n mark = inst opcode a (n / 256 % 256) (n % 256) mark
+abbrev pub inst-bx : (opcode a n mark : ℕ) → Instruction
+inst-bx opcode a n mark = inst opcode a (n / 256 % 256) (n % 256) mark
 
 -- fn bx: the number that b and c hold
 abbrev pub bx : Instruction → ℕ

@@ -3,7 +3,7 @@ use Prim.Native.Nat.{ℕ, suc, _+_}
 use mathlib.Core.List.{List, [], _∷_, _++_}
 use lib.Dec.{eqb}
 use lib.ListN.{length}
-use Rattle.meaning.specs.Opcode.{inst, wide, no-mark, LoadK, LoadNil, Jmp, Lt, Return, Class, ClassMeth, ClassStMeth, Addi, GetIter, GetIterk, GetIteri, Length, SetGlobal, DeregisterTryCatch, GetExcept}
+use Rattle.meaning.specs.Opcode.{inst, inst-bx, no-mark, LoadK, LoadNil, Jmp, Lt, Return, Class, ClassMeth, ClassStMeth, Addi, GetIter, GetIterk, GetIteri, Length, SetGlobal, DeregisterTryCatch, GetExcept}
 use Rattle.meaning.specs.Constant.{number, text}
 use Rattle.meaning.specs.declared.Token.{Token}
 use Rattle.meaning.specs.Syntax.{Super, no-super, super}
@@ -30,7 +30,7 @@ visit-let-as node x initializer = do
       (do
         k ← new-global node x
         c ← initializer
-        pure (chunk (c .code ++ wide SetGlobal (c .result) k (x .mark) ∷ []) (c .result)))
+        pure (chunk (c .code ++ inst-bx SetGlobal (c .result) k (x .mark) ∷ []) (c .result)))
       (do
         c ← initializer
         allocate-register (x .name) (c .result)
@@ -44,7 +44,7 @@ visit-let-only node x = do
       (do
         k ← new-global node x
         r ← next-register node
-        pure (chunk (inst LoadNil r 0 0 (x .mark) ∷ wide SetGlobal r k (x .mark) ∷ []) 0))
+        pure (chunk (inst LoadNil r 0 0 (x .mark) ∷ inst-bx SetGlobal r k (x .mark) ∷ []) 0))
       (do
         r ← next-register node
         allocate-register (x .name) r
@@ -105,7 +105,7 @@ visit-for-in mode node mark names collection body = do
   c ← collection
   heads ← iterate node mark element (c .result) counter names
   b ← in-loop body
-  let before = wide LoadK counter k mark ∷ c .code
+  let before = inst-bx LoadK counter k mark ∷ c .code
   let test = inst Length size (c .result) 0 mark ∷ inst Lt condition counter size mark ∷ []
   pure
       (chunk
@@ -175,7 +175,7 @@ visit-method node mark op result tmp name method others = do
   c ← method
   k ← add-constant node (text name)
   more ← others
-  pure (c .code ++ (wide LoadK tmp k mark ∷ inst op result tmp (c .result) mark ∷ more))
+  pure (c .code ++ (inst-bx LoadK tmp k mark ∷ inst op result tmp (c .result) mark ∷ more))
 
 -- the methods, then the static methods, in a block of their own
 unfoldable pub visit-methods : M (List Instruction) → M (List Instruction) → M (List Instruction)
@@ -193,4 +193,4 @@ visit-class node x superclass methods statics = do
   k ← add-constant node (text (x .name))
   p ← visit-super node x superclass
   ms ← visit-methods (methods ClassMeth r tmp) (statics ClassStMeth r tmp)
-  define-name node x (chunk (wide LoadK tmp k (x .mark) ∷ (p .code ++ (inst Class r tmp (p .result) (x .mark) ∷ ms))) r)
+  define-name node x (chunk (inst-bx LoadK tmp k (x .mark) ∷ (p .code ++ (inst Class r tmp (p .result) (x .mark) ∷ ms))) r)

@@ -1,7 +1,7 @@
 // The walk over the fields of an image in order: which of them are instructions that are replaced.
+use fields::as_size;
 use fields::is_whole;
 use fields::span_of;
-use fields::as_size;
 use fields::word;
 use reader::is_replaced;
 ghost use mathlib.Core.Path.{_≡_};

@@ -11,7 +11,7 @@ use lib.ListN.{length, getD, drop, length-take, length-drop}
 use lib.Dec.{eqb, leb, ltb}
 use borrow.Author.Tests.{eqb-true, eqb-false, eq-eqb, ne-eqb, lt-ltb, le-ltb}
 use Rattle.meaning.specs.Fields.{Field, word-at, span, whole, payload-of, front, rest, fields}
-use Rattle.meaning.proofs.FieldLaws.{whole-true, fields-whole, fields-cut, from, Walk, walk-start, walk-part}
+use Rattle.meaning.proofs.FieldLaws.{whole-true, fields-whole, fields-cut, from, FieldWalk, walk-start, walk-part}
 use Rattle.meaning.proofs.Lists.{and-left, and-right, lt-or-le, tail-part}
 use Rattle.meaning.specs.declared.Due.{Due}
 use Rattle.reader.specs.declared.order.Seen.{Seen}
@@ -131,7 +131,7 @@ shift-further i (some k) = ap (λ (n : ℕ). some n) (omega arith)
 
 -- the walk stands before field i, with d due; what is strayed from here on is what strays at all
 pub record Ordering (s : List ℕ) (tag : ℕ) (t : List ℕ) (d : Due) (i : ℕ) : Type 0 where
-  pub walk : Walk s i t
+  pub walk : FieldWalk s i t
   pub same : shift i (stray tag d (fields t)) ≡ stray tag at-first (fields s)
   pub prototypes : d .prototypes ≤ i
   pub constants : d .constants ≤ i

@@ -8,19 +8,19 @@ use lib.Dec.{eqb}
 use borrow.Author.Tests.{eqb-true, eqb-false}
 use Rattle.meaning.proofs.Lists.{and-left, and-right}
 use Rattle.store.specs.declared.Scope.{Scope}
-use Rattle.store.specs.Store.{global-scope, Sound}
+use Rattle.store.specs.Store.{depth-of, block-of, global-scope, Sound}
 
 pub record Alone (p : Scope) : Type 0 where
-  pub depth : p .depth ≡ 0
-  pub block : p .block ≡ 1
+  pub depth : depth-of p ≡ 0
+  pub block : block-of p ≡ 1
 
 pub alone : (p : Scope) → global-scope p ≡ true → Alone p
-alone p e = record { depth = eqb-true (p .depth) 0 (and-left _ _ e); block = eqb-true (p .block) 1 (and-right (eqb (p .depth) 0) _ e) }
+alone p e = record { depth = eqb-true (depth-of p) 0 (and-left _ _ e); block = eqb-true (block-of p) 1 (and-right (eqb (depth-of p) 0) _ e) }
 
-pub not-alone : {w : List ℕ} (p : Scope) → Sound w p → global-scope p ≡ false → 2 ≤ p .depth + p .block
-not-alone p sound e = cases (eqb (p .depth) 0) (eqb (p .block) 1) refl refl e
+pub not-alone : {w : List ℕ} (p : Scope) → Sound w p → global-scope p ≡ false → 2 ≤ depth-of p + block-of p
+not-alone p sound e = cases (eqb (depth-of p) 0) (eqb (block-of p) 1) refl refl e
   where
-    cases : (a b : Bool) → eqb (p .depth) 0 ≡ a → eqb (p .block) 1 ≡ b → a && b ≡ false → 2 ≤ p .depth + p .block
+    cases : (a b : Bool) → eqb (depth-of p) 0 ≡ a → eqb (block-of p) 1 ≡ b → a && b ≡ false → 2 ≤ depth-of p + block-of p
     cases true true f g h = absurd (let z : _≡_ {A = ℕ} 0 1 = cc in omega arith)
-    cases true false f g h = let n = eqb-false (p .block) 1 g in omega (arith, sound .starts 0 (omega arith), n)
-    cases false b f g h = let n = eqb-false (p .depth) 0 f in omega (arith, sound .starts 0 (omega arith), n)
+    cases true false f g h = let n = eqb-false (block-of p) 1 g in omega (arith, sound .starts 0 (omega arith), n)
+    cases false b f g h = let n = eqb-false (depth-of p) 0 f in omega (arith, sound .starts 0 (omega arith), n)

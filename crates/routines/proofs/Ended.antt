@@ -8,7 +8,7 @@ use Rattle.forward.specs.Forward.{Config, Run}
 use Rattle.store.specs.declared.Step.{Step}
 use Rattle.store.specs.declared.Scope.{Scope}
 use Rattle.store.specs.Layout.{first-local, visited}
-use Rattle.store.specs.Store.{top-of, goes-on, while-going, Fine}
+use Rattle.store.specs.Store.{nodes-of, top-of, depth-of, outcome-of, goes-on, while-going, Fine}
 use Rattle.store.specs.Promise.{Cost, both, live, Used, Leaf}
 use Rattle.store.proofs.Runs.{due, promised, kept-in}
 use Rattle.store.proofs.Compose.{used-then, taken-few}
@@ -25,7 +25,7 @@ module _ {first : ℕ} {w w1 : List ℕ} {p : Scope} {s s1 : Step} {u : Cost} (x
         fine = y .fine;
         kept = kept-in refl (omega arith) (omega arith) (x .kept) (y .kept);
         back = λ g. x .back (y .back g);
-        used = promised (r .outcome) (λ g. used-then (due (s1 .outcome) (x .used) (y .back g)) (due (r .outcome) (y .used) g));
+        used = promised (outcome-of r) (λ g. used-then (due (outcome-of s1) (x .used) (y .back g)) (due (outcome-of r) (y .used) g));
         longer = λ h. omega (arith, x .longer h, y .longer);
         still = λ z. y .still (omega arith) ∙ x .still (omega arith);
       }
@@ -37,7 +37,7 @@ module _ {first : ℕ} {w w1 : List ℕ} {p : Scope} {s s1 : Step} {u : Cost} (x
         fine = x .fine;
         kept = x .kept;
         back = x .back;
-        used = promised (s1 .outcome) (λ g. again (due (s1 .outcome) (x .used) g));
+        used = promised (outcome-of s1) (λ g. again (due (outcome-of s1) (x .used) g));
         longer = x .longer;
         still = λ z. x .still (k .still z);
       }
@@ -47,12 +47,12 @@ module _ {first : ℕ} {w w1 : List ℕ} {p : Scope} {s s1 : Step} {u : Cost} (x
 
   -- what a call asks then
   pub owes-then : {a b e : ℕ} (a' b' e' : ℕ) → Owing w p (cut-step s first) a b e → Left a b e u a' b' e' → Owing w1 p s1 a' b' e'
-  owes-then a' b' e' o l = record { spare = promised (s1 .outcome) (λ g. spare-after l (due (s1 .outcome) (x .used) g) (due (s .outcome) (o .spare) (x .back g))) }
+  owes-then a' b' e' o l = record { spare = promised (outcome-of s1) (λ g. spare-after l (due (outcome-of s1) (x .used) g) (due (outcome-of s) (o .spare) (x .back g))) }
 
   -- a fact that is due then, while nothing is refused
-  pub there : {P : Type 0} → (goes-on (s1 .outcome) → P) → while-going (s1 .outcome) P
-  there h = promised (s1 .outcome) h
+  pub there : {P : Type 0} → (goes-on (outcome-of s1) → P) → while-going (outcome-of s1) P
+  there h = promised (outcome-of s1) h
 
 -- eight functions have at most 2,040 registers, so the words that are left are there
-pub spare-words : {w : List ℕ} {p : Scope} {s : Step} {a b e : ℕ} → Fine w p s → Owing w p s a b e → goes-on (s .outcome) → first-local (p .nodes) + live w p s + a ≤ top-of p
-spare-words {w} {p} {s} fine o g = omega (arith, due (s .outcome) (o .spare) g .words, taken-few w (p .depth), due (s .outcome) (fine .nested) g)
+pub spare-words : {w : List ℕ} {p : Scope} {s : Step} {a b e : ℕ} → Fine w p s → Owing w p s a b e → goes-on (outcome-of s) → first-local (nodes-of p) + live w p s + a ≤ top-of p
+spare-words {w} {p} {s} fine o g = omega (arith, due (outcome-of s) (o .spare) g .words, taken-few w (depth-of p), due (outcome-of s) (fine .nested) g)

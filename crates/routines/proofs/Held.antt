@@ -20,7 +20,7 @@ use Rattle.values.specs.declared.literal.Immediate.the-variants.{Is, Not}
 use Rattle.values.specs.Literals.{constant-at, small-as}
 use denote.Enum.Declared.{tagOf}
 use Rattle.store.specs.declared.Scope.{Scope}
-use Rattle.store.specs.Store.{Kept}
+use Rattle.store.specs.Store.{nodes-of, Kept}
 use Rattle.store.specs.declared.Found.{Found}
 use Rattle.store.specs.declared.Found.the-variants.{At, Nothing, Full}
 use Rattle.store.specs.Search.{option-of, in-byte}
@@ -68,7 +68,7 @@ module _ {t w : List ℕ} {n i : ℕ} (h : Lawful t w n) (l : i < n) where
       by (no e) (no d) = other-node fs (h .shapes) i inside (omega arith) .is ∙ rw (ne-eqb _ 0x01 e, ne-eqb _ 0x02 d)
 
 -- the tree is lawful beside other words that keep the table of offsets
-pub lawful-kept : {t w w' : List ℕ} {p : Scope} → Lawful t w (p .nodes) → Kept w p w' → Lawful t w' (p .nodes)
+pub lawful-kept : {t w w' : List ℕ} {p : Scope} → Lawful t w (nodes-of p) → Kept w p w' → Lawful t w' (nodes-of p)
 lawful-kept {t} {w} {w'} {p} h g =
     record {
       nodes = h .nodes;

@@ -17,11 +17,11 @@ use Rattle.forward.specs.Forward.{Config, Run, bind, sure, emit, fwd-code, fwd-
 use Rattle.store.specs.declared.Step.{Step}
 use Rattle.store.specs.declared.Scope.{Scope}
 use Rattle.store.specs.Layout.{registers}
-use Rattle.store.specs.Store.{is-wide, run, goes-on, Fine}
-use Rattle.store.specs.Promise.{Cost, uses, a-register, a-local, a-parameter, some-registers, both, Room, Leaf}
+use Rattle.store.specs.Store.{depth-of, outcome-of, result-of, is-wide, run, goes-on, Fine}
+use Rattle.store.specs.Promise.{Cost, uses, a-register, a-local, a-parameter, some-registers, both, Space, Leaf}
 use Rattle.store.proofs.Compose.{moves-by, known}
 use Rattle.routines.specs.Pieces.{tokens-from}
-use Rattle.routines.proofs.PieceLine.{Line, Within, _▹_, from as line-from}
+use Rattle.routines.proofs.PieceLine.{PieceLine, Within, _▹_, from as line-from}
 use Rattle.routines.proofs.Results.{named-takes, emit-keeps}
 use Rattle.routines.proofs.Named.{parameter-chain, iterate-each-chain}
 use Rattle.routines.proofs.Tokens.{left, mark-in, left-all, left-none, left-more}
@@ -33,17 +33,17 @@ turns a k = both (some-registers k) (uses (a * k) k 0)
 -- after k of n turns; `op k` does what is left of the list
 pub record Turned (op : ℕ → List Token → Config → Run) (l : List ℕ) (from n a : ℕ) (w₀ : List ℕ) (p : Scope) (s₀ : Step) (w : List ℕ) (s : Step) (k : ℕ) : Type 0 where
   pub most : k ≤ n
-  pub line : Line w₀ p s₀ 0 0 0 w s (turns a k)
-  pub counted : goes-on (s .outcome) → registers w (p .depth) ≡ registers w₀ (p .depth) + k
+  pub line : PieceLine w₀ p s₀ 0 0 0 w s (turns a k)
+  pub counted : goes-on (outcome-of s) → registers w (depth-of p) ≡ registers w₀ (depth-of p) + k
   pub rest : (ps : List Proto) (x : Run) → x ≡ bind (run w p s ps) (op k (left p l from n k)) → x ≡ bind (run w₀ p s₀ ps) (op 0 (tokens-from p l from n))
 
 -- the same line, its cost said with other numbers
-pub costing : {w w' : List ℕ} {p : Scope} {s r : Step} {a b e : ℕ} {u : Cost} (v : Cost) → Within u v → Line w p s a b e w' r u → Line w p s a b e w' r v
+pub costing : {w w' : List ℕ} {p : Scope} {s r : Step} {a b e : ℕ} {u : Cost} (v : Cost) → Within u v → PieceLine w p s a b e w' r u → PieceLine w p s a b e w' r v
 costing v k x = record { owing = x .owing; moves = moves-by v (k .words) (k .locals) (k .names) (k .still) (k .visits) (x .moves); image = x .image }
 
 module _ {op : ℕ → List Token → Config → Run} {l : List ℕ} {from n a : ℕ} {w₀ : List ℕ} {p : Scope} {s₀ : Step} where
   -- no turn yet
-  pub no-turn : Fine w₀ p s₀ → Room w₀ p s₀ 0 0 0 → Turned op l from n a w₀ p s₀ w₀ s₀ 0
+  pub no-turn : Fine w₀ p s₀ → Space w₀ p s₀ 0 0 0 → Turned op l from n a w₀ p s₀ w₀ s₀ 0
   no-turn h r =
       record {
         most = omega arith;
@@ -53,7 +53,7 @@ module _ {op : ℕ → List Token → Config → Run} {l : List ℕ} {from n a :
       }
 
   -- one turn more, of which x = the k-th pair
-  pub one-turn : {w w' : List ℕ} {s s' : Step} {k : ℕ} → Turned op l from n a w₀ p s₀ w s k → k < n → Line w₀ p s₀ 0 0 0 w' s' (turns a (k + 1)) → (goes-on (s' .outcome) → registers w' (p .depth) ≡ registers w₀ (p .depth) + (k + 1))
+  pub one-turn : {w w' : List ℕ} {s s' : Step} {k : ℕ} → Turned op l from n a w₀ p s₀ w s k → k < n → PieceLine w₀ p s₀ 0 0 0 w' s' (turns a (k + 1)) → (goes-on (outcome-of s') → registers w' (depth-of p) ≡ registers w₀ (depth-of p) + (k + 1))
       → ((ps : List Proto) (x : Run) → x ≡ bind (run w' p s' ps) (op (suc k) (left p l from n (k + 1))) → x ≡ bind (run w p s ps) (op k (token (at (words l) (from + pair-place (is-wide p) k)) (mark-in p l from k) ∷ left p l from n (k + 1))))
       → Turned op l from n a w₀ p s₀ w' s' (k + 1)
   one-turn {w} {w'} {s} {s'} {k} v less line counted turn =
@@ -87,7 +87,7 @@ module _ (node name : ℕ) {l : List ℕ} {from n k : ℕ} {w₀ w w' : List ℕ
 
 module _ (node mark element name : ℕ) {l : List ℕ} {from n k : ℕ} {w₀ w w1 w' : List ℕ} {p : Scope} {s₀ s s1 s' : Step} where
   pub name-turn : Turned (all-names node mark element) l from n 3 w₀ p s₀ w s k → k < n → name ≡ at (words l) (from + pair-place (is-wide p) k)
-      → Leaf w p s w1 p s1 (both a-register a-local) (a-parameter node name) → Leaf w1 p s1 w' p s' (uses 2 0 0) (sure (emit (inst GetIteri (s1 .result) element k mark)))
+      → Leaf w p s w1 p s1 (both a-register a-local) (a-parameter node name) → Leaf w1 p s1 w' p s' (uses 2 0 0) (sure (emit (inst GetIteri (result-of s1) element k mark)))
       → Turned (all-names node mark element) l from n 3 w₀ p s₀ w' s' (k + 1)
   name-turn v less e m i =
       one-turn v less (costing (turns 3 (k + 1)) (record { words = omega arith; locals = omega arith; names = omega arith; still = λ z. omega arith; visits = omega arith }) (v .line ▹ m ▹ i))
@@ -96,5 +96,5 @@ module _ (node mark element name : ℕ) {l : List ℕ} {from n k : ℕ} {w₀ w 
 
 -- each turn took a register, so k is a byte
 pub name-byte : (node mark element name : ℕ) {l : List ℕ} {from n k : ℕ} {w₀ w w1 : List ℕ} {p : Scope} {s₀ s s1 : Step} → Turned (all-names node mark element) l from n 3 w₀ p s₀ w s k → Leaf w p s w1 p s1 (both a-register a-local) (a-parameter node name)
-    → s1 .result < 255 → goes-on (s1 .outcome) → k < 256
+    → result-of s1 < 255 → goes-on (outcome-of s1) → k < 256
 name-byte node mark element name v m small g = omega (arith, named-takes node name m g .result, v .counted (m .moves .back g))

@@ -8,34 +8,34 @@ use Rattle.meaning.specs.State.{Proto}
 use Rattle.forward.specs.Forward.{Config, Run, stopped, going, bind, sure, give}
 use Rattle.store.specs.declared.Step.{Step}
 use Rattle.store.specs.declared.Scope.{Scope}
-use Rattle.store.specs.Store.{run, with-result, goes-on, while-going, Image, Fine}
-use Rattle.store.specs.Promise.{Cost, nothing, both, Used, Roomy, Room, Moves, Leaf}
+use Rattle.store.specs.Store.{outcome-of, run, with-result, goes-on, while-going, Image, Fine}
+use Rattle.store.specs.Promise.{Cost, nothing, both, Used, Roomy, Space, Moves, Leaf}
 use Rattle.store.proofs.Runs.{due, promised}
 use Rattle.store.proofs.Compose.{none-moved, moves-then, moves-by, settled}
 use Rattle.routines.specs.Pieces.{Spare, Owing}
 
 -- ---- the line
 
-pub record Line (w : List ℕ) (p : Scope) (s : Step) (a b e : ℕ) (w' : List ℕ) (r : Step) (u : Cost) : Type 0 where
+pub record PieceLine (w : List ℕ) (p : Scope) (s : Step) (a b e : ℕ) (w' : List ℕ) (r : Step) (u : Cost) : Type 0 where
   pub owing : Owing w p s a b e
   pub moves : Moves w p s w' p r u
   pub image : (o : List ℕ) (ps : List Proto) → Image p o s ps → Image p o r ps
 
-pub owing-from : {w : List ℕ} {p : Scope} {s : Step} {a b e : ℕ} → Fine w p s → Owing w p s a b e → Line w p s a b e w s nothing
+pub owing-from : {w : List ℕ} {p : Scope} {s : Step} {a b e : ℕ} → Fine w p s → Owing w p s a b e → PieceLine w p s a b e w s nothing
 owing-from h o = record { owing = o; moves = none-moved h; image = λ l ps i. i }
 
-pub room-owing : {w : List ℕ} {p : Scope} {s : Step} {a b : ℕ} (e : ℕ) → Room w p s 0 a b → Owing w p s a b e
-room-owing {w} {p} {s} {a} {b} e h = record { spare = promised (s .outcome) (λ g. spare (due (s .outcome) (h .roomy) g)) }
+pub room-owing : {w : List ℕ} {p : Scope} {s : Step} {a b : ℕ} (e : ℕ) → Space w p s 0 a b → Owing w p s a b e
+room-owing {w} {p} {s} {a} {b} e h = record { spare = promised (outcome-of s) (λ g. spare (due (outcome-of s) (h .roomy) g)) }
   where
     spare : Roomy w p s 0 a b → Spare w p s a b e
     spare j = record { words = omega (arith, j .words); locals = omega (arith, j .locals); globals = omega (arith, j .globals) }
 
-pub from : {w : List ℕ} {p : Scope} {s : Step} {a b : ℕ} → Fine w p s → Room w p s 0 a b → Line w p s a b 0 w s nothing
+pub from : {w : List ℕ} {p : Scope} {s : Step} {a b : ℕ} → Fine w p s → Space w p s 0 a b → PieceLine w p s a b 0 w s nothing
 from h o = owing-from h (room-owing 0 o)
 
 -- one call more
 infixl 5 _▹_
-pub _▹_ : {w w1 w2 : List ℕ} {p : Scope} {s s1 s2 : Step} {a b e : ℕ} {u v : Cost} {op : Config → Run} → Line w p s a b e w1 s1 u → Leaf w1 p s1 w2 p s2 v op → Line w p s a b e w2 s2 (both u v)
+pub _▹_ : {w w1 w2 : List ℕ} {p : Scope} {s s1 s2 : Step} {a b e : ℕ} {u v : Cost} {op : Config → Run} → PieceLine w p s a b e w1 s1 u → Leaf w1 p s1 w2 p s2 v op → PieceLine w p s a b e w2 s2 (both u v)
 _▹_ x m = record { owing = x .owing; moves = moves-then refl (omega arith) (omega arith) (x .moves) (m .moves); image = λ o ps i. m .image o ps (x .image o ps i) }
 
 -- ---- what a call asks
@@ -49,31 +49,31 @@ pub record Left (a b e : ℕ) (u : Cost) (a' b' e' : ℕ) : Type 0 where
 pub spare-after : {w w' : List ℕ} {p : Scope} {s r : Step} {a b e a' b' e' : ℕ} {u : Cost} → Left a b e u a' b' e' → Used w p s w' p r u → Spare w p s a b e → Spare w' p r a' b' e'
 spare-after l i j = record { words = omega (arith, i .words, j .words, l .words); locals = omega (arith, i .locals, j .locals, l .locals); globals = omega (arith, i .names, j .globals, l .names) }
 
-pub owes : {w w' : List ℕ} {p : Scope} {s r : Step} {a b e : ℕ} {u : Cost} (a' b' e' : ℕ) → Line w p s a b e w' r u → Left a b e u a' b' e' → Owing w' p r a' b' e'
-owes {s = s} {r = r} a' b' e' x l = record { spare = promised (r .outcome) (λ g. spare-after l (due (r .outcome) (x .moves .used) g) (due (s .outcome) (x .owing .spare) (x .moves .back g))) }
+pub owes : {w w' : List ℕ} {p : Scope} {s r : Step} {a b e : ℕ} {u : Cost} (a' b' e' : ℕ) → PieceLine w p s a b e w' r u → Left a b e u a' b' e' → Owing w' p r a' b' e'
+owes {s = s} {r = r} a' b' e' x l = record { spare = promised (outcome-of r) (λ g. spare-after l (due (outcome-of r) (x .moves .used) g) (due (outcome-of s) (x .owing .spare) (x .moves .back g))) }
 
-pub spared : {w : List ℕ} {p : Scope} {s : Step} {a b e : ℕ} → Owing w p s a b e → goes-on (s .outcome) → Spare w p s a b e
-spared {s = s} o g = due (s .outcome) (o .spare) g
+pub spared : {w : List ℕ} {p : Scope} {s : Step} {a b e : ℕ} → Owing w p s a b e → goes-on (outcome-of s) → Spare w p s a b e
+spared {s = s} o g = due (outcome-of s) (o .spare) g
 
-pub owing-room : {w : List ℕ} {p : Scope} {s : Step} {a b : ℕ} → Owing w p s a b 0 → Room w p s 0 a b
-owing-room {w} {p} {s} {a} {b} o = record { roomy = promised (s .outcome) (λ g. roomy (due (s .outcome) (o .spare) g)) }
+pub owing-room : {w : List ℕ} {p : Scope} {s : Step} {a b : ℕ} → Owing w p s a b 0 → Space w p s 0 a b
+owing-room {w} {p} {s} {a} {b} o = record { roomy = promised (outcome-of s) (λ g. roomy (due (outcome-of s) (o .spare) g)) }
   where
     roomy : Spare w p s a b 0 → Roomy w p s 0 a b
     roomy j = record { words = omega (arith, j .words); locals = omega (arith, j .locals); globals = omega (arith, j .globals) }
 
-pub room : {w w' : List ℕ} {p : Scope} {s r : Step} {a b e : ℕ} {u : Cost} (a' b' : ℕ) → Line w p s a b e w' r u → Left a b e u a' b' 0 → Room w' p r 0 a' b'
+pub room : {w w' : List ℕ} {p : Scope} {s r : Step} {a b e : ℕ} {u : Cost} (a' b' : ℕ) → PieceLine w p s a b e w' r u → Left a b e u a' b' 0 → Space w' p r 0 a' b'
 room a' b' x l = owing-room (owes a' b' 0 x l)
 
 -- a fact that is due here, while nothing is refused
-pub here : {w w' : List ℕ} {p : Scope} {s r : Step} {a b e : ℕ} {u : Cost} {P : Type 0} → Line w p s a b e w' r u → (goes-on (r .outcome) → P) → while-going (r .outcome) P
-here {r = r} x h = promised (r .outcome) h
+pub here : {w w' : List ℕ} {p : Scope} {s r : Step} {a b e : ℕ} {u : Cost} {P : Type 0} → PieceLine w p s a b e w' r u → (goes-on (outcome-of r) → P) → while-going (outcome-of r) P
+here {r = r} x h = promised (outcome-of r) h
 
 -- from one that was due at the entry: nothing was refused there either
-pub given : {w w' : List ℕ} {p : Scope} {s r : Step} {a b e : ℕ} {u : Cost} {P Q : Type 0} → Line w p s a b e w' r u → while-going (s .outcome) Q → (Q → P) → while-going (r .outcome) P
-given {s = s} x d h = here x (λ g. h (due (s .outcome) d (x .moves .back g)))
+pub given : {w w' : List ℕ} {p : Scope} {s r : Step} {a b e : ℕ} {u : Cost} {P Q : Type 0} → PieceLine w p s a b e w' r u → while-going (outcome-of s) Q → (Q → P) → while-going (outcome-of r) P
+given {s = s} x d h = here x (λ g. h (due (outcome-of s) d (x .moves .back g)))
 
 -- settle, here
-pub settling : {w w' : List ℕ} {p : Scope} {s r : Step} {a b e : ℕ} {u : Cost} {v : ℕ} → Line w p s a b e w' r u → v < 255 → Leaf w' p r w' p (with-result r v) nothing (sure (give v))
+pub settling : {w w' : List ℕ} {p : Scope} {s r : Step} {a b e : ℕ} {u : Cost} {v : ℕ} → PieceLine w p s a b e w' r u → v < 255 → Leaf w' p r w' p (with-result r v) nothing (sure (give v))
 settling {r = r} {v = v} x small = settled r v small (x .moves .fine)
 
 -- ---- the end
@@ -86,7 +86,7 @@ pub record Within (u v : Cost) : Type 0 where
   pub still : v .locals ≡ 0 → u .locals ≡ 0
   pub visits : u .visits ≡ v .visits
 
-pub ends : {w w' : List ℕ} {p : Scope} {s r : Step} {a b e : ℕ} {u : Cost} {op : Config → Run} (v : Cost) → Line w p s a b e w' r u → Within u v → ((ps : List Proto) → run w' p r ps ≡ bind (run w p s ps) op) → Leaf w p s w' p r v op
+pub ends : {w w' : List ℕ} {p : Scope} {s r : Step} {a b e : ℕ} {u : Cost} {op : Config → Run} (v : Cost) → PieceLine w p s a b e w' r u → Within u v → ((ps : List Proto) → run w' p r ps ≡ bind (run w p s ps) op) → Leaf w p s w' p r v op
 ends v x k h = record { moves = moves-by v (k .words) (k .locals) (k .names) (k .still) (k .visits) (x .moves); runs = h; image = x .image }
 
 -- a line that ends with no call

@@ -5,7 +5,7 @@ use mathlib.Core.Bool.{Bool, true, false}
 use mathlib.Core.List.{List, []}
 use native.Mathlib.Omega.{arith}
 use lib.Dec.{eqb}
-use Rattle.meaning.specs.Opcode.{wide, Closure}
+use Rattle.meaning.specs.Opcode.{inst-bx, Closure}
 use Rattle.meaning.specs.State.{_>>=_, and-then, pure, if-then, only-if, get, next-register, is-global, is-global-context, add-global}
 use Rattle.meaning.specs.declared.Token.{Token}
 use Rattle.meaning.specs.Expressions.{next-registers}
@@ -19,7 +19,7 @@ use Rattle.forward.proofs.Opened.{register-opened, allocate-opened, global-open
 use Rattle.store.specs.declared.Step.{Step}
 use Rattle.store.specs.declared.Scope.{Scope}
 use Rattle.store.specs.Layout.{registers}
-use Rattle.store.specs.Store.{open-at, state-of, config-of, goes-on}
+use Rattle.store.specs.Store.{depth-of, outcome-of, result-of, open-at, state-of, config-of, goes-on}
 use Rattle.store.specs.Promise.{Cost, Leaf, a-parameter}
 use Rattle.store.proofs.Runs.{going-is, run-going}
 
@@ -31,11 +31,11 @@ abbrev Always : (Config → Run) → ((result count result' count' : ℕ) → Ty
 Always op P = (c d : Config) → op c ≡ going d → P (c .result) (count c) (d .result) (count d)
 
 -- THE LAW: what always holds of an operation holds of a leaf that does it
-tells : {w w' : List ℕ} {p q : Scope} {s r : Step} {u : Cost} {op : Config → Run} (P : (result count result' count' : ℕ) → Type 0) → Always op P → Leaf w p s w' q r u op → goes-on (r .outcome) → P (s .result) (registers w (p .depth)) (r .result) (registers w' (q .depth))
+tells : {w w' : List ℕ} {p q : Scope} {s r : Step} {u : Cost} {op : Config → Run} (P : (result count result' count' : ℕ) → Type 0) → Always op P → Leaf w p s w' q r u op → goes-on (outcome-of r) → P (result-of s) (registers w (depth-of p)) (result-of r) (registers w' (depth-of q))
 unfolding bind config-of state-of open-at
 tells {w} {w'} {p} {q} {s} {r} {u} {op} P h l g =
-    let e = going-is (r .outcome) g in
-    let f = going-is (s .outcome) (l .moves .back g) in
+    let e = going-is (outcome-of r) g in
+    let f = going-is (outcome-of s) (l .moves .back g) in
     let before = run-going w p s [] (f .0) (f .1) in
     let after = run-going w' q r [] (e .0) (e .1) in
     h (config-of w p s []) (config-of w' q r []) (sym (ap (λ (x : Run). bind x op) before) ∙ sym (l .runs []) ∙ after)
@@ -64,17 +64,17 @@ pub record Keeps (x n x' n' : ℕ) : Type 0 where
 keeps-by : {c d : Config} → c ≡ d → Keeps (c .result) (count c) (d .result) (count d)
 keeps-by e = record { result = sym (ap (λ (y : Config). y .result) e); counted = sym (ap (λ (y : Config). count y) e) }
 
-pub emit-keeps : {w w' : List ℕ} {p q : Scope} {s r : Step} {u : Cost} (i : Instruction) → Leaf w p s w' q r u (sure (emit i)) → goes-on (r .outcome) → Keeps (s .result) (registers w (p .depth)) (r .result) (registers w' (q .depth))
+pub emit-keeps : {w w' : List ℕ} {p q : Scope} {s r : Step} {u : Cost} (i : Instruction) → Leaf w p s w' q r u (sure (emit i)) → goes-on (outcome-of r) → Keeps (result-of s) (registers w (depth-of p)) (result-of r) (registers w' (depth-of q))
 emit-keeps i = tells Keeps (λ c d e. keeps-by {c = emit i c} (un-going e))
 
-pub put-keeps : {w w' : List ℕ} {p q : Scope} {s r : Step} {u : Cost} (v : ℕ) (i : Instruction) → Leaf w p s w' q r u (sure (put v i)) → goes-on (r .outcome) → Keeps v (registers w (p .depth)) (r .result) (registers w' (q .depth))
+pub put-keeps : {w w' : List ℕ} {p q : Scope} {s r : Step} {u : Cost} (v : ℕ) (i : Instruction) → Leaf w p s w' q r u (sure (put v i)) → goes-on (outcome-of r) → Keeps v (registers w (depth-of p)) (result-of r) (registers w' (depth-of q))
 put-keeps v i = tells (λ x n x' n'. Keeps v n x' n') (λ c d e. keeps-by {c = put v i c} (un-going e))
 
-pub closure-keeps : {w w' : List ℕ} {p q : Scope} {s r : Step} {u : Cost} (register mark : ℕ) → Leaf w p s w' q r u (sure (closure register mark)) → goes-on (r .outcome) → Keeps register (registers w (p .depth)) (r .result) (registers w' (q .depth))
+pub closure-keeps : {w w' : List ℕ} {p q : Scope} {s r : Step} {u : Cost} (register mark : ℕ) → Leaf w p s w' q r u (sure (closure register mark)) → goes-on (outcome-of r) → Keeps register (registers w (depth-of p)) (result-of r) (registers w' (depth-of q))
 unfolding closure
-closure-keeps register mark = tells (λ x n x' n'. Keeps register n x' n') (λ c d e. keeps-by {c = put register (wide Closure register (c .result) mark) c} (un-going e))
+closure-keeps register mark = tells (λ x n x' n'. Keeps register n x' n') (λ c d e. keeps-by {c = put register (inst-bx Closure register (c .result) mark) c} (un-going e))
 
-pub global-keeps : {w w' : List ℕ} {p q : Scope} {s r : Step} {u : Cost} (name : ℕ) → Leaf w p s w' q r u (fwd-unit (add-global name)) → goes-on (r .outcome) → Keeps (s .result) (registers w (p .depth)) (r .result) (registers w' (q .depth))
+pub global-keeps : {w w' : List ℕ} {p q : Scope} {s r : Step} {u : Cost} (name : ℕ) → Leaf w p s w' q r u (fwd-unit (add-global name)) → goes-on (outcome-of r) → Keeps (result-of s) (registers w (depth-of p)) (result-of r) (registers w' (depth-of q))
 global-keeps name = tells Keeps (λ c d e. keeps-by (un-going (sym (global-opened name c) ∙ e)))
 
 -- a global's name, where the context is global
@@ -101,7 +101,7 @@ register-takes node c d e =
     let f = un-pick (eqb (count c) 255) Registers node _ d (sym (register-opened node c) ∙ e) in
     record { result = sym (ap (λ (y : Config). y .result) f); counted = sym (ap (λ (y : Config). count y) f) }
 
-pub takes : {w w' : List ℕ} {p q : Scope} {s r : Step} {u : Cost} (node : ℕ) → Leaf w p s w' q r u (fwd-number (next-register node)) → goes-on (r .outcome) → Takes (registers w (p .depth)) (r .result) (registers w' (q .depth))
+pub takes : {w w' : List ℕ} {p q : Scope} {s r : Step} {u : Cost} (node : ℕ) → Leaf w p s w' q r u (fwd-number (next-register node)) → goes-on (outcome-of r) → Takes (registers w (depth-of p)) (result-of r) (registers w' (depth-of q))
 takes node = tells (λ x n x' n'. Takes n x' n') (register-takes node)
 
 -- with a name that is known from here on
@@ -111,7 +111,7 @@ declared node x c d e =
     let f = un-bind (fwd-number (next-register node) c) _ d e in
     takes-keeps (register-takes node c (f .0) (f .1)) (name-keeps x (f .0) d (f .2))
 
-pub declare-takes : {w w' : List ℕ} {p q : Scope} {s r : Step} {u : Cost} (node : ℕ) (x : Token) → Leaf w p s w' q r u (declare node x) → goes-on (r .outcome) → Takes (registers w (p .depth)) (r .result) (registers w' (q .depth))
+pub declare-takes : {w w' : List ℕ} {p q : Scope} {s r : Step} {u : Cost} (node : ℕ) (x : Token) → Leaf w p s w' q r u (declare node x) → goes-on (outcome-of r) → Takes (registers w (depth-of p)) (result-of r) (registers w' (depth-of q))
 declare-takes node x = tells (λ y n y' n'. Takes n y' n') (declared node x)
 
 -- with a local that names it
@@ -120,7 +120,7 @@ parameter-takes node name c d e =
     let f = un-bind (fwd-number (next-register node) c) _ d e in
     takes-keeps (register-takes node c (f .0) (f .1)) (keeps-by (un-going (sym (allocate-opened name (f .0 .result) (f .0)) ∙ f .2)))
 
-pub named-takes : {w w' : List ℕ} {p q : Scope} {s r : Step} {u : Cost} (node name : ℕ) → Leaf w p s w' q r u (a-parameter node name) → goes-on (r .outcome) → Takes (registers w (p .depth)) (r .result) (registers w' (q .depth))
+pub named-takes : {w w' : List ℕ} {p q : Scope} {s r : Step} {u : Cost} (node name : ℕ) → Leaf w p s w' q r u (a-parameter node name) → goes-on (outcome-of r) → Takes (registers w (depth-of p)) (result-of r) (registers w' (depth-of q))
 named-takes node name = tells (λ x n x' n'. Takes n x' n') (parameter-takes node name)
 
 -- several
@@ -132,5 +132,5 @@ registers-take node (suc n) c d e =
     let h = registers-take node n (f .0) d (f .2) in
     omega (arith, t .counted, h)
 
-pub many-taken : {w w' : List ℕ} {p q : Scope} {s r : Step} {u : Cost} (node n : ℕ) → Leaf w p s w' q r u (fwd-zero (next-registers node n)) → goes-on (r .outcome) → registers w' (q .depth) ≡ registers w (p .depth) + n
+pub many-taken : {w w' : List ℕ} {p q : Scope} {s r : Step} {u : Cost} (node n : ℕ) → Leaf w p s w' q r u (fwd-zero (next-registers node n)) → goes-on (outcome-of r) → registers w' (depth-of q) ≡ registers w (depth-of p) + n
 many-taken node n = tells (λ x m x' m'. m' ≡ m + n) (registers-take node n)

@@ -22,7 +22,7 @@ use Rattle.store.specs.declared.Step.{Step}
 use Rattle.store.specs.declared.Scope.{Scope}
 use Rattle.store.specs.Layout.{all-words}
 use Rattle.store.specs.Store.{nodes-of, mode-of, wide-of, Fine}
-use Rattle.store.specs.Promise.{Cost, uses, takes, Room, Leaf}
+use Rattle.store.specs.Promise.{Cost, uses, takes, Space, Leaf}
 use Rattle.routines.specs.Pieces.{Small}
 
 -- ---- what is given
@@ -38,7 +38,7 @@ pub record Lawful (t w : List ℕ) (n : ℕ) : Type 0 where
 pub record OnNode (t w : List ℕ) (p : Scope) (s : Step) (k node : ℕ) : Type 0 where
   pub lawful : Lawful t w (nodes-of p)
   pub fine : Fine w p s
-  pub room : Room w p s k 0 0
+  pub room : Space w p s k 0 0
   pub known : node < nodes-of p
   pub width : Width t (wide-of p)
 

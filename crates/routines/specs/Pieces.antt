@@ -5,7 +5,7 @@ use lib.ListN.{length, set}
 use Rattle.meaning.specs.Fields.{words}
 use Rattle.meaning.specs.At.{pair-place, pairs-in}
 use Rattle.meaning.specs.declared.Token.{Token}
-use Rattle.meaning.specs.Opcode.{wide, back, Jmp}
+use Rattle.meaning.specs.Opcode.{inst-bx, back, Jmp}
 use Rattle.meaning.specs.Chunk.{patch-loop}
 use Rattle.meaning.specs.declared.Instruction.{Instruction}
 use Rattle.store.specs.declared.Step.{Step}
@@ -31,8 +31,8 @@ pub record HasPairs (p : Scope) (payload : List ℕ) (from n : ℕ) : Type 0 whe
 -- the code of a loop, at its end: the jump back, the jump out, breaks and continues
 abbrev pub closed-loop : (goal first condition test mark : ℕ) → List Instruction → List Instruction
 closed-loop goal first condition test mark l =
-    let m : List Instruction = l ++ wide Jmp 0 (back (length l - condition)) mark ∷ [] in
-    mended (patch-loop goal) first (set m (test + 1) (wide Jmp 0 (length m - (test + 1)) mark))
+    let m : List Instruction = l ++ inst-bx Jmp 0 (back (length l - condition)) mark ∷ [] in
+    mended (patch-loop goal) first (set m (test + 1) (inst-bx Jmp 0 (length m - (test + 1)) mark))
 
 -- ---- the name of a global function or class is noted before its constant is stored
 

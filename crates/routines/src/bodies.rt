@@ -5,7 +5,7 @@ ghost use Rattle.meaning.specs.Functions.{parameters};
 ghost use Rattle.forward.specs.Forward.{fwd-zero, sure, closure, end-body};
 ghost use Rattle.store.specs.Layout.{first-local};
 ghost use Rattle.store.specs.Store.{nodes-of, top-of, wide-of, outcome-of, pc-of, result-of, while-going, Fine};
-ghost use Rattle.store.specs.Promise.{uses, some-registers, both, Room, Leaf, live};
+ghost use Rattle.store.specs.Promise.{uses, some-registers, both, Space, Leaf, live};
 ghost use Rattle.routines.specs.Pieces.{tokens-from, HasPairs};
 use crate::RETURN;
 use instruction::OpCode;
@@ -27,7 +27,7 @@ pub(crate) fn parameters(
     n: usize,
     wide: usize,
 ) -> Step
-    requires { ⌜ Fine (now work) scope step × Room (now work) scope step 0 0 0 × HasPairs scope (now payload) from n × (wide ≡ wide-of scope) ⌝ }
+    requires { ⌜ Fine (now work) scope step × Space (now work) scope step 0 0 0 × HasPairs scope (now payload) from n × (wide ≡ wide-of scope) ⌝ }
     ensures { λ r. ⌜ Leaf (now (work .entry)) scope step (now (work .exit)) scope r (both (some-registers n) (uses n n 0)) (fwd-zero (parameters node (tokens-from scope (now (payload .entry)) from n))) × (result-of r < 255) ⌝ }
 {
     let mut last = step;
@@ -49,7 +49,7 @@ pub fn end_body(
     first: usize,
     node: usize,
 ) -> Step
-    requires { ⌜ Fine (now work) scope step × Room (now work) scope step 0 2 0 × while-going (outcome-of step) (first ≤ pc-of step) × while-going (outcome-of step) (result-of step < 255) ⌝ }
+    requires { ⌜ Fine (now work) scope step × Space (now work) scope step 0 2 0 × while-going (outcome-of step) (first ≤ pc-of step) × while-going (outcome-of step) (result-of step < 255) ⌝ }
     ensures { λ r. ⌜ Leaf (now (work .entry)) scope step (now (work .exit)) scope r (uses 2 0 0) (end-body count first node) ⌝ }
 {
     let o = step.outcome;
@@ -83,7 +83,7 @@ pub(crate) fn closure(work: &mut [u32], step: Step, scope: Scope, register: u32,
         return step;
     };
     let pc = step.pc;
-    let word = store::pack_wide(CLOSURE, register, step.result as usize);
+    let word = store::pack_bx(CLOSURE, register, step.result as usize);
     store::write_cell(work, scope, pc, word, mark);
     store::advance(step, pc + 1, register)
 }

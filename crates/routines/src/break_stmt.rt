@@ -5,7 +5,7 @@ ghost use Rattle.meaning.specs.Fields.{fields};
 ghost use Rattle.meaning.specs.At.{tag-of};
 ghost use Rattle.forward.specs.Forward.{fwd};
 ghost use Rattle.store.specs.Store.{Fine};
-ghost use Rattle.store.specs.Promise.{uses, Room};
+ghost use Rattle.store.specs.Promise.{uses, Space};
 ghost use Rattle.routines.specs.Node.{OnNode, Gives, GivesStmt};
 use crate::JMP;
 use meaning::Cause;
@@ -19,7 +19,7 @@ const JMP_BREAK: u32 = instruction::JMP_BREAK as u32;
 
 // fn visit_break_stmt, fn visit_continue_stmt, by the jump's kind: 11 Stray.
 fn visit_jump(work: &mut [u32], step: Step, scope: Scope, node: usize, kind: u32, mark: u32) -> Step
-    requires { ⌜ Fine (now work) scope step × Room (now work) scope step 0 2 0 × (kind < 256) ⌝ }
+    requires { ⌜ Fine (now work) scope step × Space (now work) scope step 0 2 0 × (kind < 256) ⌝ }
     ensures { λ r. ⌜ Gives (now (work .entry)) scope step (now (work .exit)) r (uses 2 0 0) (fwd (visit-jump node kind mark)) ⌝ }
 {
     if scope.loops == 0 {

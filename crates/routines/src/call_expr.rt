@@ -3,7 +3,7 @@ ghost use mathlib.Core.Path.{_≡_};
 ghost use Prim.Native.Nat.{_+_, _-_, _<_};
 ghost use Rattle.forward.specs.Forward.{open-call, end-call};
 ghost use Rattle.store.specs.Store.{outcome-of, result-of, while-going, Fine};
-ghost use Rattle.store.specs.Promise.{uses, a-register, some-registers, both, Room, Leaf};
+ghost use Rattle.store.specs.Promise.{uses, a-register, some-registers, both, Space, Leaf};
 ghost use Rattle.routines.specs.Pieces.{Small};
 use crate::MOVE;
 use instruction::OpCode;
@@ -29,7 +29,7 @@ pub fn open_call(
     n: usize,
     mark: u32,
 ) -> Step
-    requires { ⌜ Fine (now work) scope step × Room (now work) scope step 0 2 0 × (n < 65536) × while-going (outcome-of step) (result-of step < 256) ⌝ }
+    requires { ⌜ Fine (now work) scope step × Space (now work) scope step 0 2 0 × (n < 65536) × while-going (outcome-of step) (result-of step < 256) ⌝ }
     ensures { λ r. ⌜ Leaf (now (work .entry)) scope step (now (work .exit)) scope r (both (some-registers (2 + (n - 1))) (uses 2 0 0)) (open-call node n mark) × while-going (outcome-of r) (result-of r + n < 255) ⌝ }
 {
     let function = store::next_register(work, step, scope, node);
@@ -58,7 +58,7 @@ pub fn end_call(
     function: u32,
     mark: u32,
 ) -> Step
-    requires { ⌜ Fine (now work) scope step × Room (now work) scope step 0 2 0 × while-going (outcome-of step) ((n < 255) × (function < 256)) ⌝ }
+    requires { ⌜ Fine (now work) scope step × Space (now work) scope step 0 2 0 × while-going (outcome-of step) ((n < 255) × (function < 256)) ⌝ }
     ensures { λ r. ⌜ Leaf (now (work .entry)) scope step (now (work .exit)) scope r (both a-register (uses 2 0 0)) (end-call node n function mark) × Small r ⌝ }
 {
     let o = step.outcome;

@@ -6,7 +6,7 @@ ghost use Rattle.meaning.specs.At.{tag-of};
 ghost use Rattle.meaning.specs.Weight.{size-super};
 ghost use Rattle.forward.specs.Forward.{open-class, add-method, end-class, sure, make-class};
 ghost use Rattle.store.specs.Store.{outcome-of, result-of, while-going, Fine};
-ghost use Rattle.store.specs.Promise.{uses, some-registers, both, Room, Leaf};
+ghost use Rattle.store.specs.Promise.{uses, some-registers, both, Space, Leaf};
 ghost use Rattle.routines.specs.Pieces.{Small};
 ghost use Rattle.routines.specs.Node.{OnNode, super-of, GivesSuper};
 use crate::LOAD_K;
@@ -25,13 +25,13 @@ const CLASS: u32 = OpCode::Class as u32;
 
 // visit_class_stmt before the superclass: the class's register, and that of names, with the class's own.
 pub fn open_class(work: &mut [u32], step: Step, scope: Scope, node: usize, token: Token) -> Step
-    requires { ⌜ Fine (now work) scope step × Room (now work) scope step 0 0 0 × (token .name < 65536) ⌝ }
+    requires { ⌜ Fine (now work) scope step × Space (now work) scope step 0 0 0 × (token .name < 65536) ⌝ }
     ensures { λ r. ⌜ Leaf (now (work .entry)) scope step (now (work .exit)) scope r (both (some-registers 2) (uses 2 0 0)) (open-class node token) × while-going (outcome-of r) (result-of r + 1 < 255) ⌝ }
 {
     let class = declare(work, step, scope, node, token);
     let tmp = store::next_register(work, class, scope, node);
     let k = store::add_name(work, tmp, scope, token.name, node);
-    code::put_wide(
+    code::put_bx(
         work,
         k,
         scope,
@@ -68,7 +68,7 @@ pub fn superclass(tree: &[u8], work: &mut [u32], step: Step, scope: Scope, node:
 
 // Class, of the superclass that is the result.
 pub fn make_class(work: &mut [u32], step: Step, scope: Scope, class: u32, mark: u32) -> Step
-    requires { ⌜ Fine (now work) scope step × Room (now work) scope step 0 2 0 × while-going (outcome-of step) ((class < 255) × (result-of step < 256)) ⌝ }
+    requires { ⌜ Fine (now work) scope step × Space (now work) scope step 0 2 0 × while-going (outcome-of step) ((class < 255) × (result-of step < 256)) ⌝ }
     ensures { λ r. ⌜ Leaf (now (work .entry)) scope step (now (work .exit)) scope r (uses 2 0 0) (sure (make-class class mark)) ⌝ }
 {
     let o = step.outcome;
@@ -93,11 +93,11 @@ pub fn add_method(
     tmp: u32,
     name: usize,
 ) -> Step
-    requires { ⌜ Fine (now work) scope step × Room (now work) scope step 0 4 0 × (name < 65536) × while-going (outcome-of step) ((op < 256) × (class < 256) × (tmp < 256) × (result-of step < 256)) ⌝ }
+    requires { ⌜ Fine (now work) scope step × Space (now work) scope step 0 4 0 × (name < 65536) × while-going (outcome-of step) ((op < 256) × (class < 256) × (tmp < 256) × (result-of step < 256)) ⌝ }
     ensures { λ r. ⌜ Leaf (now (work .entry)) scope step (now (work .exit)) scope r (uses 4 0 0) (add-method node mark op class tmp name) ⌝ }
 {
     let k = store::add_name(work, step, scope, name, node);
-    let loaded = code::emit_wide(work, k, scope, LOAD_K, tmp, k.result, mark);
+    let loaded = code::emit_bx(work, k, scope, LOAD_K, tmp, k.result, mark);
     code::emit(work, loaded, scope, op, class, tmp, step.result, mark)
 }
 
@@ -110,7 +110,7 @@ pub fn end_class(
     token: Token,
     class: u32,
 ) -> Step
-    requires { ⌜ Fine (now work) scope step × Room (now work) scope step 0 2 1 × (token .name < 65536) × while-going (outcome-of step) (class < 255) ⌝ }
+    requires { ⌜ Fine (now work) scope step × Space (now work) scope step 0 2 1 × (token .name < 65536) × while-going (outcome-of step) (class < 255) ⌝ }
     ensures { λ r. ⌜ Leaf (now (work .entry)) scope step (now (work .exit)) scope r (uses 2 1 0) (end-class node token class) × Small r ⌝ }
 {
     let o = step.outcome;

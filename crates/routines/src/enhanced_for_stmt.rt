@@ -5,7 +5,7 @@ ghost use Rattle.meaning.specs.Read.{token};
 ghost use Rattle.meaning.specs.Statements.{iterate-each, iterate};
 ghost use Rattle.forward.specs.Forward.{fwd-code, open-for-in, head-for-in, sure, end-for-in};
 ghost use Rattle.store.specs.Store.{mode-of, outcome-of, pc-of, result-of, while-going, Fine};
-ghost use Rattle.store.specs.Promise.{uses, some-registers, both, Room, Leaf};
+ghost use Rattle.store.specs.Promise.{uses, some-registers, both, Space, Leaf};
 ghost use Rattle.routines.specs.Pieces.{tokens-from, HasPairs};
 use crate::LOAD_K;
 use crate::loops::close_loop;
@@ -30,7 +30,7 @@ const LENGTH: u32 = OpCode::Length as u32;
 
 // visit_enhanced_for_stmt before the collection: registers of counter, size, condition and element; the counter is 0.
 pub fn open_for_in(work: &mut [u32], step: Step, scope: Scope, node: usize, mark: u32) -> Step
-    requires { ⌜ Fine (now work) scope step × Room (now work) scope step 0 0 0 ⌝ }
+    requires { ⌜ Fine (now work) scope step × Space (now work) scope step 0 0 0 ⌝ }
     ensures { λ r. ⌜ Leaf (now (work .entry)) scope step (now (work .exit)) scope r (both (some-registers 4) (uses 2 0 0)) (open-for-in node mark) × while-going (outcome-of r) (result-of r + 3 < 255) ⌝ }
 {
     let counter = store::next_register(work, step, scope, node);
@@ -38,7 +38,7 @@ pub fn open_for_in(work: &mut [u32], step: Step, scope: Scope, node: usize, mark
     let condition = store::next_register(work, size, scope, node);
     let element = store::next_register(work, condition, scope, node);
     let zero = store::add_constant(work, element, scope, Literal::Number(0.0), node);
-    code::put_wide(
+    code::put_bx(
         work,
         zero,
         scope,
@@ -60,7 +60,7 @@ fn iterate_one(
     counter: u32,
     mark: u32,
 ) -> Step
-    requires { ⌜ Fine (now work) scope step × Room (now work) scope step 0 3 1 × (name < 65536) × (counter + 3 < 255) × (collection < 256) ⌝ }
+    requires { ⌜ Fine (now work) scope step × Space (now work) scope step 0 3 1 × (name < 65536) × (counter + 3 < 255) × (collection < 256) ⌝ }
     ensures { λ r. ⌜ ((node place : ℕ) → Leaf (now (work .entry)) scope step (now (work .exit)) scope r (uses 3 1 0) (fwd-code (iterate node mark (counter + 3) collection counter (token name place ∷ [])))) ⌝ }
 {
     store::allocate_register(work, step, scope, name, counter + 3);
@@ -89,7 +89,7 @@ fn iterate_each(
     element: u32,
     mark: u32,
 ) -> Step
-    requires { ⌜ Fine (now work) scope step × Room (now work) scope step 0 0 0 × HasPairs scope (now payload) from n × (n < 65536) × while-going (outcome-of step) (element < 256) ⌝ }
+    requires { ⌜ Fine (now work) scope step × Space (now work) scope step 0 0 0 × HasPairs scope (now payload) from n × (n < 65536) × while-going (outcome-of step) (element < 256) ⌝ }
     ensures { λ r. ⌜ Leaf (now (work .entry)) scope step (now (work .exit)) scope r (both (some-registers n) (uses (3 * n) n 0)) (fwd-code (iterate-each node mark element 0 (tokens-from scope (now (payload .entry)) from n))) ⌝ }
 {
     let mut last = step;
@@ -125,7 +125,7 @@ fn iterate(
     counter: u32,
     mark: u32,
 ) -> Step
-    requires { ⌜ Fine (now work) scope step × Room (now work) scope step 0 3 1 × (1 ≤ n) × HasPairs scope (now payload) from n × (n < 65536) × (counter + 3 < 255) × (collection < 256) ⌝ }
+    requires { ⌜ Fine (now work) scope step × Space (now work) scope step 0 3 1 × (1 ≤ n) × HasPairs scope (now payload) from n × (n < 65536) × (counter + 3 < 255) × (collection < 256) ⌝ }
     ensures { λ r. ⌜ Leaf (now (work .entry)) scope step (now (work .exit)) scope r (uses 3 1 0) (fwd-code (iterate node mark (counter + 3) collection counter (tokens-from scope (now (payload .entry)) from n))) ⌝ }
 {
     if n == 1 {
@@ -167,7 +167,7 @@ pub fn head_for_in(
     counter: u32,
     mark: u32,
 ) -> Step
-    requires { ⌜ Fine (now work) scope step × Room (now work) scope step 0 11 1 × (1 ≤ n) × HasPairs scope (now payload) from n × (n < 65536) × while-going (outcome-of step) ((counter + 3 < 255) × (result-of step < 256)) ⌝ }
+    requires { ⌜ Fine (now work) scope step × Space (now work) scope step 0 11 1 × (1 ≤ n) × HasPairs scope (now payload) from n × (n < 65536) × while-going (outcome-of step) ((counter + 3 < 255) × (result-of step < 256)) ⌝ }
     ensures { λ r. ⌜ Leaf (now (work .entry)) scope step (now (work .exit)) scope r (uses 11 1 0) (head-for-in node (tokens-from scope (now (payload .entry)) from n) counter mark) ⌝ }
 {
     let o = step.outcome;
@@ -211,7 +211,7 @@ pub fn end_for_in(
     counter: u32,
     mark: u32,
 ) -> Step
-    requires { ⌜ Fine (now work) scope step × Room (now work) scope step 0 4 0 × while-going (outcome-of step) ((first ≤ pc-of step) × (condition + 4 ≤ pc-of step) × (counter < 256)) ⌝ }
+    requires { ⌜ Fine (now work) scope step × Space (now work) scope step 0 4 0 × while-going (outcome-of step) ((first ≤ pc-of step) × (condition + 4 ≤ pc-of step) × (counter < 256)) ⌝ }
     ensures { λ r. ⌜ Leaf (now (work .entry)) scope step (now (work .exit)) scope r (uses 4 0 0) (sure (end-for-in (mode-of scope) first condition counter mark)) ⌝ }
 {
     let o = step.outcome;

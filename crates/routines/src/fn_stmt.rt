@@ -2,7 +2,7 @@
 ghost use Prim.Native.Nat.{_+_, _<_, _≤_, _-_};
 ghost use Rattle.forward.specs.Forward.{open-fun, end-fun};
 ghost use Rattle.store.specs.Store.{depth-of, block-of, outcome-of, pc-of, while-going, Fine, inner};
-ghost use Rattle.store.specs.Promise.{uses, some-registers, both, Room, Leaf};
+ghost use Rattle.store.specs.Promise.{uses, some-registers, both, Space, Leaf};
 ghost use Rattle.store.specs.Opening.{Leavable};
 ghost use Rattle.code.specs.Cuts.{cut-step, Ends};
 ghost use Rattle.routines.specs.Pieces.{Small, tokens-from, HasPairs, a-name-back, Owing};
@@ -27,7 +27,7 @@ pub fn open_fun(
     from: usize,
     n: usize,
 ) -> Step
-    requires { ⌜ Fine (now work) scope step × Room (now work) scope step 0 0 0 × (token .name < 65536) × HasPairs scope (now payload) from n ⌝ }
+    requires { ⌜ Fine (now work) scope step × Space (now work) scope step 0 0 0 × (token .name < 65536) × HasPairs scope (now payload) from n ⌝ }
     ensures { λ r. ⌜ Leaf (now (work .entry)) scope step (now (work .exit)) scope r (both (some-registers (1 + n)) (uses (3 + n) (1 + n) 0)) (open-fun node token (tokens-from scope (now (payload .entry)) from n)) × Small r ⌝ }
 {
     let own = store::declare_parameter(work, step, scope, token.name, node);

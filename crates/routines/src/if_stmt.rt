@@ -2,7 +2,7 @@
 ghost use Prim.Native.Nat.{_+_, _≤_};
 ghost use Rattle.forward.specs.Forward.{sure, end-branch, end-if};
 ghost use Rattle.store.specs.Store.{outcome-of, pc-of, Fine, while-going};
-ghost use Rattle.store.specs.Promise.{uses, Room, Leaf};
+ghost use Rattle.store.specs.Promise.{uses, Space, Leaf};
 use crate::JMP;
 use meaning::Outcome;
 use store::Scope;
@@ -10,7 +10,7 @@ use store::Step;
 
 // visit_if_stmt after the statements of a condition: the jump to the end, which end_if sets.
 pub fn end_branch(work: &mut [u32], step: Step, scope: Scope, test: usize, mark: u32) -> Step
-    requires { ⌜ Fine (now work) scope step × Room (now work) scope step 0 2 0 × while-going (outcome-of step) (test + 2 ≤ pc-of step) ⌝ }
+    requires { ⌜ Fine (now work) scope step × Space (now work) scope step 0 2 0 × while-going (outcome-of step) (test + 2 ≤ pc-of step) ⌝ }
     ensures { λ r. ⌜ Leaf (now (work .entry)) scope step (now (work .exit)) scope r (uses 2 0 0) (sure (end-branch test mark)) ⌝ }
 {
     let o = step.outcome;
@@ -19,7 +19,7 @@ pub fn end_branch(work: &mut [u32], step: Step, scope: Scope, test: usize, mark:
     };
     let pc = step.pc;
     store::write_cell(work, scope, pc, JMP, mark);
-    let jump = store::pack_wide(JMP, 0, pc - test);
+    let jump = store::pack_bx(JMP, 0, pc - test);
     store::write_cell(work, scope, test + 1, jump, mark);
     store::advance(step, pc + 1, 0)
 }

@@ -6,7 +6,7 @@ ghost use Rattle.meaning.specs.Fields.{fields};
 ghost use Rattle.meaning.specs.At.{tag-of, count-of};
 ghost use Rattle.forward.specs.Forward.{fwd-number};
 ghost use Rattle.store.specs.Store.{block-of, Fine};
-ghost use Rattle.store.specs.Promise.{nothing, Room, Leaf};
+ghost use Rattle.store.specs.Promise.{nothing, Space, Leaf};
 ghost use Rattle.routines.specs.Node.{OnNode, GivesStmt};
 use crate::LOAD_NIL;
 use crate::SET_GLOBAL;
@@ -17,7 +17,7 @@ use store::Step;
 
 // visit_let_stmt, the name of a global: 10 Redefined.
 pub fn new_global(work: &mut [u32], step: Step, scope: Scope, node: usize, token: Token) -> Step
-    requires { ⌜ Fine (now work) scope step × Room (now work) scope step 0 0 0 × (block-of scope ≡ 1) × (token .name < 65536) ⌝ }
+    requires { ⌜ Fine (now work) scope step × Space (now work) scope step 0 0 0 × (block-of scope ≡ 1) × (token .name < 65536) ⌝ }
     ensures { λ r. ⌜ Leaf (now (work .entry)) scope step (now (work .exit)) scope r nothing (fwd-number (new-global node token)) ⌝ }
 {
     if store::is_global_var(work, step, scope, token.name) {
@@ -46,7 +46,7 @@ pub fn let_only(tree: &[u8], work: &mut [u32], step: Step, scope: Scope, node: u
             0,
             x.token.mark,
         );
-        return code::put_wide(
+        return code::put_bx(
             work,
             nil,
             scope,

@@ -18,7 +18,7 @@ pub fn literal(tree: &[u8], work: &mut [u32], step: Step, scope: Scope, node: us
     let value = values::literal_of(tag, payload);
     let register = store::next_register(work, step, scope, node);
     let constant = store::add_constant(work, register, scope, value, node);
-    code::put_wide(
+    code::put_bx(
         work,
         constant,
         scope,

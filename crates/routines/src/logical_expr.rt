@@ -2,7 +2,7 @@
 ghost use Prim.Native.Nat.{_+_, _<_, _≤_};
 ghost use Rattle.forward.specs.Forward.{sure, end-logical};
 ghost use Rattle.store.specs.Store.{outcome-of, pc-of, result-of, Fine, while-going};
-ghost use Rattle.store.specs.Promise.{uses, Room, Leaf};
+ghost use Rattle.store.specs.Promise.{uses, Space, Leaf};
 use crate::JMP;
 use crate::MOVE;
 use meaning::Outcome;
@@ -18,7 +18,7 @@ pub fn end_logical(
     left: u32,
     mark: u32,
 ) -> Step
-    requires { ⌜ Fine (now work) scope step × Room (now work) scope step 0 2 0 × while-going (outcome-of step) ((test + 2 ≤ pc-of step) × (left < 256) × (result-of step < 256)) ⌝ }
+    requires { ⌜ Fine (now work) scope step × Space (now work) scope step 0 2 0 × while-going (outcome-of step) ((test + 2 ≤ pc-of step) × (left < 256) × (result-of step < 256)) ⌝ }
     ensures { λ r. ⌜ Leaf (now (work .entry)) scope step (now (work .exit)) scope r (uses 2 0 0) (sure (end-logical test left mark)) ⌝ }
 {
     let o = step.outcome;
@@ -28,7 +28,7 @@ pub fn end_logical(
     let pc = step.pc;
     let word = store::pack(MOVE, left, step.result, 0);
     store::write_cell(work, scope, pc, word, mark);
-    let jump = store::pack_wide(JMP, 0, pc - test);
+    let jump = store::pack_bx(JMP, 0, pc - test);
     store::write_cell(work, scope, test + 1, jump, mark);
     store::advance(step, pc + 1, left)
 }

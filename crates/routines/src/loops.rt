@@ -5,7 +5,7 @@ ghost use lib.ListN.{length};
 ghost use Rattle.meaning.specs.Chunk.{continue-goal};
 ghost use Rattle.forward.specs.Forward.{sure, end-loop};
 ghost use Rattle.store.specs.Store.{nodes-of, top-of, mode-of, outcome-of, pc-of, Fine, while-going};
-ghost use Rattle.store.specs.Promise.{uses, Room, Leaf};
+ghost use Rattle.store.specs.Promise.{uses, Space, Leaf};
 ghost use Rattle.code.specs.Words.{Recoded};
 ghost use Rattle.routines.specs.Pieces.{closed-loop};
 use crate::JMP;
@@ -36,7 +36,7 @@ pub(crate) fn close_loop(
     ensures { λ _. ⌜ Recoded (now (work .entry)) (top-of scope) code (code + 1) (closed-loop goal first condition test mark) (now (work .exit)) ⌝ }
 {
     store::write_cell(work, scope, code, store::jump_back(code - condition), mark);
-    let jump = store::pack_wide(JMP, 0, code - test);
+    let jump = store::pack_bx(JMP, 0, code - test);
     store::write_cell(work, scope, test + 1, jump, mark);
     code::patch_loop(work, scope, first, code + 1, goal);
 }
@@ -53,7 +53,7 @@ pub fn end_loop(
     result: u32,
     mark: u32,
 ) -> Step
-    requires { ⌜ Fine (now work) scope step × Room (now work) scope step 0 2 0 × while-going (outcome-of step) ((first ≤ pc-of step) × (condition ≤ pc-of step) × (test + 2 ≤ pc-of step) × (result < 256) × (first ≤ increment)) ⌝ }
+    requires { ⌜ Fine (now work) scope step × Space (now work) scope step 0 2 0 × while-going (outcome-of step) ((first ≤ pc-of step) × (condition ≤ pc-of step) × (test + 2 ≤ pc-of step) × (result < 256) × (first ≤ increment)) ⌝ }
     ensures { λ r. ⌜ Leaf (now (work .entry)) scope step (now (work .exit)) scope r (uses 2 0 0) (sure (end-loop (mode-of scope) first increment condition test result mark)) ⌝ }
 {
     let o = step.outcome;

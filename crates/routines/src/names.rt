@@ -2,7 +2,7 @@
 ghost use Prim.Native.Nat.{_+_, _-_, _<_};
 ghost use Rattle.forward.specs.Forward.{declare, name-result};
 ghost use Rattle.store.specs.Store.{depth-of, block-of, Fine};
-ghost use Rattle.store.specs.Promise.{uses, a-register, both, Room, Leaf};
+ghost use Rattle.store.specs.Promise.{uses, a-register, both, Space, Leaf};
 ghost use Rattle.routines.specs.Pieces.{Small, a-name, a-name-back, Owing};
 use crate::SET_GLOBAL;
 use meaning::Token;
@@ -11,7 +11,7 @@ use store::Step;
 
 // The register of a function or a class, whose name is known from here on where it is a global's.
 pub fn declare(work: &mut [u32], step: Step, scope: Scope, node: usize, token: Token) -> Step
-    requires { ⌜ Fine (now work) scope step × Room (now work) scope step 0 0 0 × (token .name < 65536) ⌝ }
+    requires { ⌜ Fine (now work) scope step × Space (now work) scope step 0 0 0 × (token .name < 65536) ⌝ }
     ensures { λ r. ⌜ Leaf (now (work .entry)) scope step (now (work .exit)) scope r (both a-register (a-name scope)) (declare node token) × Small r ⌝ }
 {
     let register = store::next_register(work, step, scope, node);
@@ -35,7 +35,7 @@ pub(crate) fn name_result(
 {
     if store::is_global_context(scope) {
         let k = store::add_name(work, step, scope, token.name, node);
-        code::put_wide(
+        code::put_bx(
             work,
             k,
             scope,

@@ -5,7 +5,7 @@ ghost use Rattle.meaning.specs.Fields.{fields};
 ghost use Rattle.meaning.specs.At.{tag-of, count-of};
 ghost use Rattle.forward.specs.Forward.{end-return};
 ghost use Rattle.store.specs.Store.{outcome-of, result-of, Fine, while-going};
-ghost use Rattle.store.specs.Promise.{uses, Room, Leaf};
+ghost use Rattle.store.specs.Promise.{uses, Space, Leaf};
 ghost use Rattle.routines.specs.Node.{OnNode, GivesStmt};
 use crate::RETURN;
 use meaning::Cause;
@@ -24,7 +24,7 @@ pub fn return_none(tree: &[u8], work: &mut [u32], step: Step, scope: Scope, node
 
 // visit_return_stmt after the value: 13 Return.
 pub fn end_return(work: &mut [u32], step: Step, scope: Scope, node: usize, mark: u32) -> Step
-    requires { ⌜ Fine (now work) scope step × Room (now work) scope step 0 2 0 × while-going (outcome-of step) (result-of step < 255) ⌝ }
+    requires { ⌜ Fine (now work) scope step × Space (now work) scope step 0 2 0 × while-going (outcome-of step) (result-of step < 255) ⌝ }
     ensures { λ r. ⌜ Leaf (now (work .entry)) scope step (now (work .exit)) scope r (uses 2 0 0) (end-return node mark) ⌝ }
 {
     let o = step.outcome;

@@ -2,7 +2,7 @@
 ghost use Prim.Native.Nat.{_<_, _≤_};
 ghost use Rattle.forward.specs.Forward.{sure, open-try-body, end-try-body, end-try, open-catch};
 ghost use Rattle.store.specs.Store.{outcome-of, pc-of, Fine, while-going};
-ghost use Rattle.store.specs.Promise.{uses, Room, Leaf, a-register, both};
+ghost use Rattle.store.specs.Promise.{uses, Space, Leaf, a-register, both};
 use crate::JMP;
 use instruction::OpCode;
 use meaning::NO_MARK;
@@ -19,7 +19,7 @@ const GET_EXCEPT: u32 = OpCode::GetExcept as u32;
 
 // visit_try_catch_stmt before the body.
 pub fn open_try_body(work: &mut [u32], step: Step, scope: Scope) -> Step
-    requires { ⌜ Fine (now work) scope step × Room (now work) scope step 0 2 0 ⌝ }
+    requires { ⌜ Fine (now work) scope step × Space (now work) scope step 0 2 0 ⌝ }
     ensures { λ r. ⌜ Leaf (now (work .entry)) scope step (now (work .exit)) scope r (uses 2 0 0) (sure open-try-body) ⌝ }
 {
     code::emit(work, step, scope, REGISTER_TRY_CATCH, 0, 0, 0, NO_MARK)
@@ -27,7 +27,7 @@ pub fn open_try_body(work: &mut [u32], step: Step, scope: Scope) -> Step
 
 // visit_try_catch_stmt after the body.
 pub fn end_try_body(work: &mut [u32], step: Step, scope: Scope) -> Step
-    requires { ⌜ Fine (now work) scope step × Room (now work) scope step 0 4 0 ⌝ }
+    requires { ⌜ Fine (now work) scope step × Space (now work) scope step 0 4 0 ⌝ }
     ensures { λ r. ⌜ Leaf (now (work .entry)) scope step (now (work .exit)) scope r (uses 4 0 0) (sure end-try-body) ⌝ }
 {
     let o = step.outcome;
@@ -42,7 +42,7 @@ pub fn end_try_body(work: &mut [u32], step: Step, scope: Scope) -> Step
 
 // visit_try_catch_stmt before the catch part's body.
 pub fn open_catch(work: &mut [u32], step: Step, scope: Scope, node: usize, token: Token) -> Step
-    requires { ⌜ Fine (now work) scope step × Room (now work) scope step 0 2 0 × (token .name < 65536) ⌝ }
+    requires { ⌜ Fine (now work) scope step × Space (now work) scope step 0 2 0 × (token .name < 65536) ⌝ }
     ensures { λ r. ⌜ Leaf (now (work .entry)) scope step (now (work .exit)) scope r (both a-register (uses 5 1 0)) (open-catch node token) ⌝ }
 {
     let caught = store::declare_parameter(work, step, scope, token.name, node);
@@ -69,7 +69,7 @@ pub fn end_try(work: &mut [u32], step: Step, scope: Scope, first: usize, body: u
         return step;
     };
     let pc = step.pc;
-    let word = store::pack_wide(REGISTER_TRY_CATCH, 0, body + 2 - first);
+    let word = store::pack_bx(REGISTER_TRY_CATCH, 0, body + 2 - first);
     store::write_cell(work, scope, first, word, NO_MARK);
     code::patch_first(work, scope, first, pc, pc - (body + 1));
     store::settle(step, 0)

@@ -9,7 +9,7 @@ use Rattle.store.specs.declared.Scope.{Scope}
 use Rattle.store.specs.Table.{tab}
 use Rattle.store.specs.Layout.{visited, inst-at}
 use Rattle.store.specs.Store.{top-of, run-by, run, open-at, state-of, config-of, refused-by, refused-step, with-result, result-limit, Image, Fine}
-use Rattle.store.specs.Promise.{Cost, both, nothing, taken, Roomy, Room, Used, Moves, Leaf, Tells, After, Does}
+use Rattle.store.specs.Promise.{Cost, both, nothing, taken, Roomy, Space, Used, Moves, Leaf, Tells, After, Does}
 use Rattle.store.proofs.Regions.{below-256, same-count}
 use Rattle.store.proofs.Runs.{due, promised, kept-refl, kept-in, absorbed, image-same, image-none}
 use Rattle.store.proofs.Steady.{fine-step}
@@ -77,14 +77,14 @@ unfolding taken
 taken-few w zero = omega (arith, below-256 (getD w 3073 0))
 taken-few w (suc d) = omega (arith, taken-few w d, below-256 (getD w (3073 + 8 * suc d) 0))
 
-pub room-then : {w w' : List ℕ} {p q : Scope} {s r : Step} {u : Cost} (k a b : ℕ) → p .nodes ≡ q .nodes → u .names + min 2 (p .block) ≤ u .names-back + min 2 (q .block) → Moves w p s w' q r u → Room w p s k (a + u .words) (b + u .locals) → Room w' q r k (a + u .words-back) (b + u .locals-back)
+pub room-then : {w w' : List ℕ} {p q : Scope} {s r : Step} {u : Cost} (k a b : ℕ) → p .nodes ≡ q .nodes → u .names + min 2 (p .block) ≤ u .names-back + min 2 (q .block) → Moves w p s w' q r u → Space w p s k (a + u .words) (b + u .locals) → Space w' q r k (a + u .words-back) (b + u .locals-back)
 room-then {w} {w'} {p} {q} {s} {r} {u} k a b n m g h = record { roomy = promised (r .outcome) (λ x. after (due (r .outcome) (g .used) x) (due (s .outcome) (h .roomy) (g .back x))) }
   where
     after : Used w p s w' q r u → Roomy w p s k (a + u .words) (b + u .locals) → Roomy w' q r k (a + u .words-back) (b + u .locals-back)
     after i j = record { words = omega (arith, i .words, j .words); locals = omega (arith, i .locals, j .locals); globals = omega (arith, i .names, j .globals) }
 
 -- nodes, said as words and locals; less room
-pub room-by : {w : List ℕ} {p : Scope} {s : Step} {k a b : ℕ} (k' a' b' : ℕ) → 8 * k' + a' ≤ 8 * k + a → k' + b' ≤ k + b → Room w p s k a b → Room w p s k' a' b'
+pub room-by : {w : List ℕ} {p : Scope} {s : Step} {k a b : ℕ} (k' a' b' : ℕ) → 8 * k' + a' ≤ 8 * k + a → k' + b' ≤ k + b → Space w p s k a b → Space w p s k' a' b'
 room-by {w} {p} {s} {k} {a} {b} k' a' b' x y h = record { roomy = promised (s .outcome) (λ g. less (due (s .outcome) (h .roomy) g)) }
   where
     less : Roomy w p s k a b → Roomy w p s k' a' b'

@@ -9,7 +9,7 @@ use lib.Seq.{getD-set-same, getD-set-other}
 use Rattle.store.specs.Table.{tab, stack, span}
 use Rattle.store.specs.Layout.{first-edge, top, first-head, beyond, all-words, edge, local-at, block, latest, head}
 use Rattle.store.specs.Store.{open-at, around, state-of, config-of, run, main-scope, first-step, Linked, Sound, Fine}
-use Rattle.store.specs.Promise.{taken, Room}
+use Rattle.store.specs.Promise.{taken, Space}
 use Rattle.store.specs.Opening.{Zeroed, Framed, Begun}
 use Rattle.store.proofs.Tables.{span-more, span-none}
 use Rattle.store.proofs.Halves.{half-even, half-odd}
@@ -140,7 +140,7 @@ module _ (w w1 w2 w' : List ℕ) (n : ℕ) (some : 1 ≤ n) (few : n ≤ 32768) 
       let e = edges 1 (omega arith) in
       record { sound = start-sound mode wide; nested = omega arith; room = omega arith; constants = omega arith; globals = omega arith; functions = omega arith; written = omega arith; result = omega arith }
 
-  start-room : (mode wide : ℕ) → Room w' (main-scope mode wide n) first-step n 0 0
+  start-room : (mode wide : ℕ) → Space w' (main-scope mode wide n) first-step n 0 0
   unfolding taken
   start-room mode wide =
       let e = edges 1 (omega arith) in

@@ -7,7 +7,7 @@ use Rattle.store.specs.declared.Step.{Step}
 use Rattle.store.specs.declared.Scope.{Scope}
 use Rattle.store.specs.Layout.{beyond, name-of, registers, held, first, saved, visited, edge}
 use Rattle.store.specs.Store.{run, main-scope, inner, first-step, Image, Fine}
-use Rattle.store.specs.Promise.{Room, nothing, Leaf}
+use Rattle.store.specs.Promise.{Space, nothing, Leaf}
 use Rattle.meaning.specs.Lower.{start}
 use Rattle.meaning.specs.State.{enter-function}
 use Rattle.forward.specs.Forward.{config, going, fwd-unit}
@@ -33,7 +33,7 @@ pub record Begun (w : List ℕ) (n : ℕ) (w' : List ℕ) : Type 0 where
   pub same : length w' ≡ length w
   pub offsets : (i : ℕ) → beyond n ≤ i → getD w' i 0 ≡ getD w i 0
   pub fine : (mode wide : ℕ) → Fine w' (main-scope mode wide n) first-step
-  pub room : (mode wide : ℕ) → Room w' (main-scope mode wide n) first-step n 0 0
+  pub room : (mode wide : ℕ) → Space w' (main-scope mode wide n) first-step n 0 0
   pub runs : (mode wide : ℕ) → run w' (main-scope mode wide n) first-step [] ≡ going (config [] 0 start)
   pub image : (mode wide : ℕ) (o : List ℕ) → Image (main-scope mode wide n) o first-step []
   -- the program is visited

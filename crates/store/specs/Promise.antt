@@ -96,7 +96,7 @@ pub record Roomy (w : List ℕ) (p : Scope) (s : Step) (k a b : ℕ) : Type 0 wh
   pub globals : s .globals + 1 ≤ s .constants + min 2 (p .block)
 
 -- due while nothing is refused
-pub record Room (w : List ℕ) (p : Scope) (s : Step) (k a b : ℕ) : Type 0 where
+pub record Space (w : List ℕ) (p : Scope) (s : Step) (k a b : ℕ) : Type 0 where
   pub roomy : while-going (s .outcome) (Roomy w p s k a b)
 
 -- what a step used up

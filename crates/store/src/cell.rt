@@ -2,7 +2,7 @@
 ghost use mathlib.Core.Path.{_≡_};
 ghost use Prim.Native.Nat.{_+_, _*_, _<_, _≤_};
 ghost use lib.ListN.{length, getD, set};
-ghost use Rattle.meaning.specs.Opcode.{inst, wide, back, Jmp};
+ghost use Rattle.meaning.specs.Opcode.{inst, inst-bx, back, Jmp};
 ghost use Rattle.store.specs.Layout.{cell, mark-cell, unpacked, inst-at};
 ghost use Rattle.store.specs.Store.{nodes-of, top-of};
 ghost use Rattle.store.specs.Cell.{Bytes, Packs, Wrote};
@@ -22,9 +22,9 @@ pub fn pack(op: u32, a: u32, b: u32, c: u32) -> u32
 }
 
 // The same with a 16-bit number, high byte first.
-pub fn pack_wide(op: u32, a: u32, n: usize) -> u32
+pub fn pack_bx(op: u32, a: u32, n: usize) -> u32
     requires { ⌜ (op < 256) × (a < 256) ⌝ }
-    ensures { λ r. ⌜ Packs r (wide op a n) ⌝ }
+    ensures { λ r. ⌜ Packs r (inst-bx op a n) ⌝ }
 {
     let h = instruction::forward(n);
     pack(op, a, h.b as u32, h.c as u32)
@@ -32,7 +32,7 @@ pub fn pack_wide(op: u32, a: u32, n: usize) -> u32
 
 // A jump back over n instructions.
 pub fn jump_back(n: usize) -> u32
-    ensures { λ r. ⌜ Packs r (wide Jmp 0 (back n)) ⌝ }
+    ensures { λ r. ⌜ Packs r (inst-bx Jmp 0 (back n)) ⌝ }
 {
     let h = instruction::backward(n);
     pack(JMP, 0, h.b as u32, h.c as u32)

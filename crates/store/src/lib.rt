@@ -22,7 +22,7 @@ pub use cell::inst_at;
 pub use cell::jump_back;
 pub use cell::mark_at;
 pub use cell::pack;
-pub use cell::pack_wide;
+pub use cell::pack_bx;
 pub use cell::set_word;
 pub use cell::unpacked;
 pub use cell::word_at;

@@ -9,7 +9,7 @@ ghost use Rattle.store.specs.declared.Step.{Step};
 ghost use Rattle.store.specs.Half.{with-half};
 ghost use Rattle.store.specs.Layout.{all-words, local-at, first-head, head};
 ghost use Rattle.store.specs.Store.{while-going, Sound, Fine};
-ghost use Rattle.store.specs.Promise.{a-register, a-local, both, a-parameter, Room, Leaf, Tells, Latest, Unlinked};
+ghost use Rattle.store.specs.Promise.{a-register, a-local, both, a-parameter, Space, Leaf, Tells, Latest, Unlinked};
 ghost use Rattle.store.specs.Search.{option-of, found-of, in-byte, seek, Walkable};
 use crate::Found;
 use crate::Scope;
@@ -108,7 +108,7 @@ fn unlink(work: &mut [u32], scope: Scope, name: usize)
 
 // fn allocate_register: the local `name` names `register`, in the innermost block. It becomes the head of its bucket and links to the one before.
 pub fn allocate_register(work: &mut [u32], step: Step, scope: Scope, name: usize, register: u32)
-    requires { ⌜ Fine (now work) scope step × Room (now work) scope step 0 1 1 × (name < 65536) × while-going (step .outcome) (register < 255) ⌝ }
+    requires { ⌜ Fine (now work) scope step × Space (now work) scope step 0 1 1 × (name < 65536) × while-going (step .outcome) (register < 255) ⌝ }
     ensures { λ _. ⌜ Leaf (now (work .entry)) scope step (now (work .exit)) scope step a-local (fwd-unit (allocate-register name register)) ⌝ }
 {
     let o = step.outcome;
@@ -136,7 +136,7 @@ pub fn declare_parameter(
     name: usize,
     node: usize,
 ) -> Step
-    requires { ⌜ Fine (now work) scope step × Room (now work) scope step 0 0 0 × (name < 65536) ⌝ }
+    requires { ⌜ Fine (now work) scope step × Space (now work) scope step 0 0 0 × (name < 65536) ⌝ }
     ensures { λ r. ⌜ Leaf (now (work .entry)) scope step (now (work .exit)) scope r (both a-register a-local) (a-parameter node name) × (r .result < 255) ⌝ }
 {
     let taken = next_register(work, step, scope, node);

@@ -22,7 +22,7 @@ use Rattle.meaning.specs.declared.Outcome.the-variants.{Accepted, Refused}
 use Rattle.meaning.specs.Answer.{answer}
 use Rattle.meaning.specs.declared.Answer.{Answer}
 use Rattle.meaning.proofs.Lists.{lowest-found, lowest-none}
-use Rattle.meaning.proofs.FieldLaws.{Walk, from, walk-start, walk-part, walk-end, walk-at, walk-below}
+use Rattle.meaning.proofs.FieldLaws.{FieldWalk, from, walk-start, walk-part, walk-end, walk-at, walk-below}
 use Rattle.meaning.proofs.Modes.{unless-yes, unless-no, fields-0, in-mode}
 use Rattle.tree.specs.Retired.{early, retired-over}
 
@@ -80,7 +80,7 @@ over-early fs o e = rw e refl
 
 -- t is the file s from field i on, and no field before it is a class
 pub record Sought (s t : List ℕ) (i : ℕ) : Type 0 where
-  pub walk : Walk s i t
+  pub walk : FieldWalk s i t
   pub none : (k : ℕ) → k < i → current-at 1 (fields s) k ≡ true
 
 pub sought-start : (s : List ℕ) → Sought s s 0

@@ -19,7 +19,7 @@ use Rattle.meaning.specs.Fields.{Field, no-field, field-at, whole, span, payloa
 use Rattle.meaning.specs.Grammar.{Item, never, names, inside, lawful, is-program, items-in, items-for, fits, kids, tags-of, wide-marks}
 use Rattle.meaning.specs.Tree.{kids-of}
 use Rattle.meaning.proofs.Lists.{tail-part, lowest-found, lowest-none}
-use Rattle.meaning.proofs.FieldLaws.{from, Walk, walk-start, walk-more, walk-part, walk-end, walk-at, walk-below, walk-done, whole-true, whole-false, fields-whole, header-part}
+use Rattle.meaning.proofs.FieldLaws.{from, FieldWalk, walk-start, walk-more, walk-part, walk-end, walk-at, walk-below, walk-done, whole-true, whole-false, fields-whole, header-part}
 use Rattle.meaning.proofs.Kids.{none-fits}
 use Rattle.tree.specs.Rows.{start-of, fits-row}
 use Rattle.tree.specs.Scratch.{tags-in, note-row, note-all, enter-all, shape-by, last-tag, Entered, Beyond, Found}
@@ -61,8 +61,8 @@ abbrev is-last : List ℕ → ℕ → Bool
 is-last s i = eqb (i + 1) (length (fields s))
 
 -- where nothing stands after the fields, the last field is the one that ends the file
-module _ (s : List ℕ) (i : ℕ) (t : List ℕ) (m : Walk s i t) (w : whole t ≡ true) (none : length (left s) ≡ 0) where
-  next : Walk s (i + 1) (rest t)
+module _ (s : List ℕ) (i : ℕ) (t : List ℕ) (m : FieldWalk s i t) (w : whole t ≡ true) (none : length (left s) ≡ 0) where
+  next : FieldWalk s (i + 1) (rest t)
   next = walk-more s i t m w
 
   size : length (rest t) ≡ length t - span t
@@ -88,7 +88,7 @@ module _ (s : List ℕ) (i : ℕ) (t : List ℕ) (m : Walk s i t) (w : whole t �
 -- ---- the loop: l₀ is the scratch at the start, l as it is now, t the rest of the file from field i on; m offsets are noted
 
 pub record Passed (limit : ℕ) (s l₀ l t : List ℕ) (i m : ℕ) : Type 0 where
-  pub walk : Walk s i t
+  pub walk : FieldWalk s i t
   pub here : t ≡ drop (header s i) s
   pub low : header s i ≤ 65538 * i
   pub beyond : Beyond (min i limit) (with-offsets s m l₀) l

@@ -401,7 +401,7 @@ pub +addi+arguments+binary+block+body+both+call+class+elifs+expr-stmt+expression
     (let-stmt-proof.is-global-context-requires t)
     (let-stmt-proof.new-global-requires t)
     (let-stmt-proof.expression-requires t)
-    (let-stmt-proof.emit-wide-requires t)
+    (let-stmt-proof.emit-bx-requires t)
     (let-stmt-proof.same-length-2 t)
     (let-stmt-proof.same-length-3 t)
     (let-stmt-proof.returns-2 t)

@@ -21,7 +21,7 @@ use Rattle.meaning.specs.Rules.{lawful, code-tests, proto-tests, first-f
 use Rattle.meaning.specs.Reader.{broken, read-as, taken, tag-in, image-tag, read-image}
 use Rattle.meaning.specs.declared.Instruction.{Instruction}
 use Rattle.meaning.proofs.Safe.{demand-3}
-use Rattle.meaning.proofs.Safe.Fine.{all-more}
+use Rattle.meaning.proofs.Safe.Obeys.{all-more}
 use Rattle.meaning.proofs.Ranges.{lowered-ranged}
 use Rattle.meaning.proofs.Ranges.Fits.{MarkIn, Ranged, InstFits, ProtoFits}
 use Rattle.meaning.proofs.Images.Assembled.{Tagged, HeaderFits}

@@ -11,7 +11,7 @@ use Rattle.meaning.specs.Images.{inst-tag}
 use Rattle.meaning.specs.Image.{word, field, flag, mark-bytes, capture-bytes, inst-bytes, proto-bytes, number-bytes, constant-bytes, image}
 use Rattle.meaning.specs.Safety.{All}
 use Rattle.meaning.specs.declared.Instruction.{Instruction}
-use Rattle.meaning.proofs.Safe.Fine.{all-append}
+use Rattle.meaning.proofs.Safe.Obeys.{all-append}
 use Rattle.meaning.proofs.Ranges.Fits.{InstFits, ProtoFits, Ranged}
 use Rattle.meaning.proofs.Ranges.Code.{written-below}
 

@@ -7,7 +7,7 @@ use mathlib.Core.List.{List, [], _∷_, _++_}
 use native.Mathlib.Omega.{arith}
 use lib.Dec.{eqb, leb}
 use borrow.Author.Tests.{eqb-true, leb-true}
-use Rattle.meaning.specs.Opcode.{opcodes-written, inst, wide, no-mark, is-continue, is-break, is-end-jump, unary-opcode, binary-opcode, Move, Jmp, Not, Neg, Add, Lt, Eq, Neq, Gt, Gte, Lte, Sub, Div, Mod, Mul, Pow, Test, RegisterTryCatch, DeregisterTryCatch}
+use Rattle.meaning.specs.Opcode.{opcodes-written, inst, inst-bx, no-mark, is-continue, is-break, is-end-jump, unary-opcode, binary-opcode, Move, Jmp, Not, Neg, Add, Lt, Eq, Neq, Gt, Gte, Lte, Sub, Div, Mod, Mul, Pow, Test, RegisterTryCatch, DeregisterTryCatch}
 use Rattle.meaning.specs.State.{Chunk, among}
 use Rattle.meaning.specs.Chunk.{joined, each-at, jump-by, patch-loop, open-loop, loop-code, branch-code, patch-ends, patch-first, open-try, try-code}
 use Rattle.meaning.specs.Functions.{last-mark}
@@ -15,7 +15,7 @@ use Rattle.meaning.specs.Safety.{All}
 use Rattle.meaning.specs.declared.Instruction.{Instruction}
 use Rattle.meaning.proofs.Lists.{and-left, and-right}
 use Rattle.meaning.proofs.Grows.{cond-either}
-use Rattle.meaning.proofs.Safe.Fine.{all-append, all-table}
+use Rattle.meaning.proofs.Safe.Obeys.{all-append, all-table}
 use Rattle.meaning.proofs.Ranges.Fits.{Written, InstFits}
 
 -- the operators' opcodes
@@ -62,7 +62,7 @@ module _ (Marks : ℕ → Type 0) where
   pub plain : (op a b c m : ℕ) → Written op → a < 256 → b < 256 → c < 256 → Marks m → InstFits Marks (inst op a b c m)
   plain op a b c m w ha hb hc hm = record { written = w; a = ha; b = hb; c = hc; mark = hm }
 
-  pub numbered : (op a n m : ℕ) → Written op → a < 256 → Marks m → InstFits Marks (wide op a n m)
+  pub numbered : (op a n m : ℕ) → Written op → a < 256 → Marks m → InstFits Marks (inst-bx op a n m)
   numbered op a n m w ha hm = record { written = w; a = ha; b = omega arith; c = omega arith; mark = hm }
 
   pub last-fits : (x : Instruction) (xs : List Instruction) → Code (x ∷ xs) → Marks (last-mark x xs)
@@ -104,7 +104,7 @@ module _ (Marks : ℕ → Type 0) where
 
   -- Test, a jump, a body, one instruction more
   pub guarded : (r c m n : ℕ) (body : List Instruction) (x : Instruction) → r < 255 → c < 256 → Marks m → Code body → InstFits Marks x
-      → Code (inst Test r r c m ∷ wide Jmp 0 n m ∷ (body ++ x ∷ []))
+      → Code (inst Test r r c m ∷ inst-bx Jmp 0 n m ∷ (body ++ x ∷ []))
   guarded r c m n body x hr hc hm hb hx = (plain Test r r c m refl (omega arith) (omega arith) hc hm, (numbered Jmp 0 n m refl (omega arith) hm, plus-one body x hb hx))
 
   pub loop-fits : (goal m : ℕ) (before condition : List Instruction) (r : ℕ) (body : List Instruction) → Marks m → Code before → Code condition → r < 255 → Code body → Code (loop-code goal m before condition r body)

@@ -10,7 +10,7 @@ use native.Mathlib.Omega.{arith}
 use lib.ListN.{length}
 use lib.Dec.{eqb}
 use borrow.Author.Tests.{eqb-false}
-use Rattle.meaning.specs.Opcode.{inst, wide, no-mark, unary-opcode, binary-opcode, or, Move, LoadK, LoadNil, Jmp, Lt, Call, Return, GetUpval, Closure, Class, ClassMeth, ClassStMeth, Addi, GetIter, GetIterk, GetIteri, Length, GetGlobal, SetGlobal, GetCurrentFunc, GetBuiltin, DeregisterTryCatch, GetExcept}
+use Rattle.meaning.specs.Opcode.{inst, inst-bx, no-mark, unary-opcode, binary-opcode, or, Move, LoadK, LoadNil, Jmp, Lt, Call, Return, GetUpval, Closure, Class, ClassMeth, ClassStMeth, Addi, GetIter, GetIterk, GetIteri, Length, GetGlobal, SetGlobal, GetCurrentFunc, GetBuiltin, DeregisterTryCatch, GetExcept}
 use Rattle.meaning.specs.Constant.{Constant}
 use Rattle.meaning.specs.declared.Token.{Token}
 use Rattle.meaning.specs.Syntax.{Super, no-super, super}
@@ -290,7 +290,7 @@ module _ (Marks : ℕ → Type 0) (absent : Marks no-mark) where
       bind (loop-gives hb t7 τ7) λ b t8 τ8 p8.
       let r = p6 .result in
       by-pure _ τ8 (record {
-        code = loop-fits Marks _ mark (wide LoadK counter k mark ∷ c .code) (inst Length size (c .result) 0 mark ∷ inst Lt condition counter size mark ∷ []) condition (heads ++ (b .code ++ inst Addi counter counter 1 mark ∷ [])) hm
+        code = loop-fits Marks _ mark (inst-bx LoadK counter k mark ∷ c .code) (inst Length size (c .result) 0 mark ∷ inst Lt condition counter size mark ∷ []) condition (heads ++ (b .code ++ inst Addi counter counter 1 mark ∷ [])) hm
             (numbered Marks LoadK counter k mark refl (omega arith) hm, p6 .code)
             (plain Marks Length size (c .result) 0 mark refl (omega arith) (omega (arith, r)) (omega arith) hm, (plain Marks Lt condition counter size mark refl (omega arith) (omega arith) (omega arith) hm, tt))
             (omega arith)

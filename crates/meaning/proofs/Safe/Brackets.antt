@@ -15,7 +15,7 @@ use Rattle.meaning.specs.State.{State, Open, Local, Capture, Proto, Chun
 use Rattle.meaning.specs.Safety.{All, Holds, Fits}
 use Rattle.meaning.specs.declared.Instruction.{Instruction}
 use Rattle.meaning.proofs.Grows.{Outer}
-use Rattle.meaning.proofs.Safe.Fine.{View, view, looped, Creates, Grown, grown-same, grown-chain, holds-new, one-more, widen}
+use Rattle.meaning.proofs.Safe.Obeys.{View, view, looped, Creates, Grown, grown-same, grown-chain, holds-new, one-more, widen}
 use Rattle.meaning.proofs.Safe.Patches.{encoded}
 use Rattle.meaning.proofs.Safe.Lookup.{widened-captures}
 use Rattle.meaning.proofs.Safe.Sound.{Locals, Chain, Finished, Protos, Pools, Sound, More, OnDone, Gives, Always, then-done, if-done, regs, encoded-holds, Code, Loose}

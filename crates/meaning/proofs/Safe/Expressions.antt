@@ -1,6 +1,6 @@
 -- The laws of the expression visitors (Expressions.antt): each gives a good chunk where its children do.
 -- The idea: each law follows its visitor's `do` block line by line (Sound). At the end stands the chunk's code, piece by piece, and what
--- each instruction needs (Fine): registers below the count, and by opcode one thing more or nothing.
+-- each instruction needs (Obeys): registers below the count, and by opcode one thing more or nothing.
 use Prim.Native.Nat.{ℕ, zero, suc, _+_, _-_, _≤_, _<_}
 use mathlib.Core.Path.{_≡_}
 use mathlib.Core.List.{List, [], _∷_, _++_}
@@ -8,14 +8,14 @@ use mathlib.Core.Option.{Option, none, some}
 use native.Mathlib.Omega.{arith}
 use lib.ListN.{length}
 use lib.Dec.{eqb}
-use Rattle.meaning.specs.Opcode.{inst, wide, unary-opcode, binary-opcode, or, Move, Call, Addi, GetGlobal, GetBuiltin, Not, Neg, Add, Lt, Eq, Neq, Gt, Gte, Lte, Sub, Div, Mod, Mul, Pow}
+use Rattle.meaning.specs.Opcode.{inst, inst-bx, unary-opcode, binary-opcode, or, Move, Call, Addi, GetGlobal, GetBuiltin, Not, Neg, Add, Lt, Eq, Neq, Gt, Gte, Lte, Sub, Div, Mod, Mul, Pow}
 use Rattle.meaning.specs.Constant.{Constant}
 use Rattle.meaning.specs.declared.Token.{Token}
 use Rattle.meaning.specs.State.{State, Chunk, M, is-global-var}
 use Rattle.meaning.specs.Expressions.{or-flag, visit-literal, named, visit-outside, visit-captured, visit-local, visit-variable, visit-unary, visit-addi, visit-both, visit-dropped, visit-binary, visit-logical, next-registers, visit-call, visit-argument}
 use Rattle.meaning.specs.Safety.{from, IsText, All, Holds}
 use Rattle.meaning.specs.declared.Instruction.{Instruction}
-use Rattle.meaning.proofs.Safe.Fine.{View, view, Any, Fine, all-append, all-table, widen, shift, join, plus-one, one-plus}
+use Rattle.meaning.proofs.Safe.Obeys.{View, view, Any, Obeys, all-append, all-table, widen, shift, join, plus-one, one-plus}
 use Rattle.meaning.proofs.Safe.Patches.{encoded, guarded}
 use Rattle.meaning.proofs.Safe.Sound.{Sound, More, more-chain, Gives, Always, bind, next, by-pure, by-refuse, either, weaken, regs, Whatever, takes, gets, stores, Code, Good, good-more}
 use Rattle.meaning.proofs.Safe.Lookup.{Maybe, looks, captures}
@@ -29,11 +29,11 @@ literal-good node c s σ =
     by-pure _ υ (record { code = (((omega arith, tt), e .1), tt); result = omega arith })
 
 -- an opcode that has a register and a name
-named-good : (op node : ℕ) (x : Token) → ((v : View) (r k m : ℕ) → r < v .registers → Holds IsText (v .constants) (encoded k) → Fine v 0 0 (wide op r k m)) → Always (named op node x) Good
+named-good : (op node : ℕ) (x : Token) → ((v : View) (r k m : ℕ) → r < v .registers → Holds IsText (v .constants) (encoded k) → Obeys v 0 0 (inst-bx op r k m)) → Always (named op node x) Good
 unfolding named
 named-good op node x h s σ =
     bind (takes node s σ) λ r t τ g q. bind (stores node _ IsText tt t τ) λ k u υ g' e.
-    by-pure _ υ (record { code = one-plus (view u) (wide op r k (x .mark)) [] (h (view u) r k (x .mark) (omega arith) (e .1)) tt; result = omega arith })
+    by-pure _ υ (record { code = one-plus (view u) (inst-bx op r k (x .mark)) [] (h (view u) r k (x .mark) (omega arith) (e .1)) tt; result = omega arith })
 
 outside-good : (node : ℕ) (x : Token) → Always (visit-outside node x) Good
 unfolding visit-outside is-global-var
@@ -58,16 +58,16 @@ variable-good node x s σ = bind (looks _ s σ) λ o t τ g h. local-good node x
 
 -- ---- operators
 
-unary-fine : (op : ℕ) (v : View) (a m : ℕ) → a < v .registers → Fine v 0 0 (inst (unary-opcode op) a a 0 m)
+unary-fine : (op : ℕ) (v : View) (a m : ℕ) → a < v .registers → Obeys v 0 0 (inst (unary-opcode op) a a 0 m)
 unary-fine op v a m h =
     let ab : All (λ r. r < v .registers) (a ∷ a ∷ []) × Unit {0} = ((h, (h, tt)), tt) in
-    all-table (λ o. Fine v 0 0 (inst o a a 0 m)) (Move ∷ Not ∷ Neg ∷ []) Move op (ab, (ab, (ab, tt))) ab
+    all-table (λ o. Obeys v 0 0 (inst o a a 0 m)) (Move ∷ Not ∷ Neg ∷ []) Move op (ab, (ab, (ab, tt))) ab
 
-binary-fine : (op : ℕ) (v : View) (a b c m : ℕ) → a < v .registers → b < v .registers → c < v .registers → Fine v 0 0 (inst (binary-opcode op) a b c m)
+binary-fine : (op : ℕ) (v : View) (a b c m : ℕ) → a < v .registers → b < v .registers → c < v .registers → Obeys v 0 0 (inst (binary-opcode op) a b c m)
 binary-fine op v a b c m h k l =
     let ab : All (λ r. r < v .registers) (a ∷ b ∷ []) × Unit {0} = ((h, (k, tt)), tt) in
     let all : All (λ r. r < v .registers) (a ∷ b ∷ c ∷ []) × Unit {0} = ((h, (k, (l, tt))), tt) in
-    all-table (λ o. Fine v 0 0 (inst o a b c m)) (Move ∷ Add ∷ Lt ∷ Eq ∷ Neq ∷ Gt ∷ Gte ∷ Lte ∷ Sub ∷ Div ∷ Mod ∷ Mul ∷ Pow ∷ []) Move op
+    all-table (λ o. Obeys v 0 0 (inst o a b c m)) (Move ∷ Add ∷ Lt ∷ Eq ∷ Neq ∷ Gt ∷ Gte ∷ Lte ∷ Sub ∷ Div ∷ Mod ∷ Mul ∷ Pow ∷ []) Move op
     (ab, (all, (all, (all, (all, (all, (all, (all, (all, (all, (all, (all, (all, tt))))))))))))) ab
 
 pub unary-good : (node op mark : ℕ) {x : M Chunk} → Always x Good → Always (visit-unary node op mark x) Good
@@ -125,7 +125,7 @@ from-below n r zero h = tt
 from-below n r (suc k) h = (omega arith, from-below n (suc r) k (omega arith))
 
 -- a Call of n arguments: f, as many after it, and the result's register
-call-fine : (v : View) (f n r mark : ℕ) → f + n < v .registers → r < v .registers → Fine v 0 0 (inst Call f (n + 1) (r + 1) mark)
+call-fine : (v : View) (f n r mark : ℕ) → f + n < v .registers → r < v .registers → Obeys v 0 0 (inst Call f (n + 1) (r + 1) mark)
 call-fine v f n r mark h k = (
   (omega arith, all-append (λ x. x < v .registers) (from (f + 1) (n + 1 - 1)) _ (from-below _ (f + 1) (n + 1 - 1) (omega arith)) (omega arith, tt)),
   (omega arith, omega arith),

@@ -6,13 +6,13 @@ use mathlib.Core.Bool.{cond}
 use mathlib.Core.List.{List, [], _∷_}
 use native.Mathlib.Omega.{arith}
 use lib.Dec.{eqb}
-use Rattle.meaning.specs.Opcode.{inst, wide, Return, SetGlobal}
+use Rattle.meaning.specs.Opcode.{inst, inst-bx, Return, SetGlobal}
 use Rattle.meaning.specs.declared.Token.{Token}
 use Rattle.meaning.specs.State.{State, Chunk, M, only-if, is-global-context}
 use Rattle.meaning.specs.Functions.{last-mark, parameters, return-of-code, close-body, visit-body, function-code, visit-function, fun-code, define-name, declare-name, visit-fun}
 use Rattle.meaning.specs.Safety.{IsText, All}
 use Rattle.meaning.specs.declared.Instruction.{Instruction}
-use Rattle.meaning.proofs.Safe.Fine.{view, shift, plus-one}
+use Rattle.meaning.proofs.Safe.Obeys.{view, shift, plus-one}
 use Rattle.meaning.proofs.Safe.Patches.{choice}
 use Rattle.meaning.proofs.Safe.Sound.{Sound, more-chain, Gives, Always, bind, next, by-pure, by-refuse, either, weaken, regs, Whatever, takes, allocates, globals, gets, stores, Code, Good, good-more, Row, row-sane}
 use Rattle.meaning.proofs.Safe.Brackets.{block-gives, function-gives}
@@ -66,7 +66,7 @@ define-good node x c s σ h =
     either b
     (bind (stores node _ IsText tt t τ) λ k u υ g' e'.
     let c' = good-more c s u (more-chain g g') h in
-    by-pure _ υ (record { code = plus-one _ (c .code) (wide SetGlobal (c .result) k (x .mark)) (c' .code) ((c' .result, tt), e' .1); result = c' .result }))
+    by-pure _ υ (record { code = plus-one _ (c .code) (inst-bx SetGlobal (c .result) k (x .mark)) (c' .code) ((c' .result, tt), e' .1); result = c' .result }))
     (next (allocates _ _ t τ (omega (arith, h .result))) λ a u υ g' e'. by-pure c υ (good-more c s u (more-chain g g') h))
 
 pub declare-good : (x : Token) (s : State) → Sound s → Gives (declare-name x) s Whatever

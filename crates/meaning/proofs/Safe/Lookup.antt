@@ -15,7 +15,7 @@ use borrow.Author.Tests.{ltb-true}
 use Rattle.meaning.specs.State.{State, Open, Local, Capture, get, is-global, get-var-register, local-in-block, local-of, Search, not-found, full, found, add-upvalue, capture-index, captures-full, with-capture, local-capture, outer-capture, outward, search-outward, searched, get-upvalue}
 use Rattle.meaning.specs.Safety.{All, Fits}
 use Rattle.meaning.proofs.Grows.{Widened, Found, cond-either, search-found}
-use Rattle.meaning.proofs.Safe.Fine.{View, all-append, fits-more, grown-same}
+use Rattle.meaning.proofs.Safe.Obeys.{View, all-append, fits-more, grown-same}
 use Rattle.meaning.proofs.Safe.Patches.{choice}
 use Rattle.meaning.proofs.Safe.Sound.{Locals, Chain, Sound, more-same, Post, Gives, regs}
 

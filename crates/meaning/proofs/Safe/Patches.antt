@@ -11,12 +11,12 @@ use native.Mathlib.Omega.{arith}
 use lib.ListN.{length, length-append}
 use lib.Dec.{eqb, leb}
 use borrow.Author.Tests.{eqb-true}
-use Rattle.meaning.specs.Opcode.{inst, wide, back, is-continue, is-break, is-end-jump, no-mark, Jmp, Test, RegisterTryCatch, DeregisterTryCatch}
+use Rattle.meaning.specs.Opcode.{inst, inst-bx, back, is-continue, is-break, is-end-jump, no-mark, Jmp, Test, RegisterTryCatch, DeregisterTryCatch}
 use Rattle.meaning.specs.State.{Chunk}
 use Rattle.meaning.specs.Chunk.{each-at, jump-by, continue-offset, continue-goal, patch-jump, patch-loop, open-loop, body-place, loop-code, branch-code, patch-end, patch-ends, patch-first, try-code}
 use Rattle.meaning.specs.declared.Instruction.{Instruction}
 use Rattle.meaning.proofs.Lists.{and-left}
-use Rattle.meaning.proofs.Safe.Fine.{Kind, jump, test, handler, constant-of, name-of, capture-of, closure-of, calls, plain, never, View, looped, Fine, FineAs, Sane, Lands, lands, continues, breaks, kind, fine-at, shift, in-a-loop, join-at, join, join-after}
+use Rattle.meaning.proofs.Safe.Obeys.{Kind, jump, test, handler, constant-of, name-of, capture-of, closure-of, calls, plain, never, View, looped, Obeys, ObeysAs, Sane, Lands, lands, continues, breaks, kind, obeys-at, shift, in-a-loop, join-at, join, join-after}
 
 -- ---- offsets
 
@@ -48,11 +48,11 @@ true-false {ℓ} : {A : Type ℓ} (b : Bool) → b ≡ true → b ≡ false → 
 true-false b h k = absurd (true≢false (sym h ∙ k))
 
 -- a Jmp whose offset lands
-jump-fine : (v : View) (b e : ℕ) (x : Instruction) (n : ℕ) → eqb (x .opcode) Jmp ≡ true → (b + e ≤ 32766 → Lands b e (encoded n)) → Fine v b e (jump-by x n)
-jump-fine v b e x n h k = subst (λ (p : ℕ). Fine v b e (wide p 0 n (x .mark))) (sym (eqb-true (x .opcode) Jmp h)) (tt, lands refl k)
+jump-fine : (v : View) (b e : ℕ) (x : Instruction) (n : ℕ) → eqb (x .opcode) Jmp ≡ true → (b + e ≤ 32766 → Lands b e (encoded n)) → Obeys v b e (jump-by x n)
+jump-fine v b e x n h k = subst (λ (p : ℕ). Obeys v b e (inst-bx p 0 n (x .mark))) (sym (eqb-true (x .opcode) Jmp h)) (tt, lands refl k)
 
 -- what is no break or continue needs no loop
-out-as : (κ : Kind) (v : View) (b e : ℕ) (x : Instruction) → is-continue x ≡ false → is-break x ≡ false → FineAs κ (looped v) b e x → FineAs κ v b e x
+out-as : (κ : Kind) (v : View) (b e : ℕ) (x : Instruction) → is-continue x ≡ false → is-break x ≡ false → ObeysAs κ (looped v) b e x → ObeysAs κ v b e x
 out-as jump v b e x h k (lands z f) = lands z f
 out-as jump v b e x h k (continues z f) = true-false (is-continue x) z h
 out-as jump v b e x h k (breaks z f) = true-false (is-break x) z k
@@ -71,18 +71,18 @@ lands-at : (b e goal : ℕ) → goal ≤ b + suc e → b + e ≤ 32766 → Lands
 lands-at b e goal h k = choice (λ n. Lands b e (encoded n)) (leb b goal) (λ z. lands-on b e _ (omega arith) k) (λ z. lands-back b e _ (omega arith) k)
 
 -- continue goes to its goal, break just past the loop's end
-patch-jump-fine : (v : View) (goal size b e : ℕ) (x : Instruction) → goal ≤ size → size ≤ b + suc e → Fine (looped v) b e x → Fine v b e (patch-jump goal size b x)
+patch-jump-fine : (v : View) (goal size b e : ℕ) (x : Instruction) → goal ≤ size → size ≤ b + suc e → Obeys (looped v) b e x → Obeys v b e (patch-jump goal size b x)
 patch-jump-fine v goal size b e x g q h =
-    choice (Fine v b e) (is-continue x) (λ z. jump-fine v b e x _ (and-left _ _ z) (λ k. lands-at b e goal (omega arith) k)) λ z.
-    choice (Fine v b e) (is-break x) (λ y. jump-fine v b e x _ (and-left _ _ y) (λ k. lands-on b e _ (omega arith) k)) λ y.
+    choice (Obeys v b e) (is-continue x) (λ z. jump-fine v b e x _ (and-left _ _ z) (λ k. lands-at b e goal (omega arith) k)) λ z.
+    choice (Obeys v b e) (is-break x) (λ y. jump-fine v b e x _ (and-left _ _ y) (λ k. lands-on b e _ (omega arith) k)) λ y.
     (h .0, out-as (kind (x .opcode)) v b e x z y (h .1))
 
 is-end-op : (x : Instruction) → is-end-jump x ≡ true → eqb (x .opcode) Jmp ≡ true
 is-end-op x e = and-left _ _ (and-left _ _ (and-left _ _ e))
 
 -- the jump to the end of an if goes just past it
-patch-end-fine : (v : View) (size b e : ℕ) (x : Instruction) → size ≤ b + suc e → Fine v b e x → Fine v b e (patch-end size b x)
-patch-end-fine v size b e x q h = choice (Fine v b e) (is-end-jump x) (λ z. jump-fine v b e x _ (is-end-op x z) (λ k. lands-on b e _ (omega arith) k)) (λ z. h)
+patch-end-fine : (v : View) (size b e : ℕ) (x : Instruction) → size ≤ b + suc e → Obeys v b e x → Obeys v b e (patch-end size b x)
+patch-end-fine v size b e x q h = choice (Obeys v b e) (is-end-jump x) (λ z. jump-fine v b e x _ (is-end-op x z) (λ k. lands-on b e _ (omega arith) k)) (λ z. h)
 
 -- ---- all of a chunk's jumps
 
@@ -90,11 +90,11 @@ length-each : (f : ℕ → Instruction → Instruction) (i : ℕ) (xs : List Ins
 length-each f i [] = refl
 length-each f i (x ∷ xs) = ap suc (length-each f (suc i) xs)
 
-each-sane : (v w : View) (f : ℕ → Instruction → Instruction) (size : ℕ) → ((b e : ℕ) (x : Instruction) → size ≤ b + suc e → Fine v b e x → Fine w b e (f b x))
+each-sane : (v w : View) (f : ℕ → Instruction → Instruction) (size : ℕ) → ((b e : ℕ) (x : Instruction) → size ≤ b + suc e → Obeys v b e x → Obeys w b e (f b x))
     → (b : ℕ) (xs : List Instruction) → size ≤ b + length xs → Sane v b 0 xs → Sane w b 0 (each-at f b xs)
 each-sane v w f size h b [] q k = tt
 each-sane v w f size h b (x ∷ xs) q k = (
-  fine-at w b _ b _ (f b x) (le-refl _) (omega (arith, length-each f (suc b) xs)) (h b (length xs + 0) x (omega arith) (k .0)),
+  obeys-at w b _ b _ (f b x) (le-refl _) (omega (arith, length-each f (suc b) xs)) (h b (length xs + 0) x (omega arith) (k .0)),
   each-sane v w f size h (suc b) xs (omega arith) (k .1),
 )
 
@@ -110,13 +110,13 @@ length-one : (xs : List Instruction) (x : Instruction) → length (xs ++ x ∷ [
 length-one xs x = length-append xs (x ∷ [])
 
 -- Test, a jump at most past a body and one more instruction, the body, that instruction
-pub guarded : (v : View) (b r c m n m' : ℕ) (body : List Instruction) (x : Instruction) → n ≤ length body + 2 → r < v .registers → Sane v 0 0 body → Fine v (b + 2 + length body) 0 x
-    → Sane v b 0 (inst Test r r c m ∷ wide Jmp 0 n m' ∷ (body ++ x ∷ []))
+pub guarded : (v : View) (b r c m n m' : ℕ) (body : List Instruction) (x : Instruction) → n ≤ length body + 2 → r < v .registers → Sane v 0 0 body → Obeys v (b + 2 + length body) 0 x
+    → Sane v b 0 (inst Test r r c m ∷ inst-bx Jmp 0 n m' ∷ (body ++ x ∷ []))
 guarded v b r c m n m' body x hn hr hb hx = (
   ((hr, (hr, tt)), omega arith),
   (
     (tt, lands refl (λ k. lands-on _ _ n (omega (arith, length-one body x)) k)),
-    join-at v _ 0 body (x ∷ []) (shift v _ _ body hb) (fine-at v _ 0 _ _ x (omega arith) (omega arith) hx, tt),
+    join-at v _ 0 body (x ∷ []) (shift v _ _ body hb) (obeys-at v _ 0 _ _ x (omega arith) (omega arith) hx, tt),
   ),
 )
 
@@ -139,7 +139,7 @@ loop-sane v goal mark before condition r body hg hb hc hr hd =
     patch-loop-sane v goal (open-loop mark before condition r body) (omega (arith, hg, loop-length mark before condition r body))
     (join (looped v) before _ (in-a-loop v before hb)
     (join-after (looped v) condition _ (in-a-loop v condition hc)
-    (guarded (looped v) _ r 0 mark _ mark body (wide Jmp 0 _ mark) (omega arith) hr hd (tt, lands refl (λ k. lands-back _ _ _ (omega arith) k)))))
+    (guarded (looped v) _ r 0 mark _ mark body (inst-bx Jmp 0 _ mark) (omega arith) hr hd (tt, lands refl (λ k. lands-back _ _ _ (omega arith) k)))))
 
 pub branch-sane : (v : View) (mark : ℕ) (c : Chunk) (body : List Instruction) → Sane v 0 0 (c .code) → c .result < v .registers → Sane v 0 0 body → Sane v 0 0 (branch-code mark c body)
 branch-sane v mark c body hc hr hb =
@@ -160,13 +160,13 @@ first-sane v b o [] ys h k = (k .0, ((tt, lands refl (λ l. lands-on _ _ o (omeg
 first-sane v b o (x ∷ xs) ys h k =
     choice (Sane v b 0) (is-end-jump x)
     (λ z. (jump-fine v b _ x o (is-end-op x z) (λ l. lands-on _ _ o (omega (arith, length-append xs (left-try ys))) l), k .1))
-    (λ z. (fine-at v b _ b _ x (le-refl _) (omega (arith, length-first o (xs ++ left-try ys))) (k .0), first-sane v (suc b) o xs ys h (k .1)))
+    (λ z. (obeys-at v b _ b _ x (le-refl _) (omega (arith, length-first o (xs ++ left-try ys))) (k .0), first-sane v (suc b) o xs ys h (k .1)))
 
 -- the handler stands after the body, the Deregister and the jump
 try-tail : (v : View) (body catch : List Instruction) → Sane v 0 0 body → Sane v 0 0 catch → Sane v 1 0 (body ++ left-try catch)
 try-tail v body catch hb hc = join-at v 1 0 body _ (shift v _ _ body hb) ((tt, tt), ((tt, lands refl (λ k. stays _ _ k)), shift v _ 0 catch hc))
 
-handler-fine : (v : View) (o n m : ℕ) (xs : List Instruction) → n ≤ length xs + 1 → Fine v 0 (length (patch-first o xs) + 0) (wide RegisterTryCatch 0 n m)
+handler-fine : (v : View) (o n m : ℕ) (xs : List Instruction) → n ≤ length xs + 1 → Obeys v 0 (length (patch-first o xs) + 0) (inst-bx RegisterTryCatch 0 n m)
 handler-fine v o n m xs h = (tt, omega (arith, length-first o xs))
 
 pub try-sane : (v : View) (body catch : List Instruction) → Sane v 0 0 body → Sane v 0 0 catch → Sane v 0 0 (try-code body catch)

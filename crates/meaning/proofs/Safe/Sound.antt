@@ -19,7 +19,7 @@ use Rattle.meaning.specs.Safety.{All, Holds, Fits}
 use Rattle.meaning.specs.declared.Cause.{Cause}
 use Rattle.meaning.specs.declared.Instruction.{Instruction}
 use Rattle.meaning.proofs.Grows.{Outer, outer-same, outer-chain}
-use Rattle.meaning.proofs.Safe.Fine.{View, view, Sane, Wider, all-more, grown-same, holds-last, one-more, wider-same, wider-chain, widen, join}
+use Rattle.meaning.proofs.Safe.Obeys.{View, view, Sane, Wider, all-more, grown-same, holds-last, one-more, wider-same, wider-chain, widen, join}
 use Rattle.meaning.proofs.Safe.Patches.{encoded, encoded-small}
 
 -- ---- what holds between steps

@@ -7,7 +7,7 @@ use native.Mathlib.Omega.{arith}
 use lib.Dec.{eqb}
 use lib.ListN.{length-append}
 use borrow.Author.Tests.{eqb-false}
-use Rattle.meaning.specs.Opcode.{inst, wide, no-mark, LoadK, Jmp, Lt, Return, Class, ClassMeth, ClassStMeth, Addi, Length, SetGlobal, JMP-BREAK, JMP-CONTINUE}
+use Rattle.meaning.specs.Opcode.{inst, inst-bx, no-mark, LoadK, Jmp, Lt, Return, Class, ClassMeth, ClassStMeth, Addi, Length, SetGlobal, JMP-BREAK, JMP-CONTINUE}
 use Rattle.meaning.specs.declared.Token.{Token}
 use Rattle.meaning.specs.Syntax.{Super, no-super, super}
 use Rattle.meaning.specs.State.{State, Chunk, M, is-global-var, is-global-context}
@@ -15,7 +15,7 @@ use Rattle.meaning.specs.Chunk.{joined, branch-code}
 use Rattle.meaning.specs.Statements.{new-global, visit-let-as, visit-let-only, visit-block, visit-while, visit-classic-for, iterate-each, iterate, visit-for-in, visit-jump, visit-return, visit-return-none, visit-if, visit-elif, visit-catch, visit-try, visit-super, visit-method, visit-methods, visit-class}
 use Rattle.meaning.specs.Safety.{IsText, Holds}
 use Rattle.meaning.specs.declared.Instruction.{Instruction}
-use Rattle.meaning.proofs.Safe.Fine.{View, Any, Fine, Leap, continues, breaks, holds-grown, wider-in-loop, in-a-loop, widen, shift, join, plus-one, one-plus}
+use Rattle.meaning.proofs.Safe.Obeys.{View, Any, Obeys, Leap, continues, breaks, holds-grown, wider-in-loop, in-a-loop, widen, shift, join, plus-one, one-plus}
 use Rattle.meaning.proofs.Safe.Patches.{encoded, goal-inside, loop-sane, branch-sane, patch-ends-sane, try-sane}
 use Rattle.meaning.proofs.Safe.Sound.{Sound, More, more-chain, Gives, Always, bind, next, by-pure, by-refuse, either, either-known, weaken, regs, takes, allocates, globals, gets, stores, Code, Good, Loose, Row, loose, good-more, loose-more, row-sane}
 use Rattle.meaning.proofs.Safe.Brackets.{block-gives, loop-gives}
@@ -40,7 +40,7 @@ let-as-good node x hi s σ =
     either b
     (bind (new-global-good node x t τ) λ k u υ g1 e1. bind (hi u υ) λ c v ν g2 p.
     by-pure _ ν (loose _ _ (record {
-      code = plus-one _ (c .code) (wide SetGlobal (c .result) k (x .mark)) (p .code) ((p .result, tt), holds-grown IsText _ (g2 .wider .constants) e1);
+      code = plus-one _ (c .code) (inst-bx SetGlobal (c .result) k (x .mark)) (p .code) ((p .result, tt), holds-grown IsText _ (g2 .wider .constants) e1);
       result = p .result;
     })))
     (bind (hi t τ) λ c u υ g1 p. next (allocates _ _ u υ (p .result)) λ a v ν g2 e2. by-pure c ν (loose c _ (good-more c u v g2 p)))
@@ -108,7 +108,7 @@ for-in-good mode node mark xs hc hb s σ =
     let r6 = g6 .wider .registers in let r7 = g7 .wider .registers in let r8 = g8 .wider .registers in
     let c' = good-more c t6 t8 (more-chain g7 g8) p6 in
     by-pure _ τ8 (record {
-      code = loop-sane _ _ mark (wide LoadK counter k mark ∷ c .code) (inst Length size (c .result) 0 mark ∷ inst Lt condition counter size mark ∷ []) condition (heads ++ (b .code ++ inst Addi counter counter 1 mark ∷ []))
+      code = loop-sane _ _ mark (inst-bx LoadK counter k mark ∷ c .code) (inst Length size (c .result) 0 mark ∷ inst Lt condition counter size mark ∷ []) condition (heads ++ (b .code ++ inst Addi counter counter 1 mark ∷ []))
           (goal-inside mode _ _ (omega (arith, length-append heads (b .code ++ inst Addi counter counter 1 mark ∷ []), length-append (b .code) (inst Addi counter counter 1 mark ∷ []))))
           (((omega arith, tt), holds-grown Any _ (more-chain g6 (more-chain g7 g8) .wider .constants) (p5 .1)), shift _ 1 0 (c .code) (c' .code))
           (((omega arith, (c' .result, tt)), tt), (((omega arith, (omega arith, (omega arith, tt))), tt), tt))
@@ -188,7 +188,7 @@ super-good node x (super n y) s σ = variable-good n y s σ
 
 -- an opcode that meets a, b and c, and needs nothing else: ClassMeth, ClassStMeth
 abbrev pub Three : ℕ → Type 0
-Three op = (v : View) (b e x y z m : ℕ) → x < v .registers → y < v .registers → z < v .registers → Fine v b e (inst op x y z m)
+Three op = (v : View) (b e x y z m : ℕ) → x < v .registers → y < v .registers → z < v .registers → Obeys v b e (inst op x y z m)
 
 -- methods, given where they are put
 abbrev pub Methods : (ℕ → ℕ → ℕ → M (List Instruction)) → Type 0
@@ -228,7 +228,7 @@ class-good node x p hm ht s σ =
     let r6 = g6 .wider .registers in
     let c' = good-more c t5 t6 g6 p5 in
     define-good node x _ t6 τ6 (record {
-      code = one-plus _ (wide LoadK tmp k (x .mark)) (c .code ++ (inst Class r tmp (c .result) (x .mark) ∷ ms)) ((omega arith, tt), holds-grown Any _ (more-chain g5 g6 .wider .constants) (p4 .1))
+      code = one-plus _ (inst-bx LoadK tmp k (x .mark)) (c .code ++ (inst Class r tmp (c .result) (x .mark) ∷ ms)) ((omega arith, tt), holds-grown Any _ (more-chain g5 g6 .wider .constants) (p4 .1))
           (join _ (c .code) (inst Class r tmp (c .result) (x .mark) ∷ ms) (c' .code) (((omega arith, (omega arith, (c' .result, tt))), tt), shift _ 1 0 ms p6));
       result = omega arith;
     })

@@ -17,7 +17,7 @@ use Rattle.meaning.specs.State.{Proto, among}
 use Rattle.meaning.specs.Steps.{inst-at, opcode-at, target, Step-01, next, jump, skip, handler, Amended, ordinary, struck, Walk, here, and-on}
 use Rattle.meaning.specs.Safety.{met, name-due, All, Inside, Facts, Safe, Stands}
 use Rattle.meaning.specs.declared.Instruction.{Instruction}
-use Rattle.meaning.proofs.Safe.Fine.{View, Fine, FineAs, Kind, kind, name-of, Sane, Leap, lands, continues, breaks, Lands, Any, holds-below, fine-at}
+use Rattle.meaning.proofs.Safe.Obeys.{View, Obeys, ObeysAs, Kind, kind, name-of, Sane, Leap, lands, continues, breaks, Lands, Any, holds-below, obeys-at}
 use Rattle.meaning.proofs.Safe.Patches.{choice}
 use Rattle.meaning.proofs.Safe.Sound.{Finished, Protos, proto-view}
 
@@ -28,7 +28,7 @@ last-return = inst Return 0 0 0 no-mark
 
 -- an instruction of a prototype of n instructions: fine, with f more after it and then the last Return; or that Return itself
 data Placed (v : View) (n i : ℕ) (x : Instruction) : Type 0 where
-  within : (f : ℕ) → i + suc f < n → Fine v i f x → Placed v n i x
+  within : (f : ℕ) → i + suc f < n → Obeys v i f x → Placed v n i x
   ending : x ≡ last-return → Placed v n i x
 
 target-inside : (n i f w : ℕ) → i + suc f < n → Lands i f w → Inside n (target i w)
@@ -48,13 +48,13 @@ cond-true true x y e = refl
 cond-true false x y e = absurd (true≢false (sym e))
 
 -- an instruction that is fine, with f more after it and then the last Return
-module _ (cs : List Constant) (earlier : List Proto) (p : Proto) (i f : ℕ) (h : i + suc f < length (p .code)) (s : length (p .code) ≤ 32767) (k : Fine (proto-view cs earlier p) i f (inst-at (p .code) i)) where
+module _ (cs : List Constant) (earlier : List Proto) (p : Proto) (i f : ℕ) (h : i + suc f < length (p .code)) (s : length (p .code) ≤ 32767) (k : Obeys (proto-view cs earlier p) i f (inst-at (p .code) i)) where
   -- what it needs, if its opcode is that
-  needs : (op : ℕ) → opcode-at (p .code) i ≡ op → FineAs (kind op) (proto-view cs earlier p) i f (inst-at (p .code) i)
-  needs op e = subst (λ (o : ℕ). FineAs (kind o) (proto-view cs earlier p) i f (inst-at (p .code) i)) e (k .1)
+  needs : (op : ℕ) → opcode-at (p .code) i ≡ op → ObeysAs (kind op) (proto-view cs earlier p) i f (inst-at (p .code) i)
+  needs op e = subst (λ (o : ℕ). ObeysAs (kind o) (proto-view cs earlier p) i f (inst-at (p .code) i)) e (k .1)
 
-  needs-name : among (opcode-at (p .code) i) name-due ≡ true → FineAs name-of (proto-view cs earlier p) i f (inst-at (p .code) i)
-  needs-name e = subst (λ (κ : Kind). FineAs κ (proto-view cs earlier p) i f (inst-at (p .code) i)) (cond-true (among (opcode-at (p .code) i) name-due) _ _ e) (k .1)
+  needs-name : among (opcode-at (p .code) i) name-due ≡ true → ObeysAs name-of (proto-view cs earlier p) i f (inst-at (p .code) i)
+  needs-name e = subst (λ (κ : Kind). ObeysAs κ (proto-view cs earlier p) i f (inst-at (p .code) i)) (cond-true (among (opcode-at (p .code) i) name-due) _ _ e) (k .1)
 
   steps-inside : (o : Option ℕ) → Step-01 (p .code) i o → Inside (length (p .code)) o
   steps-inside o (next l j r) = omega arith
@@ -107,7 +107,7 @@ placed-facts cs earlier p i s (ending z) = return-facts cs earlier p i _ refl z
 placed-at : (v : View) (n b : ℕ) (xs : List Instruction) (i j : ℕ) → j ≡ b + i → b + length xs < n → Sane v b 0 xs → i < length (xs ++ last-return ∷ []) → Placed v n j (inst-at (xs ++ last-return ∷ []) i)
 placed-at v n b [] zero j e h k l = ending refl
 placed-at v n b [] (suc i) j e h k l = absurd (omega arith)
-placed-at v n b (x ∷ xs) zero j e h k l = within (length xs + 0) (omega arith) (fine-at v b _ j _ x (omega arith) (le-refl _) (k .0))
+placed-at v n b (x ∷ xs) zero j e h k l = within (length xs + 0) (omega arith) (obeys-at v b _ j _ x (omega arith) (le-refl _) (k .0))
 placed-at v n b (x ∷ xs) (suc i) j e h k l = placed-at v n (suc b) xs i j (omega arith) (omega arith) (k .1) (omega arith)
 
 pub finished-safe : (cs : List Constant) (earlier : List Proto) (p : Proto) → Finished cs earlier p → Safe cs earlier p

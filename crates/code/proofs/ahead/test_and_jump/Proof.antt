@@ -4,6 +4,7 @@ use Rattle.meaning.specs.Opcode.{inst, Jmp}
 use native.Mathlib.Omega.{arith}
 use Rattle.forward.specs.Forward.{test-and-jump}
 use Rattle.store.specs.Promise.{uses}
+use Rattle.store.specs.Store.{result-of}
 use Rattle.store.proofs.Runs.{leaf-absorbed}
 use Rattle.code.proofs.Coded.{met, room-for, starts, coded, result-small}
 use Rattle.code.proofs.Writing.{spell, as-many}
@@ -33,7 +34,7 @@ returns-2 c =
     let room = room-for 4 fine on (start .pre .1) in
     let one = spell (starts fine) (pack .ensures) (write .ensures) (omega (arith, room)) in
     let two = spell {x = 3} {i = inst Jmp 0 0 0} one (record { is = λ m. refl }) ((c .before .before .before .write-cell2) .ensures) (omega (arith, room)) in
-    rw (c .advance .ensures) (coded (a .step .result) 4 _ fine on (as-many (omega arith) two) (omega arith) (omega arith) (result-small fine on) (λ t. refl))
+    rw (c .advance .ensures) (coded (result-of (a .step)) 4 _ fine on (as-many (omega arith) two) (omega arith) (omega arith) (result-small fine on) (λ t. refl))
 
 pub test-and-jump-spec : {M : Type 1} → statement M
 test-and-jump-spec =

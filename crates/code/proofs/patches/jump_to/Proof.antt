@@ -6,7 +6,7 @@ use Rattle.code.proofs.patches.jump_to.Statement.{statement}
 use Rattle.code.proofs.patches.jump_to.Tie as tie
 
 returns : tie.Need-returns
-returns c = rw (le-leb _ _ ((c .before .if1) .taken)) ((c .pack-wide) .ensures)
+returns c = rw (le-leb _ _ ((c .before .if1) .taken)) ((c .pack-bx) .ensures)
 
 returns-2 : tie.Need-returns-2
 returns-2 c =

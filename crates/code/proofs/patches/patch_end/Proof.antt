@@ -8,7 +8,7 @@ use Rattle.code.proofs.patches.patch_end.Tie as tie
 returns : tie.Need-returns
 returns c =
     let a = (c .before .before) .args in
-    turns-end (a .size) (a .i) ((c .before .if1) .taken) ((c .pack-wide) .ensures)
+    turns-end (a .size) (a .i) ((c .before .if1) .taken) ((c .pack-bx) .ensures)
 
 returns-2 : tie.Need-returns-2
 returns-2 c =

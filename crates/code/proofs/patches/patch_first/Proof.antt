@@ -25,8 +25,8 @@ word-at-requires c κs =
     let start = c .before .before .before .before in
     (rw ((c .before .before .loop) .inv .2) (start .pre .0), omega (arith, start .pre .1, (c .before .loop-test) .taken), start .pre .3)
 
-pack-wide-requires : tie.Need-pack-wide-requires Inv-loop μ-loop
-pack-wide-requires c κs = (omega arith, omega arith)
+pack-bx-requires : tie.Need-pack-bx-requires Inv-loop μ-loop
+pack-bx-requires c κs = (omega arith, omega arith)
 
 set-word-requires : tie.Need-set-word-requires Inv-loop μ-loop
 set-word-requires c κs =
@@ -45,7 +45,7 @@ returns c =
     let v = turn .inv in
     let x = rw (v .2) at (sym (c .before .before .before .before .before .before .word-at .ensures) ∙ (c .before .before .before .before .before .if1) .taken) in
     rw (c .before .before .set-word .ensures, v .2)
-    (first-found w (top-of (a .scope)) (a .first) (a .offset) (a .end) (turn .i) (v .0) ((c .before .before .before .before .before .before .before .before .loop-test) .taken) (start .pre .1) (start .pre .0) (v .3) (end-is _ x) (turns-first (a .offset) x ((c .before .before .before .pack-wide) .ensures)))
+    (first-found w (top-of (a .scope)) (a .first) (a .offset) (a .end) (turn .i) (v .0) ((c .before .before .before .before .before .before .before .before .loop-test) .taken) (start .pre .1) (start .pre .0) (v .3) (end-is _ x) (turns-first (a .offset) x ((c .before .before .before .pack-bx) .ensures)))
 
 loop-again : tie.Need-loop-again Inv-loop μ-loop
 loop-again c =
@@ -77,7 +77,7 @@ patch-first-spec =
     μ-loop
     loop-holds
     word-at-requires
-    pack-wide-requires
+    pack-bx-requires
     set-word-requires
     same-length
     returns

@@ -13,7 +13,7 @@ returns c =
 returns-2 : tie.Need-returns-2
 returns-2 c =
     let a = (c .before .before .before) .args in
-    turns-break (a .goal) (a .size) (a .i) (kind-not (a .x) 1 (omega arith) ((c .before .before .if1) .left)) (kind-is (a .x) 2 (omega arith) ((c .before .if2) .taken)) ((c .pack-wide) .ensures)
+    turns-break (a .goal) (a .size) (a .i) (kind-not (a .x) 1 (omega arith) ((c .before .before .if1) .left)) (kind-is (a .x) 2 (omega arith) ((c .before .if2) .taken)) ((c .pack-bx) .ensures)
 
 returns-3 : tie.Need-returns-3
 returns-3 c =

@@ -5,11 +5,12 @@ use Rattle.forward.specs.Forward.{end-program}
 use borrow.Author.Needs.{needs}
 use Rattle.code.proofs.prototype.end_program.Statement.{statement}
 use Rattle.code.proofs.prototype.end_program.Tie as tie
+use Rattle.store.specs.Store.{outcome-of}
 
 add-prototype-requires : tie.Need-add-prototype-requires
 add-prototype-requires c κs =
     let start = c .before .before .before in
-    (start .pre, promised (start .args .step .outcome) (λ g. omega arith), omega arith)
+    (start .pre, promised (outcome-of (start .args .step)) (λ g. omega arith), omega arith)
 
 returns : tie.Need-returns
 unfolding end-program

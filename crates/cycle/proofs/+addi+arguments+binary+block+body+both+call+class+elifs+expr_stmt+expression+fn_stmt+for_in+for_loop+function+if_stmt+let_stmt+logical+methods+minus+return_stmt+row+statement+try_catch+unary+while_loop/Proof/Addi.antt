@@ -21,8 +21,8 @@ use Rattle.meaning.specs.Opcode.{Addi, inst}
 use Rattle.meaning.specs.State.{next-register}
 use Rattle.store.proofs.Compose.{known}
 use Rattle.store.proofs.Runs.{due}
-use Rattle.store.specs.Promise.{Leaf, Room, a-register, uses}
-use Rattle.store.specs.Store.{Fine, while-going}
+use Rattle.store.specs.Promise.{Leaf, Space, a-register, uses}
+use Rattle.store.specs.Store.{outcome-of, result-of, Fine, while-going}
 use Rattle.store.specs.declared.Scope.{Scope}
 use Rattle.store.specs.declared.Step.{Step}
 use mathlib.Core.List.{List}
@@ -34,19 +34,19 @@ module _ {t w : List ℕ} {p : Scope} {s : Step} {i : ℕ} (g : GivenExpr t w p 
   left = let n = binary-size x in give-expr (from (g .ready)) (g .known) (x .left) (omega arith) (omega arith) (omega arith) (omega arith)
 
   module _ {o w1 o1 : List ℕ} {s1 : Step} (d1 : LowersExpr t (word-of (fields t) i 2) w o p s w1 o1 s1) where
-    module _ {w2 : List ℕ} {s2 : Step} (d2 : Leaf w1 p s1 w2 p s2 a-register (fwd-number (next-register i)) × (s2 .result < 255)) where
-      at-emit : (k : ℕ) → k < 256 → Fine w2 p s2 × Room w2 p s2 0 2 0 × while-going (s2 .outcome) (Bytes 36 (s2 .result) (s1 .result) k)
+    module _ {w2 : List ℕ} {s2 : Step} (d2 : Leaf w1 p s1 w2 p s2 a-register (fwd-number (next-register i)) × (result-of s2 < 255)) where
+      at-emit : (k : ℕ) → k < 256 → Fine w2 p s2 × Space w2 p s2 0 2 0 × while-going (outcome-of s2) (Bytes 36 (result-of s2) (result-of s1) k)
       at-emit k h =
           let n = binary-size x in
           let y = stand 0 2 0 (from (g .ready) ▹ d1 .does .moves ▹ d2 .0 .moves) (omega arith) (omega arith) (omega arith) (omega arith) in (
             y .fine,
             y .room,
-            fits (s2 .outcome) 36 (s2 .result) (s1 .result) k λ e.
-                let v1 = due (s1 .outcome) (d1 .small) (d2 .0 .moves .back e) in
+            fits (outcome-of s2) 36 (result-of s2) (result-of s1) k λ e.
+                let v1 = due (outcome-of s1) (d1 .small) (d2 .0 .moves .back e) in
                 (omega arith, omega (arith, d2 .1), omega arith, h),
           )
 
-      module _ {k : ℕ} {w3 : List ℕ} {s3 : Step} (d3 : Leaf w2 p s2 w3 p s3 (uses 2 0 0) (sure (emit (inst Addi (s2 .result) (s1 .result) k (word-of (fields t) i 1))))) where
+      module _ {k : ℕ} {w3 : List ℕ} {s3 : Step} (d3 : Leaf w2 p s2 w3 p s3 (uses 2 0 0) (sure (emit (inst Addi (result-of s2) (result-of s1) k (word-of (fields t) i 1))))) where
         lowers : LowersAddi t i k w o p s w3 o1 s3
         lowers =
             arrive _ _ _ (from (g .ready) ▹ d1 .does .moves ▹ d2 .0 .moves ▹ d3 .moves) (omega (arith, binary-size x)) (omega arith) (omega arith) (λ z. refl) (omega arith)

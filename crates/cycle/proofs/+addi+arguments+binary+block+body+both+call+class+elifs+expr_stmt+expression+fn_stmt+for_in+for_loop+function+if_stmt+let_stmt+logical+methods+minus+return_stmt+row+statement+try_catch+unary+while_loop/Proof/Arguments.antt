@@ -26,8 +26,8 @@ use Rattle.meaning.specs.Opcode.{Move, inst, no-mark}
 use Rattle.meaning.specs.Weight.{size-expr, size-exprs}
 use Rattle.store.proofs.Compose.{known, settled}
 use Rattle.store.proofs.Runs.{due}
-use Rattle.store.specs.Promise.{Leaf, Room, takes, uses}
-use Rattle.store.specs.Store.{Fine, while-going, with-result}
+use Rattle.store.specs.Promise.{Leaf, Space, takes, uses}
+use Rattle.store.specs.Store.{mode-of, outcome-of, result-of, Fine, while-going, with-result}
 use Rattle.store.specs.declared.Scope.{Scope}
 use Rattle.store.specs.declared.Step.{Step}
 use lib.Dec.{lit<}
@@ -43,8 +43,8 @@ pub record Moving (t w0 o0 : List ℕ) (p : Scope) (s0 : Step) (i register : ℕ
   pub size : done + size-exprs (exprs-at (fields t) i k (count-of (fields t) i)) ≡ size-exprs (exprs-at (fields t) i 2 (count-of (fields t) i))
   pub seen : ℕ
   pub count : seen + visits-exprs (exprs-at (fields t) i k (count-of (fields t) i)) ≡ visits-exprs (exprs-at (fields t) i 2 (count-of (fields t) i))
-  pub turning : Turning w0 o0 p s0 w o s (takes (8 * done + 2 * (k - 2)) 0 seen) (fwd-code (lower-arguments (p .mode) (exprs-at (fields t) i 2 (count-of (fields t) i)) register))
-      (fwd-code (lower-arguments (p .mode) (exprs-at (fields t) i k (count-of (fields t) i)) to))
+  pub turning : Turning w0 o0 p s0 w o s (takes (8 * done + 2 * (k - 2)) 0 seen) (fwd-code (lower-arguments (mode-of p) (exprs-at (fields t) i 2 (count-of (fields t) i)) register))
+      (fwd-code (lower-arguments (mode-of p) (exprs-at (fields t) i k (count-of (fields t) i)) to))
 
 module _ {t w0 : List ℕ} {p : Scope} {s0 : Step} {i register : ℕ} (r : AskArguments t w0 p s0 i register) where
   start : {o0 : List ℕ} → Moving t w0 o0 p s0 i register w0 o0 s0 register 2
@@ -62,20 +62,20 @@ module _ {t w0 : List ℕ} {p : Scope} {s0 : Step} {i register : ℕ} (r : AskAr
           give-expr (from (r .0 .ready) ▹ v .turning .moves) (r .0 .known) below (omega (arith, v .high)) (omega arith) (omega arith) (omega arith)
 
       module _ {w1 o1 : List ℕ} {s1 : Step} (d1 : LowersExpr t (word-of (fields t) i k) w o p s w1 o1 s1) where
-        at-move : Fine w1 p s1 × Room w1 p s1 0 2 0 × while-going (s1 .outcome) (Bytes 0 to (s1 .result) 0)
+        at-move : Fine w1 p s1 × Space w1 p s1 0 2 0 × while-going (outcome-of s1) (Bytes 0 to (result-of s1) 0)
         at-move =
             let n = exprs-size (fields t) i k (count-of (fields t) i) h (omega arith) in
             let m = v .size in
             let y = stand 0 2 0 (from (r .0 .ready) ▹ v .turning .moves ▹ d1 .does .moves) (omega (arith, v .low)) (omega arith) (omega arith) (omega arith) in (
               y .fine,
               y .room,
-              fits (s1 .outcome) 0 to (s1 .result) 0 λ e.
-                  let u = due (s0 .outcome) (r .2) (v .turning .moves .back (d1 .does .moves .back e)) in
-                  let u1 = due (s1 .outcome) (d1 .small) e in
+              fits (outcome-of s1) 0 to (result-of s1) 0 λ e.
+                  let u = due (outcome-of s0) (r .2) (v .turning .moves .back (d1 .does .moves .back e)) in
+                  let u1 = due (outcome-of s1) (d1 .small) e in
                   (omega arith, omega (arith, v .place, v .low), omega arith, omega arith),
             )
 
-        turn : {w2 : List ℕ} {s2 : Step} → Leaf w1 p s1 w2 p s2 (uses 2 0 0) (sure (emit (inst Move to (s1 .result) 0 no-mark))) → Moving t w0 o0 p s0 i register w2 o1 s2 (to + 1) (k + 1)
+        turn : {w2 : List ℕ} {s2 : Step} → Leaf w1 p s1 w2 p s2 (uses 2 0 0) (sure (emit (inst Move to (result-of s1) 0 no-mark))) → Moving t w0 o0 p s0 i register w2 o1 s2 (to + 1) (k + 1)
         unfolding lower-expr
         turn d2 =
             let z = size-expr (expr-at (fields t) (word-of (fields t) i k)) in

@@ -25,7 +25,7 @@ use Rattle.store.proofs.Around.{block-around}
 use Rattle.store.proofs.Leaving.{left-runs}
 use Rattle.store.proofs.Compose.{leaf-after, settled}
 use Rattle.store.specs.Promise.{Leaf, Popped, nothing}
-use Rattle.store.specs.Store.{Kept, Sound, deeper, with-result}
+use Rattle.store.specs.Store.{nodes-of, block-of, Kept, Sound, deeper, with-result}
 use Rattle.store.specs.declared.Scope.{Scope}
 use Rattle.store.specs.declared.Step.{Step}
 use lib.Dec.{lit<}
@@ -34,7 +34,7 @@ use mathlib.Core.Path.{_∙_}
 use native.Mathlib.Omega.{arith}
 
 module _ {t w : List ℕ} {p : Scope} {s : Step} {i : ℕ} (g : GivenStmt t w p s i) (x : Block (fields t) i) where
-  at-enter : Sound w p × (p .block < p .nodes + 10)
+  at-enter : Sound w p × (block-of p < nodes-of p + 10)
   at-enter = let n = block-size x in (g .ready .fine .sound, omega (arith, g .ready .blocks, g .ready .fine .sound .deep))
 
   module _ {w1 : List ℕ} (k1 : Kept w (deeper p) w1) (d1 : Leaf w p s w1 (deeper p) s nothing (fwd-unit enter-block)) where

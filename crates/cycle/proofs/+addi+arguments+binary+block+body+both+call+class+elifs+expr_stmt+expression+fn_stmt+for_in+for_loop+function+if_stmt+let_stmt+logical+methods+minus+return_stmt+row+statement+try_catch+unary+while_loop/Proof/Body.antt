@@ -20,8 +20,8 @@ use Rattle.meaning.specs.Weight.{size-stmts}
 use Rattle.store.proofs.Around.{block-around}
 use Rattle.store.proofs.Leaving.{left-runs}
 use Rattle.store.proofs.Compose.{known, leaf-after}
-use Rattle.store.specs.Promise.{Leaf, Popped, Room, nothing, uses}
-use Rattle.store.specs.Store.{Fine, Kept, Sound, deeper, while-going}
+use Rattle.store.specs.Promise.{Leaf, Popped, Space, nothing, uses}
+use Rattle.store.specs.Store.{nodes-of, block-of, mode-of, outcome-of, pc-of, result-of, Fine, Kept, Sound, deeper, while-going}
 use Rattle.store.specs.declared.Scope.{Scope}
 use Rattle.store.specs.declared.Step.{Step}
 use mathlib.Core.List.{List}
@@ -29,7 +29,7 @@ use mathlib.Core.Path.{_∙_, refl}
 use native.Mathlib.Omega.{arith}
 
 module _ {t w : List ℕ} {p : Scope} {s : Step} {i f e d : ℕ} (g : AskBody t w p s i f e d) where
-  at-enter : Sound w p × (p .block < p .nodes + 10)
+  at-enter : Sound w p × (block-of p < nodes-of p + 10)
   at-enter = (g .0 .ready .fine .sound, omega (arith, g .1, g .0 .ready .fine .sound .deep))
 
   module _ {w1 : List ℕ} (k1 : Kept w (deeper p) w1) (d1 : Leaf w p s w1 (deeper p) s nothing (fwd-unit enter-block)) where
@@ -41,12 +41,12 @@ module _ {t w : List ℕ} {p : Scope} {s : Step} {i f e d : ℕ} (g : AskBody t 
     stmts = give-row (from inner-ready) (g .0 .known) f (count-of (fields t) i) (g .0 .ends) (g .0 .each) (omega arith) (omega arith) (omega arith) (omega arith) (g .0 .behind)
 
     module _ {o w2 o2 : List ℕ} {s2 : Step} (d2 : LowersRow t i f (count-of (fields t) i) w1 o (deeper p) s w2 o2 s2) where
-      at-end : Fine w2 (deeper p) s2 × Room w2 (deeper p) s2 0 2 0 × while-going (s2 .outcome) (s .pc ≤ s2 .pc) × while-going (s2 .outcome) (s2 .result < 255)
+      at-end : Fine w2 (deeper p) s2 × Space w2 (deeper p) s2 0 2 0 × while-going (outcome-of s2) (pc-of s ≤ pc-of s2) × while-going (outcome-of s2) (result-of s2 < 255)
       at-end =
           let y = stand 0 2 0 (from inner-ready ▹ d2 .does .moves) (omega arith) (omega arith) (omega arith) (omega arith) in
-          (y .fine, y .room, meanwhile (s2 .outcome) (s .pc ≤ s2 .pc) (λ e. d2 .does .moves .longer), d2 .small (g .3))
+          (y .fine, y .room, meanwhile (outcome-of s2) (pc-of s ≤ pc-of s2) (λ e. d2 .does .moves .longer), d2 .small (g .3))
 
-      module _ {w3 w4 : List ℕ} {s3 : Step} (d3 : Leaf w2 (deeper p) s2 w3 (deeper p) s3 (uses 2 0 0) (end-body (count-of (fields t) i - f) (s .pc) i)) (d4 : Popped w3 p w4) where
+      module _ {w3 w4 : List ℕ} {s3 : Step} (d3 : Leaf w2 (deeper p) s2 w3 (deeper p) s3 (uses 2 0 0) (end-body (count-of (fields t) i - f) (pc-of s) i)) (d4 : Popped w3 p w4) where
         lowers : LowersBody t i f w o p s w4 o2 s3
         lowers =
             let m = (from inner-ready ▹ d2 .does .moves ▹ d3 .moves) .moves in
@@ -58,7 +58,7 @@ module _ {t w : List ℕ} {p : Scope} {s : Step} {i f e d : ℕ} (g : AskBody t 
                   let a2 = next a1 (d2 .does) in
                   let a3 = next-leaf a2 d3 in
                   let a4 = next-left a3 (left-runs (m .fine) d4) in
-                  let h = rw (stmts-count (fields t) i f (count-of (fields t) i) (g .0 .ends)) at (rows (p .mode) (stmts-at (fields t) i f (count-of (fields t) i))) in
+                  let h = rw (stmts-count (fields t) i f (count-of (fields t) i) (g .0 .ends)) at (rows (mode-of p) (stmts-at (fields t) i f (count-of (fields t) i))) in
                   ends a4 (body-chain _ _ _ h _ _ (known _ _ _ ps) _ (a1 .runs) _ (a2 .runs) _ (a3 .runs) _ (a4 .runs));
             }
 

@@ -22,8 +22,8 @@ use Rattle.meaning.specs.Opcode.{binary-opcode, inst}
 use Rattle.meaning.specs.State.{next-register}
 use Rattle.store.proofs.Compose.{known}
 use Rattle.store.proofs.Runs.{due}
-use Rattle.store.specs.Promise.{Leaf, Room, a-register, uses}
-use Rattle.store.specs.Store.{Fine, while-going}
+use Rattle.store.specs.Promise.{Leaf, Space, a-register, uses}
+use Rattle.store.specs.Store.{outcome-of, result-of, Fine, while-going}
 use Rattle.store.specs.declared.Scope.{Scope}
 use Rattle.store.specs.declared.Step.{Step}
 use mathlib.Core.List.{List}
@@ -39,21 +39,21 @@ module _ {t w : List ℕ} {p : Scope} {s : Step} {i : ℕ} (g : GivenExpr t w p 
     right = let n = binary-size x in give-expr (from (g .ready) ▹ d1 .does .moves) (g .known) (x .right) (omega arith) (omega arith) (omega arith) (omega arith)
 
     module _ {w2 o2 : List ℕ} {s2 : Step} (d2 : LowersExpr t (word-of (fields t) i 3) w1 o1 p s1 w2 o2 s2) where
-      module _ {w3 : List ℕ} {s3 : Step} (d3 : Leaf w2 p s2 w3 p s3 a-register (fwd-number (next-register i)) × (s3 .result < 255)) where
-        at-emit : (op : ℕ) → op < 256 → Fine w3 p s3 × Room w3 p s3 0 2 0 × while-going (s3 .outcome) (Bytes op (s3 .result) (s1 .result) (s2 .result))
+      module _ {w3 : List ℕ} {s3 : Step} (d3 : Leaf w2 p s2 w3 p s3 a-register (fwd-number (next-register i)) × (result-of s3 < 255)) where
+        at-emit : (op : ℕ) → op < 256 → Fine w3 p s3 × Space w3 p s3 0 2 0 × while-going (outcome-of s3) (Bytes op (result-of s3) (result-of s1) (result-of s2))
         at-emit op h =
             let n = binary-size x in
             let y = stand 0 2 0 (from (g .ready) ▹ d1 .does .moves ▹ d2 .does .moves ▹ d3 .0 .moves) (omega arith) (omega arith) (omega arith) (omega arith) in (
               y .fine,
               y .room,
-              fits (s3 .outcome) op (s3 .result) (s1 .result) (s2 .result) λ e.
+              fits (outcome-of s3) op (result-of s3) (result-of s1) (result-of s2) λ e.
                   let e2 = d3 .0 .moves .back e in
-                  let v2 = due (s2 .outcome) (d2 .small) e2 in
-                  let v1 = due (s1 .outcome) (d1 .small) (d2 .does .moves .back e2) in
+                  let v2 = due (outcome-of s2) (d2 .small) e2 in
+                  let v1 = due (outcome-of s1) (d1 .small) (d2 .does .moves .back e2) in
                   (h, omega (arith, d3 .1), omega arith, omega arith),
             )
 
-        module _ {w4 : List ℕ} {s4 : Step} (d4 : Leaf w3 p s3 w4 p s4 (uses 2 0 0) (sure (emit (inst (binary-opcode (word-of (fields t) i 0)) (s3 .result) (s1 .result) (s2 .result) (word-of (fields t) i 1))))) where
+        module _ {w4 : List ℕ} {s4 : Step} (d4 : Leaf w3 p s3 w4 p s4 (uses 2 0 0) (sure (emit (inst (binary-opcode (word-of (fields t) i 0)) (result-of s3) (result-of s1) (result-of s2) (word-of (fields t) i 1))))) where
           lowers : LowersBoth t i w o p s w4 o2 s4
           lowers =
               arrive _ _ _ (from (g .ready) ▹ d1 .does .moves ▹ d2 .does .moves ▹ d3 .0 .moves ▹ d4 .moves) (omega (arith, binary-size x)) (omega arith) (omega arith) (λ z. refl) (omega arith)

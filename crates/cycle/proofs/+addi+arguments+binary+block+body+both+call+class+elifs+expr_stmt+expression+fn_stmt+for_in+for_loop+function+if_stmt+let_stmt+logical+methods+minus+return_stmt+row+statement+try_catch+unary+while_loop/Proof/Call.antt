@@ -23,8 +23,8 @@ use Rattle.meaning.specs.Lower.{lower-expr}
 use Rattle.routines.specs.Pieces.{Small}
 use Rattle.store.proofs.Compose.{known}
 use Rattle.store.proofs.Runs.{due}
-use Rattle.store.specs.Promise.{Leaf, Room, a-register, both, some-registers, uses}
-use Rattle.store.specs.Store.{Fine, while-going}
+use Rattle.store.specs.Promise.{Leaf, Space, a-register, both, some-registers, uses}
+use Rattle.store.specs.Store.{wide-of, outcome-of, result-of, Fine, while-going}
 use Rattle.store.specs.declared.Scope.{Scope}
 use Rattle.store.specs.declared.Step.{Step}
 use mathlib.Core.List.{List}
@@ -36,15 +36,15 @@ module _ {t w : List ℕ} {p : Scope} {s : Step} {i : ℕ} (g : GivenExpr t w p 
   callee = let n = call-size x in give-expr (from (g .ready)) (g .known) (x .callee) (omega arith) (omega arith) (omega arith) (omega arith)
 
   module _ {o w1 o1 : List ℕ} {s1 : Step} (d1 : LowersExpr t (word-of (fields t) i 0) w o p s w1 o1 s1) where
-    at-open : count-of (fields t) i - 2 < 65536 → Fine w1 p s1 × Room w1 p s1 0 2 0 × (count-of (fields t) i - 2 < 65536) × while-going (s1 .outcome) (s1 .result < 256)
+    at-open : count-of (fields t) i - 2 < 65536 → Fine w1 p s1 × Space w1 p s1 0 2 0 × (count-of (fields t) i - 2 < 65536) × while-going (outcome-of s1) (result-of s1 < 256)
     at-open h =
         let n = call-size x in
         let y = stand 0 2 0 (from (g .ready) ▹ d1 .does .moves) (omega arith) (omega arith) (omega arith) (omega arith) in
-        (y .fine, y .room, h, meanwhile (s1 .outcome) (s1 .result < 256) λ e. let v = due (s1 .outcome) (d1 .small) e in omega arith)
+        (y .fine, y .room, h, meanwhile (outcome-of s1) (result-of s1 < 256) λ e. let v = due (outcome-of s1) (d1 .small) e in omega arith)
 
     module _ {w2 : List ℕ} {s2 : Step} (d2 : Leaf w1 p s1 w2 p s2 (both (some-registers (2 + (count-of (fields t) i - 2 - 1))) (uses 2 0 0)) (open-call i (count-of (fields t) i - 2) (word-of (fields t) i 1)))
-        (h2 : while-going (s2 .outcome) (s2 .result + (count-of (fields t) i - 2) < 255)) where
-      given : Behind (fields t) i 2 (p .wide) → AskArguments t w2 p s2 i (s2 .result + 1)
+        (h2 : while-going (outcome-of s2) (result-of s2 + (count-of (fields t) i - 2) < 255)) where
+      given : Behind (fields t) i 2 (wide-of p) → AskArguments t w2 p s2 i (result-of s2 + 1)
       given b =
           let n = call-size x in (
             record {
@@ -55,22 +55,22 @@ module _ {t w : List ℕ} {p : Scope} {s : Step} {i : ℕ} (g : GivenExpr t w p 
               behind = b;
             },
             omega (arith, few-results (d2 .moves .fine)),
-            meanwhile (s2 .outcome) (s2 .result + 1 + (count-of (fields t) i - 2) ≤ 255) λ e. let v = due (s2 .outcome) h2 e in omega arith,
+            meanwhile (outcome-of s2) (result-of s2 + 1 + (count-of (fields t) i - 2) ≤ 255) λ e. let v = due (outcome-of s2) h2 e in omega arith,
           )
 
-      module _ {w3 o3 : List ℕ} {s3 : Step} (d3 : LowersArguments t i (s2 .result + 1) w2 o1 p s2 w3 o3 s3) where
-        at-end : Fine w3 p s3 × Room w3 p s3 0 2 0 × while-going (s3 .outcome) ((count-of (fields t) i - 2 < 255) × (s2 .result < 256))
+      module _ {w3 o3 : List ℕ} {s3 : Step} (d3 : LowersArguments t i (result-of s2 + 1) w2 o1 p s2 w3 o3 s3) where
+        at-end : Fine w3 p s3 × Space w3 p s3 0 2 0 × while-going (outcome-of s3) ((count-of (fields t) i - 2 < 255) × (result-of s2 < 256))
         at-end =
             let n = call-size x in
             let y = stand 0 2 0 (from (g .ready) ▹ d1 .does .moves ▹ d2 .moves ▹ d3 .does .moves) (omega arith) (omega arith) (omega arith) (omega arith) in (
               y .fine,
               y .room,
-              meanwhile (s3 .outcome) ((count-of (fields t) i - 2 < 255) × (s2 .result < 256)) λ e.
-                  let v = due (s2 .outcome) h2 (d3 .does .moves .back e) in
+              meanwhile (outcome-of s3) ((count-of (fields t) i - 2 < 255) × (result-of s2 < 256)) λ e.
+                  let v = due (outcome-of s2) h2 (d3 .does .moves .back e) in
                   (omega arith, omega arith),
             )
 
-        module _ {w4 : List ℕ} {s4 : Step} (d4 : Leaf w3 p s3 w4 p s4 (both a-register (uses 2 0 0)) (end-call i (count-of (fields t) i - 2) (s2 .result) (word-of (fields t) i 1))) (h4 : Small s4) where
+        module _ {w4 : List ℕ} {s4 : Step} (d4 : Leaf w3 p s3 w4 p s4 (both a-register (uses 2 0 0)) (end-call i (count-of (fields t) i - 2) (result-of s2) (word-of (fields t) i 1))) (h4 : Small s4) where
           lowers : UnderExpr t i w o p s w4 o3 s4
           unfolding lower-expr
           lowers =

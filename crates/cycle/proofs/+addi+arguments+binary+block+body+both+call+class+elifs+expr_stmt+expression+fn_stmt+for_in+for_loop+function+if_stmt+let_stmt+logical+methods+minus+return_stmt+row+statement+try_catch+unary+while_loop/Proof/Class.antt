@@ -32,8 +32,8 @@ use Rattle.store.proofs.Around.{block-around}
 use Rattle.store.proofs.Leaving.{left-runs}
 use Rattle.store.proofs.Compose.{known, leaf-after}
 use Rattle.store.proofs.Runs.{due}
-use Rattle.store.specs.Promise.{Leaf, Moves, Popped, Room, both, boxed, nothing, some-registers, takes, uses}
-use Rattle.store.specs.Store.{Fine, Kept, Sound, deeper, goes-on, while-going}
+use Rattle.store.specs.Promise.{Leaf, Moves, Popped, Space, both, boxed, nothing, some-registers, takes, uses}
+use Rattle.store.specs.Store.{nodes-of, depth-of, block-of, wide-of, outcome-of, result-of, Fine, Kept, Sound, deeper, goes-on, while-going}
 use Rattle.store.specs.declared.Scope.{Scope}
 use Rattle.store.specs.declared.Step.{Step}
 use lib.Dec.{lit<}
@@ -41,42 +41,42 @@ use mathlib.Core.List.{List}
 use mathlib.Core.Path.{_∙_}
 use native.Mathlib.Omega.{arith}
 
-module _ {t w : List ℕ} {p : Scope} {s : Step} {i : ℕ} (g : GivenStmt t w p s i) (x : Class (fields t) i) (deep : p .depth ≤ 7) where
-  at-open : Fine w p s × Room w p s 0 0 0 × (word-of (fields t) i 0 < 65536)
+module _ {t w : List ℕ} {p : Scope} {s : Step} {i : ℕ} (g : GivenStmt t w p s i) (x : Class (fields t) i) (deep : depth-of p ≤ 7) where
+  at-open : Fine w p s × Space w p s 0 0 0 × (word-of (fields t) i 0 < 65536)
   at-open = let y = stand 0 0 0 (from (g .ready)) (omega arith) (omega arith) (omega arith) (omega arith) in (y .fine, y .room, omega (arith, x .name))
 
   module _ {w1 : List ℕ} {s1 : Step}
-      (d1 : Leaf w p s w1 p s1 (both (some-registers 2) (uses 2 0 0)) (open-class i (token (word-of (fields t) i 0) (word-of (fields t) i 1))) × while-going (s1 .outcome) (s1 .result + 1 < 255)) where
+      (d1 : Leaf w p s w1 p s1 (both (some-registers 2) (uses 2 0 0)) (open-class i (token (word-of (fields t) i 0) (word-of (fields t) i 1))) × while-going (outcome-of s1) (result-of s1 + 1 < 255)) where
     at-super : OnNode t w1 p s1 (size-super (super-of t i)) i
     at-super = let n = class-size x in on-node (stand (size-super (super-of t i)) 0 0 (from (g .ready) ▹ d1 .0 .moves) (omega arith) (omega arith) (omega arith) (omega arith)) (g .known)
 
     module _ {w2 : List ℕ} {s2 : Step} (d2 : GivesSuper t w1 p s1 w2 s2 i) where
-      at-make : Fine w2 p s2 × Room w2 p s2 0 2 0 × while-going (s2 .outcome) ((s1 .result < 255) × (s2 .result < 256))
+      at-make : Fine w2 p s2 × Space w2 p s2 0 2 0 × while-going (outcome-of s2) ((result-of s1 < 255) × (result-of s2 < 256))
       at-make =
           let n = class-size x in
           let y = stand 0 2 0 (from (g .ready) ▹ d1 .0 .moves ▹ d2 .leaf .moves) (omega arith) (omega arith) (omega arith) (omega arith) in (
             y .fine,
             y .room,
-            meanwhile (s2 .outcome) ((s1 .result < 255) × (s2 .result < 256)) λ e.
-                let a = due (s1 .outcome) (d1 .1) (d2 .leaf .moves .back e) in
-                let b = due (s2 .outcome) (d2 .small) e in
+            meanwhile (outcome-of s2) ((result-of s1 < 255) × (result-of s2 < 256)) λ e.
+                let a = due (outcome-of s1) (d1 .1) (d2 .leaf .moves .back e) in
+                let b = due (outcome-of s2) (d2 .small) e in
                 (omega arith, omega arith),
           )
 
-      module _ {w3 : List ℕ} {s3 : Step} (d3 : Leaf w2 p s2 w3 p s3 (uses 2 0 0) (sure (make-class (s1 .result) (word-of (fields t) i 1)))) where
-        at-enter : Sound w3 p × (p .block < p .nodes + 10)
+      module _ {w3 : List ℕ} {s3 : Step} (d3 : Leaf w2 p s2 w3 p s3 (uses 2 0 0) (sure (make-class (result-of s1) (word-of (fields t) i 1)))) where
+        at-enter : Sound w3 p × (block-of p < nodes-of p + 10)
         at-enter = let n = class-size x in (d3 .moves .fine .sound, omega (arith, g .ready .blocks))
 
         -- the register stays a register
-        small-class : (s' : Step) → (goes-on (s' .outcome) → goes-on (s3 .outcome)) → while-going (s' .outcome) (s1 .result + 1 < 255)
-        small-class s' h = meanwhile (s' .outcome) (s1 .result + 1 < 255) λ e. due (s1 .outcome) (d1 .1) (d2 .leaf .moves .back (d3 .moves .back (h e)))
+        small-class : (s' : Step) → (goes-on (outcome-of s') → goes-on (outcome-of s3)) → while-going (outcome-of s') (result-of s1 + 1 < 255)
+        small-class s' h = meanwhile (outcome-of s') (result-of s1 + 1 < 255) λ e. due (outcome-of s1) (d1 .1) (d2 .leaf .moves .back (d3 .moves .back (h e)))
 
         module _ {w4 : List ℕ} (k4 : Kept w3 (deeper p) w4) (d4 : Leaf w3 p s3 w4 (deeper p) s3 nothing (fwd-unit enter-block)) where
           -- the methods and the static methods, in the block
           inside-block : Ready t w4 (deeper p) s3 (size-funs (funs-at (fields t) i 4 (4 + word-of (fields t) i 3)) + size-funs (funs-at (fields t) i (4 + word-of (fields t) i 3) (count-of (fields t) i))) 0 0
           inside-block = let n = class-size x in in-block (from (g .ready) ▹ d1 .0 .moves ▹ d2 .leaf .moves ▹ d3 .moves) (d4 .moves) (omega arith) (omega arith) (omega arith) (omega arith)
 
-          plain : Behind (fields t) i 2 (p .wide) → AskMethods t w4 (deeper p) s3 i 4 (4 + word-of (fields t) i 3) (p .wide) 32 (s1 .result)
+          plain : Behind (fields t) i 2 (wide-of p) → AskMethods t w4 (deeper p) s3 i 4 (4 + word-of (fields t) i 3) (wide-of p) 32 (result-of s1)
           plain b = (
             record { ready = stand (size-funs (funs-at (fields t) i 4 (4 + word-of (fields t) i 3))) 0 0 (from inside-block) (omega arith) (omega arith) (omega arith) (omega arith); known = g .known; ends = x .size; each = λ j a b. x .method j a (omega (arith, b, x .size)); behind = behind-later 4 (omega arith) b },
             deep,
@@ -85,8 +85,8 @@ module _ {t w : List ℕ} {p : Scope} {s : Step} {i : ℕ} (g : GivenStmt t w p 
             small-class s3 (λ e. e),
           )
 
-          module _ {o w5 o5 : List ℕ} {s5 : Step} (d5 : LowersMethods t i 4 (4 + word-of (fields t) i 3) (word-of (fields t) i 1) 32 (s1 .result) w4 o (deeper p) s3 w5 o5 s5) where
-            statics : Behind (fields t) i 2 (p .wide) → AskMethods t w5 (deeper p) s5 i (4 + word-of (fields t) i 3) (count-of (fields t) i) (p .wide) 33 (s1 .result)
+          module _ {o w5 o5 : List ℕ} {s5 : Step} (d5 : LowersMethods t i 4 (4 + word-of (fields t) i 3) (word-of (fields t) i 1) 32 (result-of s1) w4 o (deeper p) s3 w5 o5 s5) where
+            statics : Behind (fields t) i 2 (wide-of p) → AskMethods t w5 (deeper p) s5 i (4 + word-of (fields t) i 3) (count-of (fields t) i) (wide-of p) 33 (result-of s1)
             statics b = (
               record { ready = stand (size-funs (funs-at (fields t) i (4 + word-of (fields t) i 3) (count-of (fields t) i))) 0 0 (from inside-block ▹ d5 .does .moves) (omega arith) (omega arith) (omega arith) (omega arith); known = g .known; ends = omega arith; each = λ j a b. x .method j (omega arith) b; behind = behind-later (4 + word-of (fields t) i 3) (omega arith) b },
               deep,
@@ -95,17 +95,17 @@ module _ {t w : List ℕ} {p : Scope} {s : Step} {i : ℕ} (g : GivenStmt t w p 
               small-class s5 (λ e. d5 .does .moves .back e),
             )
 
-            module _ {w6 o6 : List ℕ} {s6 : Step} (d6 : LowersMethods t i (4 + word-of (fields t) i 3) (count-of (fields t) i) (word-of (fields t) i 1) 33 (s1 .result) w5 o5 (deeper p) s5 w6 o6 s6) {w7 : List ℕ} (d7 : Popped w6 p w7) where
+            module _ {w6 o6 : List ℕ} {s6 : Step} (d6 : LowersMethods t i (4 + word-of (fields t) i 3) (count-of (fields t) i) (word-of (fields t) i 1) 33 (result-of s1) w5 o5 (deeper p) s5 w6 o6 s6) {w7 : List ℕ} (d7 : Popped w6 p w7) where
               around : Moves w3 p s3 w7 p s6 (boxed (both (both nothing (takes (8 * size-funs (funs-at (fields t) i 4 (4 + word-of (fields t) i 3))) (size-funs (funs-at (fields t) i 4 (4 + word-of (fields t) i 3))) (visits-funs (funs-at (fields t) i 4 (4 + word-of (fields t) i 3))))) (takes (8 * size-funs (funs-at (fields t) i (4 + word-of (fields t) i 3) (count-of (fields t) i))) (size-funs (funs-at (fields t) i (4 + word-of (fields t) i 3) (count-of (fields t) i))) (visits-funs (funs-at (fields t) i (4 + word-of (fields t) i 3) (count-of (fields t) i))))))
               around = block-around (d3 .moves .fine) k4 (d4 .moves) ((from inside-block ▹ d5 .does .moves ▹ d6 .does .moves) .moves) d7
 
-              at-end : Fine w7 p s6 × Room w7 p s6 0 2 1 × (word-of (fields t) i 0 < 65536) × while-going (s6 .outcome) (s1 .result < 255)
+              at-end : Fine w7 p s6 × Space w7 p s6 0 2 1 × (word-of (fields t) i 0 < 65536) × while-going (outcome-of s6) (result-of s1 < 255)
               at-end =
                   let n = class-size x in
                   let y = stand 0 2 1 (from (g .ready) ▹ d1 .0 .moves ▹ d2 .leaf .moves ▹ d3 .moves ▹ around) (omega arith) (omega arith) (omega arith) (omega arith) in
-                  (y .fine, y .room, omega (arith, x .name), meanwhile (s6 .outcome) (s1 .result < 255) λ e. let a = due (s1 .outcome) (d1 .1) (d2 .leaf .moves .back (d3 .moves .back (around .back e))) in omega arith)
+                  (y .fine, y .room, omega (arith, x .name), meanwhile (outcome-of s6) (result-of s1 < 255) λ e. let a = due (outcome-of s1) (d1 .1) (d2 .leaf .moves .back (d3 .moves .back (around .back e))) in omega arith)
 
-              module _ {w8 : List ℕ} {s8 : Step} (d8 : Leaf w7 p s6 w8 p s8 (uses 2 1 0) (end-class i (token (word-of (fields t) i 0) (word-of (fields t) i 1)) (s1 .result)) × Small s8) where
+              module _ {w8 : List ℕ} {s8 : Step} (d8 : Leaf w7 p s6 w8 p s8 (uses 2 1 0) (end-class i (token (word-of (fields t) i 0) (word-of (fields t) i 1)) (result-of s1)) × Small s8) where
                 lowers : UnderStmt t i w o p s w8 o6 s8
                 unfolding lower-expr
                 lowers =

@@ -33,8 +33,8 @@ use Rattle.meaning.specs.Opcode.{no-mark}
 use Rattle.meaning.specs.Weight.{size-elifs, size-expr, size-stmts}
 use Rattle.store.proofs.Compose.{known, settled}
 use Rattle.store.proofs.Runs.{due}
-use Rattle.store.specs.Promise.{Leaf, Room, Ticked, takes, uses}
-use Rattle.store.specs.Store.{Fine, while-going, with-result}
+use Rattle.store.specs.Promise.{Leaf, Space, Ticked, takes, uses}
+use Rattle.store.specs.Store.{nodes-of, mode-of, outcome-of, pc-of, result-of, Fine, while-going, with-result}
 use Rattle.store.specs.declared.Scope.{Scope}
 use Rattle.store.specs.declared.Step.{Step}
 use lib.Dec.{lit<}
@@ -49,7 +49,7 @@ pub record Branching (t w0 o0 : List ℕ) (p : Scope) (s0 : Step) (i from to : �
   pub size : done + size-elifs (elif-row (fields t) i k to) ≡ size-elifs (elif-row (fields t) i from to)
   pub seen : ℕ
   pub count : seen + visits-elifs (elif-row (fields t) i k to) ≡ visits-elifs (elif-row (fields t) i from to)
-  pub turning : Turning w0 o0 p s0 w o s (takes (8 * done) done seen) (fwd-code (lower-elifs (p .mode) (elif-row (fields t) i from to))) (fwd-code (lower-elifs (p .mode) (elif-row (fields t) i k to)))
+  pub turning : Turning w0 o0 p s0 w o s (takes (8 * done) done seen) (fwd-code (lower-elifs (mode-of p) (elif-row (fields t) i from to))) (fwd-code (lower-elifs (mode-of p) (elif-row (fields t) i k to)))
 
 module _ {t w0 : List ℕ} {p : Scope} {s0 : Step} {i f g d : ℕ} (r : AskElifs t w0 p s0 i f g d) where
   start : {o0 : List ℕ} → Branching t w0 o0 p s0 i f g w0 o0 s0 f
@@ -63,7 +63,7 @@ module _ {t w0 : List ℕ} {p : Scope} {s0 : Step} {i f g d : ℕ} (r : AskElifs
       below : TagBelow (fields t) 0x1A i (word-of (fields t) i k)
       below = r .each k (v .low) h
 
-      known-elif : word-of (fields t) i k < p .nodes
+      known-elif : word-of (fields t) i k < nodes-of p
       known-elif = omega (arith, r .known, below .below)
 
       elif : Elif (fields t) (word-of (fields t) i k)
@@ -79,30 +79,30 @@ module _ {t w0 : List ℕ} {p : Scope} {s0 : Step} {i f g d : ℕ} (r : AskElifs
       condition = let n = sizes in give-expr (from here) known-elif (elif .condition) (omega arith) (omega arith) (omega arith) (omega arith)
 
       module _ {w1 o1 : List ℕ} {s1 : Step} (d1 : LowersExpr t (word-of (fields t) (word-of (fields t) i k) 0) w o p s w1 o1 s1) where
-        at-test : Fine w1 p s1 × Room w1 p s1 0 4 0 × while-going (s1 .outcome) ((s1 .result < 256) × (0 < 256))
+        at-test : Fine w1 p s1 × Space w1 p s1 0 4 0 × while-going (outcome-of s1) ((result-of s1 < 256) × (0 < 256))
         at-test =
             let n = sizes in
             let y = stand 0 4 0 (from here ▹ d1 .does .moves) (omega arith) (omega arith) (omega arith) (omega arith) in
-            (y .fine, y .room, meanwhile (s1 .outcome) ((s1 .result < 256) × (0 < 256)) λ e. let a = due (s1 .outcome) (d1 .small) e in (omega arith, omega arith))
+            (y .fine, y .room, meanwhile (outcome-of s1) ((result-of s1 < 256) × (0 < 256)) λ e. let a = due (outcome-of s1) (d1 .small) e in (omega arith, omega arith))
 
         module _ {w2 : List ℕ} {s2 : Step} (d2 : Leaf w1 p s1 w2 p s2 (uses 4 0 0) (sure (test-and-jump 0 no-mark))) where
           thens : AskRow t w2 p s2 (word-of (fields t) i k) 1 (count-of (fields t) (word-of (fields t) i k)) 0
           thens = let n = sizes in give-row (from here ▹ d1 .does .moves ▹ d2 .moves) known-elif 1 _ (omega arith) (elif .each) (omega arith) (omega arith) (omega arith) (omega arith) (behind-later 1 (omega arith) (stands))
 
           module _ {w3 o3 : List ℕ} {s3 : Step} (d3 : LowersRow t (word-of (fields t) i k) 1 (count-of (fields t) (word-of (fields t) i k)) w2 o1 p s2 w3 o3 s3) where
-            at-end : Fine w3 p s3 × Room w3 p s3 0 2 0 × while-going (s3 .outcome) (s1 .pc + 2 ≤ s3 .pc)
+            at-end : Fine w3 p s3 × Space w3 p s3 0 2 0 × while-going (outcome-of s3) (pc-of s1 + 2 ≤ pc-of s3)
             unfolding test-and-jump
             at-end =
                 let n = sizes in
                 let y = stand 0 2 0 (from here ▹ d1 .does .moves ▹ d2 .moves ▹ d3 .does .moves) (omega arith) (omega arith) (omega arith) (omega arith) in (
                   y .fine,
                   y .room,
-                  meanwhile (s3 .outcome) (s1 .pc + 2 ≤ s3 .pc) λ e.
+                  meanwhile (outcome-of s3) (pc-of s1 + 2 ≤ pc-of s3) λ e.
                       let l = adds d2 2 (λ c. twice (c .code) _ _) (d3 .does .moves .back e) in
                       omega (arith, d3 .does .moves .longer),
                 )
 
-            turn : {w4 w5 : List ℕ} {s4 : Step} → Leaf w3 p s3 w4 p s4 (uses 2 0 0) (sure (end-branch (s1 .pc) no-mark)) → Ticked w4 w5 → Branching t w0 o0 p s0 i f g w5 o3 s4 (k + 1)
+            turn : {w4 w5 : List ℕ} {s4 : Step} → Leaf w3 p s3 w4 p s4 (uses 2 0 0) (sure (end-branch (pc-of s1) no-mark)) → Ticked w4 w5 → Branching t w0 o0 p s0 i f g w5 o3 s4 (k + 1)
             unfolding lower-expr
             turn d4 d5 =
                 let n = sizes in

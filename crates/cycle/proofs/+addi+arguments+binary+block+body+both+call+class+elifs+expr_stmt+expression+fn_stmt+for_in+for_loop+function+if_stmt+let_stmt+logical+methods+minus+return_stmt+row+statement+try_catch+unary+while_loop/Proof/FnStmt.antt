@@ -32,8 +32,8 @@ use Rattle.store.proofs.Compose.{known, leaf-after, moves-then}
 use Rattle.store.proofs.Inside.{leavable}
 use Rattle.store.proofs.Runs.{due}
 use Rattle.store.specs.Opening.{Enters, Leavable}
-use Rattle.store.specs.Promise.{Cost, Leaf, Room, a-register, both, some-registers, uses}
-use Rattle.store.specs.Store.{Fine, inner, run, while-going}
+use Rattle.store.specs.Promise.{Cost, Leaf, Space, a-register, both, some-registers, uses}
+use Rattle.store.specs.Store.{nodes-of, depth-of, block-of, wide-of, outcome-of, pc-of, result-of, Fine, inner, run, while-going}
 use Rattle.store.specs.declared.Scope.{Scope}
 use Rattle.store.specs.declared.Step.{Step}
 use mathlib.Core.List.{List}
@@ -45,21 +45,21 @@ use Rattle.meaning.specs.Grammar.{wide-marks}
 use Rattle.nodes.specs.Nodes.{Width}
 
 -- the parameters as the node's
-opened : (t : List ℕ) (i n : ℕ) (x : Token) {payload w w' : List ℕ} {q : Scope} {s s' : Step} {u : Cost} → Width t (q .wide) → payload ≡ field-at (fields t) i .payload
+opened : (t : List ℕ) (i n : ℕ) (x : Token) {payload w w' : List ℕ} {q : Scope} {s s' : Step} {u : Cost} → Width t (wide-of q) → payload ≡ field-at (fields t) i .payload
     → tokens-at (fields t) i 3 (3 + 2 * n) ≡ pairs-in (wide-marks (fields t)) (file-words (fields t) i) (3 + extra (wide-marks (fields t))) n
-    → Leaf w q s w' q s' u (open-fun i x (tokens-from q payload (3 + q .wide) n)) × Small s' → Leaf w q s w' q s' u (open-fun i x (tokens-at (fields t) i 3 (3 + 2 * n))) × Small s'
-opened t i n x {payload} {q = q} v e k d = rw (tokens-same t q i payload (3 + q .wide) (3 + extra (wide-marks (fields t))) n v e (ap (λ m. 3 + m) v) ∙ sym k) at d
+    → Leaf w q s w' q s' u (open-fun i x (tokens-from q payload (3 + wide-of q) n)) × Small s' → Leaf w q s w' q s' u (open-fun i x (tokens-at (fields t) i 3 (3 + 2 * n))) × Small s'
+opened t i n x {payload} {q = q} v e k d = rw (tokens-same t q i payload (3 + wide-of q) (3 + extra (wide-marks (fields t))) n v e (ap (λ m. 3 + m) v) ∙ sym k) at d
 
 -- the body's statements stand behind the marks of the function and its parameters
-body-behind : {t w : List ℕ} {p : Scope} {s : Step} {a b c i k : ℕ} (n : ℕ) → Ready t w p s a b c → Behind (fields t) i k (extra (wide-marks (fields t)) + cond (wide-marks (fields t)) n 0) → Behind (fields t) i k (p .wide + n * p .wide)
+body-behind : {t w : List ℕ} {p : Scope} {s : Step} {a b c i k : ℕ} (n : ℕ) → Ready t w p s a b c → Behind (fields t) i k (extra (wide-marks (fields t)) + cond (wide-marks (fields t)) n 0) → Behind (fields t) i k (wide-of p + n * wide-of p)
 body-behind {t = t} n r b = rw (r .width, ← (more-is (wide-marks (fields t)) n)) b
 
 module _ {t w : List ℕ} {p : Scope} {s : Step} {i : ℕ} (g : AskFun t w p s i) (x : Define (fields t) i) where
-  at-declare : Fine w p s × Room w p s 0 0 0 × (word-of (fields t) i 0 < 65536)
+  at-declare : Fine w p s × Space w p s 0 0 0 × (word-of (fields t) i 0 < 65536)
   at-declare = let y = stand 0 0 0 (from (g .0 .ready)) (omega arith) (omega arith) (omega arith) (omega arith) in (y .fine, y .room, omega (arith, x .name))
 
   module _ {w1 : List ℕ} {s1 : Step} (d1 : Leaf w p s w1 p s1 (both a-register (a-name p)) (declare i (token (word-of (fields t) i 0) (word-of (fields t) i 1))) × Small s1) where
-    at-enter : Fine w1 p s1 × (p .depth ≤ 7) × (p .block < p .nodes + 10) × (word-of (fields t) i 0 < 65536)
+    at-enter : Fine w1 p s1 × (depth-of p ≤ 7) × (block-of p < nodes-of p + 10) × (word-of (fields t) i 0 < 65536)
     at-enter = (d1 .0 .moves .fine, g .2, omega (arith, g .0 .ready .blocks, g .2), omega (arith, x .name))
 
     module _ {w2 : List ℕ} {s2 : Step} (d2 : Enters w1 p s1 w2 s2 i (word-of (fields t) i 0)) where
@@ -78,18 +78,18 @@ module _ {t w : List ℕ} {p : Scope} {s : Step} {i : ℕ} (g : AskFun t w p s i
             (record { ready = y; known = g .0 .known; ends = omega arith; each = x .body; behind = b }, omega (arith, g .0 .ready .blocks), x .size, d3 .1, refl)
 
         module _ {o w4 o4 : List ℕ} {s4 : Step} (d4 : LowersBody t i (3 + 2 * word-of (fields t) i 2) w3 o (inner p) s3 w4 o4 s4) where
-          at-end : Fine w4 (inner p) s4 × Leavable w4 p × Owing w4 p (cut-step s4 (s1 .pc)) 4 1 (2 - (p .depth + p .block)) × while-going (s4 .outcome) ((s1 .pc ≤ s4 .pc) × (s1 .result < 255))
+          at-end : Fine w4 (inner p) s4 × Leavable w4 p × Owing w4 p (cut-step s4 (pc-of s1)) 4 1 (2 - (depth-of p + block-of p)) × while-going (outcome-of s4) ((pc-of s1 ≤ pc-of s4) × (result-of s1 < 255))
           at-end =
               let n = fun-size x in
               let m1 = d1 .0 .moves in
               let m = moves-then refl (omega arith) (omega arith) (d3 .0 .moves) (d4 .moves) in (
                 d4 .moves .fine,
                 leavable (m1 .fine) d2 m,
-                cut-owing m1 d2 m (omega arith) 4 1 (2 - (p .depth + p .block)) (g .0 .ready) (omega arith) (omega arith) (omega arith),
-                meanwhile (s4 .outcome) ((s1 .pc ≤ s4 .pc) × (s1 .result < 255)) λ e. (begun m1 d2 m (omega arith), due (s1 .outcome) (d1 .1) (d2 .leaf .moves .back (m .back e))),
+                cut-owing m1 d2 m (omega arith) 4 1 (2 - (depth-of p + block-of p)) (g .0 .ready) (omega arith) (omega arith) (omega arith),
+                meanwhile (outcome-of s4) ((pc-of s1 ≤ pc-of s4) × (result-of s1 < 255)) λ e. (begun m1 d2 m (omega arith), due (outcome-of s1) (d1 .1) (d2 .leaf .moves .back (m .back e))),
               )
 
-          module _ {w5 o5 : List ℕ} {s5 : Step} (d5 : Ends (s1 .pc) w4 o4 p s4 w5 o5 s5 (both (uses 4 1 0) (a-name-back p)) (end-fun (s1 .pc) i (token (word-of (fields t) i 0) (word-of (fields t) i 1)) (word-of (fields t) i 2) (s1 .result)) × Small s5) where
+          module _ {w5 o5 : List ℕ} {s5 : Step} (d5 : Ends (pc-of s1) w4 o4 p s4 w5 o5 s5 (both (uses 4 1 0) (a-name-back p)) (end-fun (pc-of s1) i (token (word-of (fields t) i 0) (word-of (fields t) i 1)) (word-of (fields t) i 2) (result-of s1)) × Small s5) where
             lowers : LowersFun t i w o p s w5 o5 s5
             unfolding lower-expr
             lowers =
@@ -100,7 +100,7 @@ module _ {t w : List ℕ} {p : Scope} {s : Step} {i : ℕ} (g : AskFun t w p s i
                 let a3 = next-leaf a2 (d3 .0) in
                 let a4 = next a3 d4 in
                 let a5 = d5 .0 .does (a4 .protos) (a4 .image) in
-                let e = ap (λ k. bind (run w4 (inner p) s4 (a4 .protos)) (end-fun (s1 .pc) i (token (word-of (fields t) i 0) (word-of (fields t) i 1)) k (s1 .result))) (sym (parameters-at (fields t) i 3 (word-of (fields t) i 2) (x .size))) in
+                let e = ap (λ k. bind (run w4 (inner p) s4 (a4 .protos)) (end-fun (pc-of s1) i (token (word-of (fields t) i 0) (word-of (fields t) i 1)) k (result-of s1))) (sym (parameters-at (fields t) i 3 (word-of (fields t) i 2) (x .size))) in
                 ends a5 (rw (x .is-fun) (fun-chain _ _ _ _ _ _ (a1 .runs) _ (known _ _ _ (a1 .protos)) _ (a2 .runs) _ (a3 .runs) _ (a4 .runs) _ (a5 .runs ∙ e)))
 
 -- what each function that is called asks and promises; a member of the cycle at a smaller measure

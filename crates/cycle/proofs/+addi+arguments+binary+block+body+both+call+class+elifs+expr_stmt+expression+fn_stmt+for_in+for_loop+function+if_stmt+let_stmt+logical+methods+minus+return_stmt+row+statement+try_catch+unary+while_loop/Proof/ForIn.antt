@@ -31,8 +31,8 @@ use Rattle.routines.specs.Pieces.{HasPairs, tokens-from}
 use Rattle.store.proofs.Around.{loop-around, loop-entered, loop-left}
 use Rattle.store.proofs.Compose.{known, leaf-after}
 use Rattle.store.proofs.Runs.{due}
-use Rattle.store.specs.Promise.{Leaf, Room, both, some-registers, uses}
-use Rattle.store.specs.Store.{Fine, looped, while-going}
+use Rattle.store.specs.Promise.{Leaf, Space, both, some-registers, uses}
+use Rattle.store.specs.Store.{nodes-of, loops-of, mode-of, wide-of, outcome-of, pc-of, result-of, Fine, looped, while-going}
 use Rattle.store.specs.declared.Scope.{Scope}
 use Rattle.store.specs.declared.Step.{Step}
 use lib.Dec.{lit<}
@@ -66,28 +66,28 @@ Stands t i =
 
 -- the pairs of the payload are the node's names
 all-names : {t w : List ℕ} {q : Scope} {s : Step} {a b c : ℕ} (i : ℕ) (payload : List ℕ) → Ready t w q s a b c → payload ≡ field-at (fields t) i .payload → Stands t i
-    → tokens-from q payload (3 + q .wide) ((count-of (fields t) i - 3) / 2) ≡ tokens-at (fields t) i 3 (count-of (fields t) i)
+    → tokens-from q payload (3 + wide-of q) ((count-of (fields t) i - 3) / 2) ≡ tokens-at (fields t) i 3 (count-of (fields t) i)
 all-names {t = t} {q = q} i payload r e k =
-    tokens-same t q i payload (3 + q .wide) (3 + extra (wide-marks (fields t))) ((count-of (fields t) i - 3) / 2) (r .width) e (ap (λ m. 3 + m) (r .width)) ∙ sym (k .0)
+    tokens-same t q i payload (3 + wide-of q) (3 + extra (wide-marks (fields t))) ((count-of (fields t) i - 3) / 2) (r .width) e (ap (λ m. 3 + m) (r .width)) ∙ sym (k .0)
 
 -- and all of them are there
-all-there : {t w : List ℕ} {q : Scope} {s : Step} {a b c : ℕ} (i : ℕ) (payload : List ℕ) → Ready t w q s a b c → payload ≡ field-at (fields t) i .payload → Stands t i → HasPairs q payload (3 + q .wide) ((count-of (fields t) i - 3) / 2)
-all-there {t = t} {q = q} i payload r e k = has-pairs t q i payload (3 + q .wide) (3 + extra (wide-marks (fields t))) ((count-of (fields t) i - 3) / 2) (r .width) e (ap (λ m. 3 + m) (r .width)) (omega (arith, k .1))
+all-there : {t w : List ℕ} {q : Scope} {s : Step} {a b c : ℕ} (i : ℕ) (payload : List ℕ) → Ready t w q s a b c → payload ≡ field-at (fields t) i .payload → Stands t i → HasPairs q payload (3 + wide-of q) ((count-of (fields t) i - 3) / 2)
+all-there {t = t} {q = q} i payload r e k = has-pairs t q i payload (3 + wide-of q) (3 + extra (wide-marks (fields t))) ((count-of (fields t) i - 3) / 2) (r .width) e (ap (λ m. 3 + m) (r .width)) (omega (arith, k .1))
 
 module _ {t w : List ℕ} {p : Scope} {s : Step} {i : ℕ} (g : GivenStmt t w p s i) (x : ForIn (fields t) i) where
-  at-open : Fine w p s × Room w p s 0 0 0
+  at-open : Fine w p s × Space w p s 0 0 0
   at-open = let y = stand 0 0 0 (from (g .ready)) (omega arith) (omega arith) (omega arith) (omega arith) in (y .fine, y .room)
 
-  open-loops : p .loops < p .nodes + 10
+  open-loops : loops-of p < nodes-of p + 10
   open-loops = let n = for-in-size x in omega (arith, g .ready .loops)
 
-  module _ {w1 : List ℕ} {s1 : Step} (d1 : Leaf w p s w1 p s1 (both (some-registers 4) (uses 2 0 0)) (open-for-in i (word-of (fields t) i 0))) (h1 : while-going (s1 .outcome) (s1 .result + 3 < 255)) where
+  module _ {w1 : List ℕ} {s1 : Step} (d1 : Leaf w p s w1 p s1 (both (some-registers 4) (uses 2 0 0)) (open-for-in i (word-of (fields t) i 0))) (h1 : while-going (outcome-of s1) (result-of s1 + 3 < 255)) where
     collection : AskExpr t w1 p s1 (word-of (fields t) i 1)
     collection = let n = for-in-size x in give-expr (from (g .ready) ▹ d1 .moves) (g .known) (x .collection) (omega arith) (omega arith) (omega arith) (omega arith)
 
     module _ {o w2 o2 : List ℕ} {s2 : Step} (d2 : LowersExpr t (word-of (fields t) i 1) w1 o p s1 w2 o2 s2) where
-      at-head : {payload : List ℕ} → HasPairs p payload (3 + p .wide) ((count-of (fields t) i - 3) / 2) → (count-of (fields t) i - 3) / 2 < 65536
-          → Fine w2 p s2 × Room w2 p s2 0 11 1 × (1 ≤ (count-of (fields t) i - 3) / 2) × HasPairs p payload (3 + p .wide) ((count-of (fields t) i - 3) / 2) × ((count-of (fields t) i - 3) / 2 < 65536) × while-going (s2 .outcome) ((s1 .result + 3 < 255) × (s2 .result < 256))
+      at-head : {payload : List ℕ} → HasPairs p payload (3 + wide-of p) ((count-of (fields t) i - 3) / 2) → (count-of (fields t) i - 3) / 2 < 65536
+          → Fine w2 p s2 × Space w2 p s2 0 11 1 × (1 ≤ (count-of (fields t) i - 3) / 2) × HasPairs p payload (3 + wide-of p) ((count-of (fields t) i - 3) / 2) × ((count-of (fields t) i - 3) / 2 < 65536) × while-going (outcome-of s2) ((result-of s1 + 3 < 255) × (result-of s2 < 256))
       at-head there few =
           let n = for-in-size x in
           let y = stand 0 11 1 (from (g .ready) ▹ d1 .moves ▹ d2 .does .moves) (omega arith) (omega arith) (omega arith) (omega arith) in (
@@ -96,35 +96,35 @@ module _ {t w : List ℕ} {p : Scope} {s : Step} {i : ℕ} (g : GivenStmt t w p 
             omega (arith, x .size),
             there,
             few,
-            meanwhile (s2 .outcome) ((s1 .result + 3 < 255) × (s2 .result < 256)) λ a.
-                let v1 = due (s1 .outcome) h1 (d2 .does .moves .back a) in
-                let v2 = due (s2 .outcome) (d2 .small) a in
+            meanwhile (outcome-of s2) ((result-of s1 + 3 < 255) × (result-of s2 < 256)) λ a.
+                let v1 = due (outcome-of s1) h1 (d2 .does .moves .back a) in
+                let v2 = due (outcome-of s2) (d2 .small) a in
                 (v1, omega arith),
           )
 
-      module _ {w3 : List ℕ} {s3 : Step} (d3 : Leaf w2 p s2 w3 p s3 (uses 11 1 0) (head-for-in i (tokens-at (fields t) i 3 (count-of (fields t) i)) (s1 .result) (word-of (fields t) i 0))) where
+      module _ {w3 : List ℕ} {s3 : Step} (d3 : Leaf w2 p s2 w3 p s3 (uses 11 1 0) (head-for-in i (tokens-at (fields t) i 3 (count-of (fields t) i)) (result-of s1) (word-of (fields t) i 0))) where
         body : AskStmt t w3 (looped p) s3 (word-of (fields t) i 2)
         body = let n = for-in-size x in give-looped (from (g .ready) ▹ d1 .moves ▹ d2 .does .moves ▹ d3 .moves) (g .known) (x .body) (omega arith) (omega arith) (omega arith) (omega arith)
 
         module _ {w4 o4 : List ℕ} {s4 : Step} (d4 : LowersStmt t (word-of (fields t) i 2) w3 o2 (looped p) s3 w4 o4 s4) where
-          at-end : Fine w4 p s4 × Room w4 p s4 0 4 0 × while-going (s4 .outcome) ((s .pc ≤ s4 .pc) × (s2 .pc + 4 ≤ s4 .pc) × (s1 .result < 256))
+          at-end : Fine w4 p s4 × Space w4 p s4 0 4 0 × while-going (outcome-of s4) ((pc-of s ≤ pc-of s4) × (pc-of s2 + 4 ≤ pc-of s4) × (result-of s1 < 256))
           at-end =
               let n = for-in-size x in
               let m4 = loop-around p (d3 .moves .fine) (d4 .does .moves) in
               let y = stand 0 4 0 (from (g .ready) ▹ d1 .moves ▹ d2 .does .moves ▹ d3 .moves ▹ m4) (omega arith) (omega arith) (omega arith) (omega arith) in (
                 y .fine,
                 y .room,
-                meanwhile (s4 .outcome) ((s .pc ≤ s4 .pc) × (s2 .pc + 4 ≤ s4 .pc) × (s1 .result < 256)) λ e.
+                meanwhile (outcome-of s4) ((pc-of s ≤ pc-of s4) × (pc-of s2 + 4 ≤ pc-of s4) × (result-of s1 < 256)) λ e.
                     let e3 = m4 .back e in
-                    let v1 = due (s1 .outcome) h1 (d2 .does .moves .back (d3 .moves .back e3)) in
-                    let l = due (s3 .outcome) (leaf-known (λ n v n' v'. n + 4 ≤ n') d3 (head-longer _ _ _ _)) e3 in
+                    let v1 = due (outcome-of s1) h1 (d2 .does .moves .back (d3 .moves .back e3)) in
+                    let l = due (outcome-of s3) (leaf-known (λ n v n' v'. n + 4 ≤ n') d3 (head-longer _ _ _ _)) e3 in
                     let l1 = d1 .moves .longer in
                     let l2 = d2 .does .moves .longer in
                     let l4 = m4 .longer in
                     (omega arith, omega arith, omega arith),
               )
 
-          module _ {w5 : List ℕ} {s5 : Step} (d5 : Leaf w4 p s4 w5 p s5 (uses 4 0 0) (sure (end-for-in (p .mode) (s .pc) (s2 .pc) (s1 .result) (word-of (fields t) i 0)))) where
+          module _ {w5 : List ℕ} {s5 : Step} (d5 : Leaf w4 p s4 w5 p s5 (uses 4 0 0) (sure (end-for-in (mode-of p) (pc-of s) (pc-of s2) (result-of s1) (word-of (fields t) i 0)))) where
             lowers : UnderStmt t i w o p s w5 o4 s5
             unfolding lower-expr end-for-in end-loop
             lowers =
@@ -140,7 +140,7 @@ module _ {t w : List ℕ} {p : Scope} {s : Step} {i : ℕ} (g : GivenStmt t w p 
                 let a6 = next-leaf a5 (loop-left p (d4 .does .moves .fine)) in
                 let a7 = next-leaf a6 d5 in
                 ends a7 (rw (x .is)
-                (for-in-chain (p .mode) _ _ _ _ _ _ _ (known _ _ _ ps) _ (a1 .runs) _ (known _ _ _ (a1 .protos)) _ (a2 .runs) _ (known _ _ _ (a2 .protos)) _ (a3 .runs) _ (a4 .runs) _ (a5 .runs) _ (a6 .runs) _ (a7 .runs)))
+                (for-in-chain (mode-of p) _ _ _ _ _ _ _ (known _ _ _ ps) _ (a1 .runs) _ (known _ _ _ (a1 .protos)) _ (a2 .runs) _ (known _ _ _ (a2 .protos)) _ (a3 .runs) _ (a4 .runs) _ (a5 .runs) _ (a6 .runs) _ (a7 .runs)))
 
 -- what each function that is called asks and promises; a member of the cycle at a smaller measure
 abbrev pub claims : ℕ → lts.Claims

@@ -29,8 +29,8 @@ use Rattle.meaning.specs.Weight.{size-expr, size-stmt, size-stmts}
 use Rattle.store.proofs.Around.{loop-around, loop-entered, loop-left}
 use Rattle.store.proofs.Compose.{known}
 use Rattle.store.proofs.Runs.{due}
-use Rattle.store.specs.Promise.{Leaf, Room, uses}
-use Rattle.store.specs.Store.{Fine, looped, while-going}
+use Rattle.store.specs.Promise.{Leaf, Space, uses}
+use Rattle.store.specs.Store.{nodes-of, loops-of, mode-of, outcome-of, pc-of, result-of, Fine, looped, while-going}
 use Rattle.store.specs.declared.Scope.{Scope}
 use Rattle.store.specs.declared.Step.{Step}
 use borrow.Author.Tests.{eqb-false, eqb-true}
@@ -69,7 +69,7 @@ module _ {t w : List ℕ} {p : Scope} {s : Step} {i : ℕ} (g : GivenStmt t w p 
       let n = for-size-of x in
       give-row (from (g .ready)) (g .known) 1 (until (fields t) i) (omega (arith, ends-by x (absent (word-of (fields t) i 1)), x .size)) (initializer-each x _ refl) (omega arith) (omega arith) (omega arith) (omega arith) b
 
-  open-loops : p .loops < p .nodes + 10
+  open-loops : loops-of p < nodes-of p + 10
   open-loops = let n = for-size x in omega (arith, g .ready .loops)
 
   module _ {o w1 o1 : List ℕ} {s1 : Step} (d1 : LowersRow t i 1 (until (fields t) i) w o p s w1 o1 s1) where
@@ -77,11 +77,11 @@ module _ {t w : List ℕ} {p : Scope} {s : Step} {i : ℕ} (g : GivenStmt t w p 
     condition = let n = for-size-of x in give-expr (from (g .ready) ▹ d1 .does .moves) (g .known) (x .condition) (omega arith) (omega arith) (omega arith) (omega arith)
 
     module _ {w2 o2 : List ℕ} {s2 : Step} (d2 : LowersExpr t (word-of (fields t) i 2) w1 o1 p s1 w2 o2 s2) where
-      at-test : Fine w2 p s2 × Room w2 p s2 0 4 0 × while-going (s2 .outcome) ((s2 .result < 256) × (0 < 256))
+      at-test : Fine w2 p s2 × Space w2 p s2 0 4 0 × while-going (outcome-of s2) ((result-of s2 < 256) × (0 < 256))
       at-test =
           let n = for-size-of x in
           let y = stand 0 4 0 (from (g .ready) ▹ d1 .does .moves ▹ d2 .does .moves) (omega arith) (omega arith) (omega arith) (omega arith) in
-          (y .fine, y .room, meanwhile (s2 .outcome) ((s2 .result < 256) × (0 < 256)) λ e. let v = due (s2 .outcome) (d2 .small) e in (omega arith, omega arith))
+          (y .fine, y .room, meanwhile (outcome-of s2) ((result-of s2 < 256) × (0 < 256)) λ e. let v = due (outcome-of s2) (d2 .small) e in (omega arith, omega arith))
 
       module _ {w3 : List ℕ} {s3 : Step} (d3 : Leaf w2 p s2 w3 p s3 (uses 4 0 0) (sure (test-and-jump 0 (word-of (fields t) i 0)))) where
         body : AskStmt t w3 (looped p) s3 (word-of (fields t) i 4)
@@ -94,7 +94,7 @@ module _ {t w : List ℕ} {p : Scope} {s : Step} {i : ℕ} (g : GivenStmt t w p 
               give-expr (from (g .ready) ▹ d1 .does .moves ▹ d2 .does .moves ▹ d3 .moves ▹ loop-around p (d3 .moves .fine) (d4 .does .moves)) (g .known) (x .increment) (omega arith) (omega arith) (omega arith) (omega arith)
 
           module _ {w5 o5 : List ℕ} {s5 : Step} (d5 : LowersExpr t (word-of (fields t) i 3) w4 o4 p s4 w5 o5 s5) where
-            at-end : Fine w5 p s5 × Room w5 p s5 0 2 0 × while-going (s5 .outcome) ((s .pc ≤ s5 .pc) × (s1 .pc ≤ s5 .pc) × (s2 .pc + 2 ≤ s5 .pc) × (0 < 256) × (s .pc ≤ s4 .pc))
+            at-end : Fine w5 p s5 × Space w5 p s5 0 2 0 × while-going (outcome-of s5) ((pc-of s ≤ pc-of s5) × (pc-of s1 ≤ pc-of s5) × (pc-of s2 + 2 ≤ pc-of s5) × (0 < 256) × (pc-of s ≤ pc-of s4))
             unfolding test-and-jump
             at-end =
                 let n = for-size-of x in
@@ -102,7 +102,7 @@ module _ {t w : List ℕ} {p : Scope} {s : Step} {i : ℕ} (g : GivenStmt t w p 
                 let y = stand 0 2 0 (from (g .ready) ▹ d1 .does .moves ▹ d2 .does .moves ▹ d3 .moves ▹ m4 ▹ d5 .does .moves) (omega arith) (omega arith) (omega arith) (omega arith) in (
                   y .fine,
                   y .room,
-                  meanwhile (s5 .outcome) ((s .pc ≤ s5 .pc) × (s1 .pc ≤ s5 .pc) × (s2 .pc + 2 ≤ s5 .pc) × (0 < 256) × (s .pc ≤ s4 .pc)) λ e.
+                  meanwhile (outcome-of s5) ((pc-of s ≤ pc-of s5) × (pc-of s1 ≤ pc-of s5) × (pc-of s2 + 2 ≤ pc-of s5) × (0 < 256) × (pc-of s ≤ pc-of s4)) λ e.
                       let l = adds d3 2 (λ c. twice (c .code) _ _) (m4 .back (d5 .does .moves .back e)) in
                       let l1 = d1 .does .moves .longer in
                       let l2 = d2 .does .moves .longer in
@@ -111,7 +111,7 @@ module _ {t w : List ℕ} {p : Scope} {s : Step} {i : ℕ} (g : GivenStmt t w p 
                       (omega arith, omega arith, omega arith, omega arith, omega arith),
                 )
 
-            module _ {w6 : List ℕ} {s6 : Step} (d6 : Leaf w5 p s5 w6 p s6 (uses 2 0 0) (sure (end-loop (p .mode) (s .pc) (s4 .pc) (s1 .pc) (s2 .pc) 0 (word-of (fields t) i 0)))) where
+            module _ {w6 : List ℕ} {s6 : Step} (d6 : Leaf w5 p s5 w6 p s6 (uses 2 0 0) (sure (end-loop (mode-of p) (pc-of s) (pc-of s4) (pc-of s1) (pc-of s2) 0 (word-of (fields t) i 0)))) where
               lowers : UnderStmt t i w o p s w6 o5 s6
               unfolding lower-expr end-loop
               lowers =
@@ -128,7 +128,7 @@ module _ {t w : List ℕ} {p : Scope} {s : Step} {i : ℕ} (g : GivenStmt t w p 
                   let a7 = next a6 (d5 .does) in
                   let a8 = next-leaf a7 d6 in
                   ends a8 (rw (x .is, initializer-is x _ refl)
-                  (for-chain (p .mode) _ _ _ _ _ _ _ _ (known _ _ _ ps) _ (a1 .runs) _ (known _ _ _ (a1 .protos)) _ (a2 .runs) _ (known _ _ _ (a2 .protos)) _ (a3 .runs) _ (a4 .runs) _ (a5 .runs) _ (a6 .runs) _ (known _ _ _ (a6 .protos)) _ (a7 .runs) _ (a8 .runs)))
+                  (for-chain (mode-of p) _ _ _ _ _ _ _ _ (known _ _ _ ps) _ (a1 .runs) _ (known _ _ _ (a1 .protos)) _ (a2 .runs) _ (known _ _ _ (a2 .protos)) _ (a3 .runs) _ (a4 .runs) _ (a5 .runs) _ (a6 .runs) _ (known _ _ _ (a6 .protos)) _ (a7 .runs) _ (a8 .runs)))
 
 -- what each function that is called asks and promises; a member of the cycle at a smaller measure
 abbrev pub claims : ℕ → lts.Claims

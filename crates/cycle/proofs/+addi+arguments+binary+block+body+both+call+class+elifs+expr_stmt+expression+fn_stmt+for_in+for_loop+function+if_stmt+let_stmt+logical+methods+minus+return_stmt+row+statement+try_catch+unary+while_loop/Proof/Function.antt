@@ -32,8 +32,8 @@ use Rattle.routines.specs.Pieces.{Small, tokens-from}
 use Rattle.store.proofs.Compose.{known, leaf-after, moves-then}
 use Rattle.store.proofs.Inside.{leavable}
 use Rattle.store.specs.Opening.{Enters, Leavable}
-use Rattle.store.specs.Promise.{Cost, Leaf, Room, a-register, both, some-registers, uses}
-use Rattle.store.specs.Store.{Fine, inner, run, while-going}
+use Rattle.store.specs.Promise.{Cost, Leaf, Space, a-register, both, some-registers, uses}
+use Rattle.store.specs.Store.{nodes-of, depth-of, block-of, wide-of, outcome-of, pc-of, result-of, Fine, inner, run, while-going}
 use Rattle.store.specs.declared.Scope.{Scope}
 use Rattle.store.specs.declared.Step.{Step}
 use lib.Dec.{lit<}
@@ -47,17 +47,17 @@ use Rattle.meaning.specs.Grammar.{wide-marks}
 abbrev Tokens : List ℕ → (i n : ℕ) → Type 0
 Tokens t i n = tokens-at (fields t) i 1 (1 + 2 * n) ≡ pairs-in (wide-marks (fields t)) (file-words (fields t) i) 1 n
 
-opened : (t : List ℕ) (i n : ℕ) {payload w w' : List ℕ} {q : Scope} {s s' : Step} {u : Cost} → Width t (q .wide) → payload ≡ field-at (fields t) i .payload → Tokens t i n
+opened : (t : List ℕ) (i n : ℕ) {payload w w' : List ℕ} {q : Scope} {s s' : Step} {u : Cost} → Width t (wide-of q) → payload ≡ field-at (fields t) i .payload → Tokens t i n
     → Leaf w q s w' q s' u (open-function i (tokens-from q payload 1 n)) × Small s' → Leaf w q s w' q s' u (open-function i (tokens-at (fields t) i 1 (1 + 2 * n))) × Small s'
 opened t i n {payload} {q = q} v e k d = rw (tokens-same t q i payload 1 1 n v e refl ∙ sym k) at d
 
 -- the body's statements stand behind the marks of the parameters
-body-behind : {t w : List ℕ} {p : Scope} {s : Step} {a b c i k : ℕ} (n : ℕ) → Ready t w p s a b c → Behind (fields t) i k (cond (wide-marks (fields t)) n 0) → Behind (fields t) i k (n * p .wide)
+body-behind : {t w : List ℕ} {p : Scope} {s : Step} {a b c i k : ℕ} (n : ℕ) → Ready t w p s a b c → Behind (fields t) i k (cond (wide-marks (fields t)) n 0) → Behind (fields t) i k (n * wide-of p)
 body-behind {t = t} n r b = rw (r .width, ← (more-is (wide-marks (fields t)) n)) b
 
-module _ {t w : List ℕ} {p : Scope} {s : Step} {i : ℕ} (g : GivenExpr t w p s i) (x : Function (fields t) i) (deep : p .depth ≤ 7) where
-  module _ {w1 : List ℕ} {s1 : Step} (d1 : Leaf w p s w1 p s1 a-register (fwd-number (next-register i)) × (s1 .result < 255)) where
-    at-enter : Fine w1 p s1 × (p .depth ≤ 7) × (p .block < p .nodes + 10) × (65535 < 65536)
+module _ {t w : List ℕ} {p : Scope} {s : Step} {i : ℕ} (g : GivenExpr t w p s i) (x : Function (fields t) i) (deep : depth-of p ≤ 7) where
+  module _ {w1 : List ℕ} {s1 : Step} (d1 : Leaf w p s w1 p s1 a-register (fwd-number (next-register i)) × (result-of s1 < 255)) where
+    at-enter : Fine w1 p s1 × (depth-of p ≤ 7) × (block-of p < nodes-of p + 10) × (65535 < 65536)
     at-enter = (d1 .0 .moves .fine, deep, omega (arith, g .ready .blocks), lit< tt)
 
     module _ {w2 : List ℕ} {s2 : Step} (d2 : Enters w1 p s1 w2 s2 i 65535) where
@@ -75,13 +75,13 @@ module _ {t w : List ℕ} {p : Scope} {s : Step} {i : ℕ} (g : GivenExpr t w p 
             (record { ready = y; known = g .known; ends = omega arith; each = x .body; behind = b }, omega (arith, g .ready .blocks), x .size, d3 .1, refl)
 
         module _ {o w4 o4 : List ℕ} {s4 : Step} (d4 : LowersBody t i (1 + 2 * word-of (fields t) i 0) w3 o (inner p) s3 w4 o4 s4) where
-          at-end : Fine w4 (inner p) s4 × Leavable w4 p × Room w4 p (cut-step s4 (s1 .pc)) 0 2 0 × while-going (s4 .outcome) ((s1 .pc ≤ s4 .pc) × (s1 .result < 255))
+          at-end : Fine w4 (inner p) s4 × Leavable w4 p × Space w4 p (cut-step s4 (pc-of s1)) 0 2 0 × while-going (outcome-of s4) ((pc-of s1 ≤ pc-of s4) × (result-of s1 < 255))
           at-end =
               let n = function-size x in
               let m = moves-then refl (omega arith) (omega arith) (d3 .0 .moves) (d4 .moves) in
-              (d4 .moves .fine, leavable (d1 .0 .moves .fine) d2 m, cut-room (d1 .0 .moves) d2 m (omega arith) 0 2 0 (g .ready) (omega arith) (omega arith) (omega arith), meanwhile (s4 .outcome) ((s1 .pc ≤ s4 .pc) × (s1 .result < 255)) λ e. (begun (d1 .0 .moves) d2 m (omega arith), d1 .1))
+              (d4 .moves .fine, leavable (d1 .0 .moves .fine) d2 m, cut-room (d1 .0 .moves) d2 m (omega arith) 0 2 0 (g .ready) (omega arith) (omega arith) (omega arith), meanwhile (outcome-of s4) ((pc-of s1 ≤ pc-of s4) × (result-of s1 < 255)) λ e. (begun (d1 .0 .moves) d2 m (omega arith), d1 .1))
 
-          module _ {w5 o5 : List ℕ} {s5 : Step} (d5 : Ends (s1 .pc) w4 o4 p s4 w5 o5 s5 (uses 2 0 0) (end-function (s1 .pc) i (word-of (fields t) i 0) (s1 .result) (first-mark (tokens-at (fields t) i 1 (1 + 2 * word-of (fields t) i 0)))) × Small s5) where
+          module _ {w5 o5 : List ℕ} {s5 : Step} (d5 : Ends (pc-of s1) w4 o4 p s4 w5 o5 s5 (uses 2 0 0) (end-function (pc-of s1) i (word-of (fields t) i 0) (result-of s1) (first-mark (tokens-at (fields t) i 1 (1 + 2 * word-of (fields t) i 0)))) × Small s5) where
             lowers : UnderExpr t i w o p s w5 o5 s5
             unfolding lower-expr
             lowers =
@@ -93,7 +93,7 @@ module _ {t w : List ℕ} {p : Scope} {s : Step} {i : ℕ} (g : GivenExpr t w p 
                 let a3 = next-leaf a2 (d3 .0) in
                 let a4 = next a3 d4 in
                 let a5 = d5 .0 .does (a4 .protos) (a4 .image) in
-                let e = ap (λ k. bind (run w4 (inner p) s4 (a4 .protos)) (end-function (s1 .pc) i k (s1 .result) (first-mark (tokens-at (fields t) i 1 (1 + 2 * word-of (fields t) i 0))))) (sym (parameters-at (fields t) i 1 (word-of (fields t) i 0) (x .size))) in
+                let e = ap (λ k. bind (run w4 (inner p) s4 (a4 .protos)) (end-function (pc-of s1) i k (result-of s1) (first-mark (tokens-at (fields t) i 1 (1 + 2 * word-of (fields t) i 0))))) (sym (parameters-at (fields t) i 1 (word-of (fields t) i 0) (x .size))) in
                 ends a5 (rw (x .is) (function-chain _ _ _ _ _ (a1 .runs) _ (known _ _ _ (a1 .protos)) _ (a2 .runs) _ (a3 .runs) _ (a4 .runs) _ (a5 .runs ∙ e)))
 
 -- what each function that is called asks and promises; a member of the cycle at a smaller measure

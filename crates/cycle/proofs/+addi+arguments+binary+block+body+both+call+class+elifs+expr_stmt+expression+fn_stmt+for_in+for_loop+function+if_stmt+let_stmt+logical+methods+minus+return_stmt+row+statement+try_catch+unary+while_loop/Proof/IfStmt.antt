@@ -23,8 +23,8 @@ use Rattle.meaning.specs.Fields.{fields}
 use Rattle.meaning.specs.Lower.{lower-expr}
 use Rattle.store.proofs.Compose.{known}
 use Rattle.store.proofs.Runs.{due}
-use Rattle.store.specs.Promise.{Leaf, Room, uses}
-use Rattle.store.specs.Store.{Fine, while-going}
+use Rattle.store.specs.Promise.{Leaf, Space, uses}
+use Rattle.store.specs.Store.{outcome-of, pc-of, result-of, Fine, while-going}
 use Rattle.store.specs.declared.Scope.{Scope}
 use Rattle.store.specs.declared.Step.{Step}
 use denote.Ref.{now}
@@ -38,30 +38,30 @@ module _ {t w : List ℕ} {p : Scope} {s : Step} {i n m : ℕ} (g : GivenStmt t 
   condition = let z = if-size x in give-expr (from (g .ready)) (g .known) (x .condition) (omega arith) (omega arith) (omega arith) (omega arith)
 
   module _ {o w1 o1 : List ℕ} {s1 : Step} (d1 : LowersExpr t (word-of (fields t) i 1) w o p s w1 o1 s1) where
-    at-test : Fine w1 p s1 × Room w1 p s1 0 4 0 × while-going (s1 .outcome) ((s1 .result < 256) × (0 < 256))
+    at-test : Fine w1 p s1 × Space w1 p s1 0 4 0 × while-going (outcome-of s1) ((result-of s1 < 256) × (0 < 256))
     at-test =
         let z = if-size x in
         let y = stand 0 4 0 (from (g .ready) ▹ d1 .does .moves) (omega arith) (omega arith) (omega arith) (omega arith) in
-        (y .fine, y .room, meanwhile (s1 .outcome) ((s1 .result < 256) × (0 < 256)) λ e. let v = due (s1 .outcome) (d1 .small) e in (omega arith, omega arith))
+        (y .fine, y .room, meanwhile (outcome-of s1) ((result-of s1 < 256) × (0 < 256)) λ e. let v = due (outcome-of s1) (d1 .small) e in (omega arith, omega arith))
 
     module _ {w2 : List ℕ} {s2 : Step} (d2 : Leaf w1 p s1 w2 p s2 (uses 4 0 0) (sure (test-and-jump 0 (word-of (fields t) i 0)))) where
       thens : {d : ℕ} → Behind (fields t) i 1 d → AskRow t w2 p s2 i 3 (3 + n) d
       thens b = let z = if-size x in give-row (from (g .ready) ▹ d1 .does .moves ▹ d2 .moves) (g .known) 3 (3 + n) (omega (arith, x .size)) (x .then-each) (omega arith) (omega arith) (omega arith) (omega arith) (behind-later 3 (omega arith) b)
 
       module _ {w3 o3 : List ℕ} {s3 : Step} (d3 : LowersRow t i 3 (3 + n) w2 o1 p s2 w3 o3 s3) where
-        at-branch : Fine w3 p s3 × Room w3 p s3 0 2 0 × while-going (s3 .outcome) (s1 .pc + 2 ≤ s3 .pc)
+        at-branch : Fine w3 p s3 × Space w3 p s3 0 2 0 × while-going (outcome-of s3) (pc-of s1 + 2 ≤ pc-of s3)
         unfolding test-and-jump
         at-branch =
             let z = if-size x in
             let y = stand 0 2 0 (from (g .ready) ▹ d1 .does .moves ▹ d2 .moves ▹ d3 .does .moves) (omega arith) (omega arith) (omega arith) (omega arith) in (
               y .fine,
               y .room,
-              meanwhile (s3 .outcome) (s1 .pc + 2 ≤ s3 .pc) λ e.
+              meanwhile (outcome-of s3) (pc-of s1 + 2 ≤ pc-of s3) λ e.
                   let l = adds d2 2 (λ c. twice (c .code) _ _) (d3 .does .moves .back e) in
                   omega (arith, d3 .does .moves .longer),
             )
 
-        module _ {w4 : List ℕ} {s4 : Step} (d4 : Leaf w3 p s3 w4 p s4 (uses 2 0 0) (sure (end-branch (s1 .pc) (word-of (fields t) i 0)))) where
+        module _ {w4 : List ℕ} {s4 : Step} (d4 : Leaf w3 p s3 w4 p s4 (uses 2 0 0) (sure (end-branch (pc-of s1) (word-of (fields t) i 0)))) where
           others : {d : ℕ} → Behind (fields t) i 1 d → AskElifs t w4 p s4 i (4 + n) (4 + n + m) d
           others b =
               let z = if-size x in
@@ -80,12 +80,12 @@ module _ {t w : List ℕ} {p : Scope} {s : Step} {i n m : ℕ} (g : GivenStmt t 
                 give-row (from (g .ready) ▹ d1 .does .moves ▹ d2 .moves ▹ d3 .does .moves ▹ d4 .moves ▹ d5 .does .moves) (g .known) (4 + n + m) _ (omega arith) (x .else-each) (omega arith) (omega arith) (omega arith) (omega arith) (behind-later (4 + n + m) (omega arith) b)
 
             module _ {w6 o6 : List ℕ} {s6 : Step} (d6 : LowersRow t i (4 + n + m) (count-of (fields t) i) w5 o5 p s5 w6 o6 s6) where
-              at-end : Fine w6 p s6 × while-going (s6 .outcome) (s .pc ≤ s6 .pc)
+              at-end : Fine w6 p s6 × while-going (outcome-of s6) (pc-of s ≤ pc-of s6)
               at-end =
                   let y = (from (g .ready) ▹ d1 .does .moves ▹ d2 .moves ▹ d3 .does .moves ▹ d4 .moves ▹ d5 .does .moves ▹ d6 .does .moves) .moves in
-                  (y .fine, meanwhile (s6 .outcome) (s .pc ≤ s6 .pc) λ e. y .longer)
+                  (y .fine, meanwhile (outcome-of s6) (pc-of s ≤ pc-of s6) λ e. y .longer)
 
-              module _ {w7 : List ℕ} {s7 : Step} (d7 : Leaf w6 p s6 w7 p s7 (uses 0 0 0) (sure (end-if (s .pc)))) where
+              module _ {w7 : List ℕ} {s7 : Step} (d7 : Leaf w6 p s6 w7 p s7 (uses 0 0 0) (sure (end-if (pc-of s)))) where
                 lowers : UnderStmt t i w o p s w7 o6 s7
                 unfolding lower-expr end-if
                 lowers =

@@ -3,7 +3,7 @@ use Prim.Native.Nat.{ℕ, _*_, _<_, _≤_}
 use Rattle.cycle.proofs.expression.Reads as expression
 use Rattle.cycle.proofs.let_stmt.Reads as let-stmt
 use Rattle.cycle.proofs.+addi+arguments+binary+block+body+both+call+class+elifs+expr_stmt+expression+fn_stmt+for_in+for_loop+function+if_stmt+let_stmt+logical+methods+minus+return_stmt+row+statement+try_catch+unary+while_loop.Lts-let_stmt as lts
-use Rattle.code.proofs.emit_wide.Reads as emit-wide-reads
+use Rattle.code.proofs.emit_bx.Reads as emit-bx-reads
 use Rattle.nodes.proofs.let_of.Reads as let-of-reads
 use Rattle.routines.proofs.let_only.Reads as let-only-reads
 use Rattle.routines.proofs.new_global.Reads as new-global-reads
@@ -22,7 +22,7 @@ use Rattle.meaning.proofs.Reading.{Let}
 use Rattle.meaning.specs.At.{count-of, word-of}
 use Rattle.meaning.specs.Fields.{Field, fields}
 use Rattle.meaning.specs.Lower.{lower-expr}
-use Rattle.meaning.specs.Opcode.{SetGlobal, wide}
+use Rattle.meaning.specs.Opcode.{SetGlobal, inst-bx}
 use Rattle.meaning.specs.Read.{token, words-at}
 use Rattle.meaning.specs.State.{allocate-register, is-global-context}
 use Rattle.meaning.specs.Statements.{new-global}
@@ -30,8 +30,8 @@ use Rattle.nodes.specs.Nodes.{word-or-absent}
 use Rattle.nodes.specs.declared.statements.Let as let-node
 use Rattle.store.proofs.Compose.{known, leaf-after}
 use Rattle.store.proofs.Runs.{due}
-use Rattle.store.specs.Promise.{Leaf, Room, Tells, a-local, nothing, uses}
-use Rattle.store.specs.Store.{Fine, global-scope, while-going}
+use Rattle.store.specs.Promise.{Leaf, Space, Tells, a-local, nothing, uses}
+use Rattle.store.specs.Store.{depth-of, block-of, outcome-of, result-of, Fine, global-scope, while-going}
 use Rattle.store.specs.declared.Scope.{Scope}
 use Rattle.store.specs.declared.Step.{Step}
 use borrow.Author.Tests.{eqb-true, le-ltb, lt-ltb}
@@ -43,8 +43,8 @@ use mathlib.Core.Path.{_∙_, _≡_, ap, refl, sym}
 use native.Mathlib.Omega.{arith}
 
 -- the only block is open where the context is global
-only-block : (p : Scope) → global-scope p ≡ true → p .block ≡ 1
-only-block p e = eqb-true (p .block) 1 (and-right (eqb (p .depth) 0) (eqb (p .block) 1) e)
+only-block : (p : Scope) → global-scope p ≡ true → block-of p ≡ 1
+only-block p e = eqb-true (block-of p) 1 (and-right (eqb (depth-of p) 0) (eqb (block-of p) 1) e)
 
 -- there are two words or three: the value is absent, or the third
 module _ {fs : List Field} {i : ℕ} (x : Let fs i) (v : ℕ) (e : v ≡ word-or-absent (words-at fs i) 2) where
@@ -66,13 +66,13 @@ module _ {t w : List ℕ} {p : Scope} {s : Step} {i : ℕ} (g : GivenStmt t w p 
 
   module _ {global : Bool} (tells : Tells w p s global is-global-context) where
     module _ {o w1 o1 : List ℕ} {s1 : Step} (local : global ≡ false) (d1 : LowersExpr t (word-of (fields t) i 2) w o p s w1 o1 s1) where
-      at-name : Fine w1 p s1 × Room w1 p s1 0 1 1 × (word-of (fields t) i 0 < 65536) × while-going (s1 .outcome) (s1 .result < 255)
+      at-name : Fine w1 p s1 × Space w1 p s1 0 1 1 × (word-of (fields t) i 0 < 65536) × while-going (outcome-of s1) (result-of s1 < 255)
       at-name =
           let n = let-as-size x three in
           let y = stand 0 1 1 (from (g .ready) ▹ d1 .does .moves) (omega arith) (omega arith) (omega arith) (omega arith) in
           (y .fine, y .room, omega (arith, x .name), d1 .small)
 
-      lowers-local : {w2 : List ℕ} → Leaf w1 p s1 w2 p s1 a-local (fwd-unit (allocate-register (word-of (fields t) i 0) (s1 .result))) → UnderStmt t i w o p s w2 o1 s1
+      lowers-local : {w2 : List ℕ} → Leaf w1 p s1 w2 p s1 a-local (fwd-unit (allocate-register (word-of (fields t) i 0) (result-of s1))) → UnderStmt t i w o p s w2 o1 s1
       unfolding lower-expr
       lowers-local d2 =
           let n = let-as-size x three in
@@ -87,13 +87,13 @@ module _ {t w : List ℕ} {p : Scope} {s : Step} {i : ℕ} (g : GivenStmt t w p 
       value-after = let n = let-as-size x three in give-expr (from (g .ready) ▹ d1 .moves) (g .known) (x .value three) (omega arith) (omega arith) (omega arith) (omega arith)
 
       module _ {o w2 o2 : List ℕ} {s2 : Step} (d2 : LowersExpr t (word-of (fields t) i 2) w1 o p s1 w2 o2 s2) where
-        at-emit : Fine w2 p s2 × Room w2 p s2 0 2 0 × while-going (s2 .outcome) ((45 < 256) × (s2 .result < 256))
+        at-emit : Fine w2 p s2 × Space w2 p s2 0 2 0 × while-going (outcome-of s2) ((45 < 256) × (result-of s2 < 256))
         at-emit =
             let n = let-as-size x three in
             let y = stand 0 2 0 (from (g .ready) ▹ d1 .moves ▹ d2 .does .moves) (omega arith) (omega arith) (omega arith) (omega arith) in
-            (y .fine, y .room, meanwhile (s2 .outcome) ((45 < 256) × (s2 .result < 256)) λ e. let v = due (s2 .outcome) (d2 .small) e in (omega arith, omega arith))
+            (y .fine, y .room, meanwhile (outcome-of s2) ((45 < 256) × (result-of s2 < 256)) λ e. let v = due (outcome-of s2) (d2 .small) e in (omega arith, omega arith))
 
-        lowers-global : {w3 : List ℕ} {s3 : Step} → Leaf w2 p s2 w3 p s3 (uses 2 0 0) (sure (emit (wide SetGlobal (s2 .result) (s1 .result) (word-of (fields t) i 1)))) → UnderStmt t i w o p s w3 o2 s3
+        lowers-global : {w3 : List ℕ} {s3 : Step} → Leaf w2 p s2 w3 p s3 (uses 2 0 0) (sure (emit (inst-bx SetGlobal (result-of s2) (result-of s1) (word-of (fields t) i 1)))) → UnderStmt t i w o p s w3 o2 s3
         unfolding lower-expr
         lowers-global d3 =
             let n = let-as-size x three in
@@ -105,7 +105,7 @@ module _ {t w : List ℕ} {p : Scope} {s : Step} {i : ℕ} (g : GivenStmt t w p 
 
 -- what each function that is called asks and promises; a member of the cycle at a smaller measure
 abbrev pub claims : ℕ → lts.Claims
-claims t = (let-of-reads.Asked, let-of-reads.Learnt, let-only-reads.Asked, let-only-reads.Learnt, is-global-context-reads.Asked, is-global-context-reads.Learnt, new-global-reads.Asked, new-global-reads.Learnt, expression-below t, expression.Post, emit-wide-reads.Asked, emit-wide-reads.Learnt, allocate-register-reads.Asked, allocate-register-reads.Learnt)
+claims t = (let-of-reads.Asked, let-of-reads.Learnt, let-only-reads.Asked, let-only-reads.Learnt, is-global-context-reads.Asked, is-global-context-reads.Learnt, new-global-reads.Asked, new-global-reads.Learnt, expression-below t, expression.Post, emit-bx-reads.Asked, emit-bx-reads.Learnt, allocate-register-reads.Asked, allocate-register-reads.Learnt)
 
 pub let-of-requires : (t : ℕ) → lts.Need-let-of-requires (claims t) (let-stmt-at t) let-stmt.Post
 let-of-requires t c κs = held ((c .before .before .before .before) .pre .1 .0 .ready) ((c .before .before .before .before) .pre .1 .0 .known) ((c .before .before .before .before) .pre .1 .1)
@@ -144,8 +144,8 @@ expression-requires t c κs =
     let e = (c .before .before .before .before .before .before .before .before .before .before .let-of) .ensures .0 in
     rw (e, the-value x three) (omega (arith, (c .before .before .before .before .before .before .before .before .before .before .before .before .before .before .before) .pre .0, x .value three .below), value-after g x three ((c .before .before .before .before .before .before .before .is-global-context) .ensures .1 _ _ (g .ready .fine .sound)) ((c .before .before .before .before .before .before .if2) .taken) (rw e at ((c .before .before .before .before .new-global) .ensures)))
 
-pub emit-wide-requires : (t : ℕ) → lts.Need-emit-wide-requires (claims t) (let-stmt-at t) let-stmt.Post
-emit-wide-requires t c κs =
+pub emit-bx-requires : (t : ℕ) → lts.Need-emit-bx-requires (claims t) (let-stmt-at t) let-stmt.Post
+emit-bx-requires t c κs =
     let g = (c .before .before .before .before .before .before .before .before .before .before .before .before .before .before .before .before .before .before .before .before .before) .pre .1 .0 in
     let x = a-let (g .ready .lawful) (g .known) ((c .before .before .before .before .before .before .before .before .before .before .before .before .before .before .before .before .before .before .before .before .before) .pre .1 .1) in
     let three = three-words x _ (ap (λ (y : let-node.Let). y .value) ((c .before .before .before .before .before .before .before .before .before .before .before .before .before .before .before .before .let-of) .ensures .0)) ((c .before .before .before .before .before .before .before .before .before .before .before .before .before .before .if1) .left) in
@@ -153,7 +153,7 @@ emit-wide-requires t c κs =
     at-emit g x three ((c .before .before .before .before .before .before .before .before .before .before .before .before .before .is-global-context) .ensures .1 _ _ (g .ready .fine .sound)) ((c .before .before .before .before .before .before .before .before .before .before .before .before .if2) .taken) (rw e at ((c .before .before .before .before .before .before .before .before .before .before .new-global) .ensures)) (rw (e, the-value x three) at ((c .before .before .before .before .before .expression) .ensures))
 
 pub same-length-2 : (t : ℕ) → lts.Need-same-length-2 (claims t) (let-stmt-at t) let-stmt.Post
-same-length-2 t c = (c .before .before .emit-wide) .ensures .moves .kept .same ∙ (c .before .before .before .before .before .before .before .before .expression) .ensures .does .moves .kept .same ∙ (c .before .before .before .before .before .before .before .before .before .before .before .before .before .new-global) .ensures .moves .kept .same
+same-length-2 t c = (c .before .before .emit-bx) .ensures .moves .kept .same ∙ (c .before .before .before .before .before .before .before .before .expression) .ensures .does .moves .kept .same ∙ (c .before .before .before .before .before .before .before .before .before .before .before .before .before .new-global) .ensures .moves .kept .same
 
 pub same-length-3 : (t : ℕ) → lts.Need-same-length-3 (claims t) (let-stmt-at t) let-stmt.Post
 same-length-3 t c = (c .before .before .before .before .before .before .before .before .expression) .ensures .does .same
@@ -164,7 +164,7 @@ returns-2 t c =
     let x = a-let (g .ready .lawful) (g .known) ((c .before .before .before .before .before .before .before .before .before .before .before .before .before .before .before .before .before .before .before .before .before .before .before .before) .pre .1 .1) in
     let three = three-words x _ (ap (λ (y : let-node.Let). y .value) ((c .before .before .before .before .before .before .before .before .before .before .before .before .before .before .before .before .before .before .before .let-of) .ensures .0)) ((c .before .before .before .before .before .before .before .before .before .before .before .before .before .before .before .before .before .if1) .left) in
     let e = (c .before .before .before .before .before .before .before .before .before .before .before .before .before .before .before .before .before .before .before .let-of) .ensures .0 in
-    lowers-global g x three ((c .before .before .before .before .before .before .before .before .before .before .before .before .before .before .before .before .is-global-context) .ensures .1 _ _ (g .ready .fine .sound)) ((c .before .before .before .before .before .before .before .before .before .before .before .before .before .before .before .if2) .taken) (rw e at ((c .before .before .before .before .before .before .before .before .before .before .before .before .before .new-global) .ensures)) (rw (e, the-value x three) at ((c .before .before .before .before .before .before .before .before .expression) .ensures)) (rw e at ((c .before .before .emit-wide) .ensures))
+    lowers-global g x three ((c .before .before .before .before .before .before .before .before .before .before .before .before .before .before .before .before .is-global-context) .ensures .1 _ _ (g .ready .fine .sound)) ((c .before .before .before .before .before .before .before .before .before .before .before .before .before .before .before .if2) .taken) (rw e at ((c .before .before .before .before .before .before .before .before .before .before .before .before .before .new-global) .ensures)) (rw (e, the-value x three) at ((c .before .before .before .before .before .before .before .before .expression) .ensures)) (rw e at ((c .before .before .emit-bx) .ensures))
 
 pub expression-requires-2 : (t : ℕ) → lts.Need-expression-requires-2 (claims t) (let-stmt-at t) let-stmt.Post
 expression-requires-2 t c κs =

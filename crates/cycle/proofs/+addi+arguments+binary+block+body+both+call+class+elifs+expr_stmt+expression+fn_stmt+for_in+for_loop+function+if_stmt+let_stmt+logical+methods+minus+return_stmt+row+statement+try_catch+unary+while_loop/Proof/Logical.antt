@@ -23,8 +23,8 @@ use Rattle.meaning.specs.Lower.{lower-expr}
 use Rattle.meaning.specs.Opcode.{or}
 use Rattle.store.proofs.Compose.{known}
 use Rattle.store.proofs.Runs.{due}
-use Rattle.store.specs.Promise.{Leaf, Room, uses}
-use Rattle.store.specs.Store.{Fine, while-going}
+use Rattle.store.specs.Promise.{Leaf, Space, uses}
+use Rattle.store.specs.Store.{outcome-of, pc-of, result-of, Fine, while-going}
 use Rattle.store.specs.declared.Scope.{Scope}
 use Rattle.store.specs.declared.Step.{Step}
 use lib.Dec.{eqb}
@@ -37,11 +37,11 @@ module _ {t w : List ℕ} {p : Scope} {s : Step} {i : ℕ} (g : GivenExpr t w p 
   left = let n = logical-size x in give-expr (from (g .ready)) (g .known) (x .left) (omega arith) (omega arith) (omega arith) (omega arith)
 
   module _ {o w1 o1 : List ℕ} {s1 : Step} (d1 : LowersExpr t (word-of (fields t) i 2) w o p s w1 o1 s1) where
-    at-test : (flag : ℕ) → flag < 256 → Fine w1 p s1 × Room w1 p s1 0 4 0 × while-going (s1 .outcome) ((s1 .result < 256) × (flag < 256))
+    at-test : (flag : ℕ) → flag < 256 → Fine w1 p s1 × Space w1 p s1 0 4 0 × while-going (outcome-of s1) ((result-of s1 < 256) × (flag < 256))
     at-test flag h =
         let n = logical-size x in
         let y = stand 0 4 0 (from (g .ready) ▹ d1 .does .moves) (omega arith) (omega arith) (omega arith) (omega arith) in
-        (y .fine, y .room, meanwhile (s1 .outcome) ((s1 .result < 256) × (flag < 256)) λ e. let v = due (s1 .outcome) (d1 .small) e in (omega arith, h))
+        (y .fine, y .room, meanwhile (outcome-of s1) ((result-of s1 < 256) × (flag < 256)) λ e. let v = due (outcome-of s1) (d1 .small) e in (omega arith, h))
 
     module _ {w2 : List ℕ} {s2 : Step} (d2 : Leaf w1 p s1 w2 p s2 (uses 4 0 0) (sure (test-and-jump (or-flag (eqb (word-of (fields t) i 0) or)) (word-of (fields t) i 1)))) where
       right : AskExpr t w2 p s2 (word-of (fields t) i 3)
@@ -50,27 +50,27 @@ module _ {t w : List ℕ} {p : Scope} {s : Step} {i : ℕ} (g : GivenExpr t w p 
           give-expr (from (g .ready) ▹ d1 .does .moves ▹ d2 .moves) (g .known) (x .right) (omega arith) (omega arith) (omega arith) (omega arith)
 
       module _ {w3 o3 : List ℕ} {s3 : Step} (d3 : LowersExpr t (word-of (fields t) i 3) w2 o1 p s2 w3 o3 s3) where
-        at-end : Fine w3 p s3 × Room w3 p s3 0 2 0 × while-going (s3 .outcome) ((s1 .pc + 2 ≤ s3 .pc) × (s1 .result < 256) × (s3 .result < 256))
+        at-end : Fine w3 p s3 × Space w3 p s3 0 2 0 × while-going (outcome-of s3) ((pc-of s1 + 2 ≤ pc-of s3) × (result-of s1 < 256) × (result-of s3 < 256))
         unfolding test-and-jump
         at-end =
             let n = logical-size x in
             let y = stand 0 2 0 (from (g .ready) ▹ d1 .does .moves ▹ d2 .moves ▹ d3 .does .moves) (omega arith) (omega arith) (omega arith) (omega arith) in (
               y .fine,
               y .room,
-              meanwhile (s3 .outcome) ((s1 .pc + 2 ≤ s3 .pc) × (s1 .result < 256) × (s3 .result < 256)) λ e.
+              meanwhile (outcome-of s3) ((pc-of s1 + 2 ≤ pc-of s3) × (result-of s1 < 256) × (result-of s3 < 256)) λ e.
                   let e2 = d3 .does .moves .back e in
-                  let v1 = due (s1 .outcome) (d1 .small) (d2 .moves .back e2) in
-                  let v3 = due (s3 .outcome) (d3 .small) e in
+                  let v1 = due (outcome-of s1) (d1 .small) (d2 .moves .back e2) in
+                  let v3 = due (outcome-of s3) (d3 .small) e in
                   let l = adds d2 2 (λ c. twice (c .code) _ _) e2 in
                   (omega (arith, d3 .does .moves .longer), omega arith, omega arith),
             )
 
-        module _ {w4 : List ℕ} {s4 : Step} (d4 : Leaf w3 p s3 w4 p s4 (uses 2 0 0) (sure (end-logical (s1 .pc) (s1 .result) (word-of (fields t) i 1)))) where
+        module _ {w4 : List ℕ} {s4 : Step} (d4 : Leaf w3 p s3 w4 p s4 (uses 2 0 0) (sure (end-logical (pc-of s1) (result-of s1) (word-of (fields t) i 1)))) where
           lowers : UnderExpr t i w o p s w4 o3 s4
           unfolding lower-expr end-logical
           lowers =
               arrive _ _ _ (from (g .ready) ▹ d1 .does .moves ▹ d2 .moves ▹ d3 .does .moves ▹ d4 .moves) (omega (arith, logical-size x)) (omega arith) (omega arith) (λ z. refl) (omega (arith, logical-visits x))
-              (d3 .does .same ∙ d1 .does .same) (sets d4 (s1 .result) (λ c. refl) (λ e. due (s1 .outcome) (d1 .small) (d2 .moves .back (d3 .does .moves .back (d4 .moves .back e))))) λ ps z.
+              (d3 .does .same ∙ d1 .does .same) (sets d4 (result-of s1) (λ c. refl) (λ e. due (outcome-of s1) (d1 .small) (d2 .moves .back (d3 .does .moves .back (d4 .moves .back e))))) λ ps z.
               let a1 = d1 .does .does ps z in
               let a2 = next-leaf a1 d2 in
               let a3 = next a2 (d3 .does) in

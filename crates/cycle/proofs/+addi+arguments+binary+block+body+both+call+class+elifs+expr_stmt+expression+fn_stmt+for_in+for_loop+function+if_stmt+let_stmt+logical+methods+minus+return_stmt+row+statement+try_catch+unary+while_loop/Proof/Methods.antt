@@ -29,8 +29,8 @@ use Rattle.meaning.specs.Lower.{fun-name, lower-expr, lower-methods}
 use Rattle.meaning.specs.Weight.{size-fun, size-funs}
 use Rattle.store.proofs.Compose.{settled}
 use Rattle.store.proofs.Runs.{due}
-use Rattle.store.specs.Promise.{Leaf, Room, Ticked, takes, uses}
-use Rattle.store.specs.Store.{Fine, while-going, with-result}
+use Rattle.store.specs.Promise.{Leaf, Space, Ticked, takes, uses}
+use Rattle.store.specs.Store.{mode-of, outcome-of, result-of, Fine, while-going, with-result}
 use Rattle.store.specs.declared.Scope.{Scope}
 use Rattle.store.specs.declared.Step.{Step}
 use lib.Dec.{lit<}
@@ -45,7 +45,7 @@ pub record Methoding (t w0 o0 : List ℕ) (p : Scope) (s0 : Step) (i from to mar
   pub size : done + size-funs (funs-at (fields t) i k to) ≡ size-funs (funs-at (fields t) i from to)
   pub seen : ℕ
   pub count : seen + visits-funs (funs-at (fields t) i k to) ≡ visits-funs (funs-at (fields t) i from to)
-  pub turning : Turning w0 o0 p s0 w o s (takes (8 * done) done seen) (fwd-code (lower-methods (p .mode) (funs-at (fields t) i from to) i mark op class (class + 1))) (fwd-code (lower-methods (p .mode) (funs-at (fields t) i k to) i mark op class (class + 1)))
+  pub turning : Turning w0 o0 p s0 w o s (takes (8 * done) done seen) (fwd-code (lower-methods (mode-of p) (funs-at (fields t) i from to) i mark op class (class + 1))) (fwd-code (lower-methods (mode-of p) (funs-at (fields t) i k to) i mark op class (class + 1)))
 
 module _ {t w0 : List ℕ} {p : Scope} {s0 : Step} {i f g skew op class : ℕ} (r : AskMethods t w0 p s0 i f g skew op class) (mark : ℕ) where
   start : {o0 : List ℕ} → Methoding t w0 o0 p s0 i f g mark op class w0 o0 s0 f
@@ -66,7 +66,7 @@ module _ {t w0 : List ℕ} {p : Scope} {s0 : Step} {i f g skew op class : ℕ} (
           (record { ready = stand (size-fun (fun-at (fields t) (word-of (fields t) i k))) 0 0 (from (r .0 .ready) ▹ v .turning .moves) (omega arith) (omega arith) (omega arith) (omega arith); known = omega (arith, r .0 .known, below .below) }, below .tag, r .1)
 
       module _ {w1 o1 : List ℕ} {s1 : Step} (d : LowersFun t (word-of (fields t) i k) w o p s w1 o1 s1) where
-        at-add : Fine w1 p s1 × Room w1 p s1 0 4 0 × while-going (s1 .outcome) ((op < 256) × (class < 256) × (class + 1 < 256) × (s1 .result < 256))
+        at-add : Fine w1 p s1 × Space w1 p s1 0 4 0 × while-going (outcome-of s1) ((op < 256) × (class < 256) × (class + 1 < 256) × (result-of s1 < 256))
         at-add =
             let n = funs-size (fields t) i k g h (r .0 .ends) in
             let l = fun-size defined in
@@ -74,9 +74,9 @@ module _ {t w0 : List ℕ} {p : Scope} {s0 : Step} {i f g skew op class : ℕ} (
             let y = stand 0 4 0 (from (r .0 .ready) ▹ v .turning .moves ▹ d .does .moves) (omega arith) (omega arith) (omega arith) (omega arith) in (
               y .fine,
               y .room,
-              meanwhile (s1 .outcome) ((op < 256) × (class < 256) × (class + 1 < 256) × (s1 .result < 256)) λ e.
-                  let b = due (s0 .outcome) (r .4) (v .turning .moves .back (d .does .moves .back e)) in
-                  let c = due (s1 .outcome) (d .small) e in
+              meanwhile (outcome-of s1) ((op < 256) × (class < 256) × (class + 1 < 256) × (result-of s1 < 256)) λ e.
+                  let b = due (outcome-of s0) (r .4) (v .turning .moves .back (d .does .moves .back e)) in
+                  let c = due (outcome-of s1) (d .small) e in
                   (r .2, omega arith, omega arith, omega arith),
             )
 

@@ -24,6 +24,7 @@ use Rattle.store.proofs.Compose.{known}
 use Rattle.store.specs.Promise.{Leaf, a-register, takes}
 use Rattle.store.specs.declared.Scope.{Scope}
 use Rattle.store.specs.declared.Step.{Step}
+use Rattle.store.specs.Store.{pc-of}
 use mathlib.Core.List.{List}
 use mathlib.Core.Path.{_∙_, refl}
 use native.Mathlib.Omega.{arith}
@@ -34,10 +35,10 @@ module _ {t w : List ℕ} {p : Scope} {s : Step} {i : ℕ} (g : GivenExpr t w p 
 
   module _ {o w1 o1 : List ℕ} {s1 : Step} (d1 : LowersExpr t (word-of (fields t) i 3) w o p s w1 o1 s1) where
     module _ {w2 : List ℕ} {s2 : Step} (d2 : Leaf w1 p s1 w2 p s2 a-register (fwd-number (next-register i))) where
-      longer : s .pc ≤ s2 .pc
+      longer : pc-of s ≤ pc-of s2
       longer = omega (arith, d1 .does .moves .longer, d2 .moves .longer)
 
-      module _ {s3 : Step} (d3 : Rolls s2 (s .pc) s3) where
+      module _ {s3 : Step} (d3 : Rolls s2 (pc-of s) s3) where
         -- nothing was used so far, but the right side was visited
         again : Way t w p s (size-expr (expr-at (fields t) i)) 0 0 w2 p s3 (takes 0 0 (0 + seen t i 3 + 0))
         again = rolled d3 refl (omega arith) (from (g .ready) ▹ d1 .does .moves ▹ d2 .moves)

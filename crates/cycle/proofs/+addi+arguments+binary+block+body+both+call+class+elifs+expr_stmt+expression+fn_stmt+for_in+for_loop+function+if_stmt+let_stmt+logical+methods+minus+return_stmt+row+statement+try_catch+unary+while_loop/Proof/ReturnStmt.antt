@@ -24,8 +24,8 @@ use Rattle.meaning.specs.Read.{words-at}
 use Rattle.meaning.specs.declared.Cause.the-variants.{Returned}
 use Rattle.nodes.specs.Nodes.{word-or-absent}
 use Rattle.nodes.specs.declared.statements.Return as return-node
-use Rattle.store.specs.Promise.{Leaf, Room, uses}
-use Rattle.store.specs.Store.{Fine, while-going}
+use Rattle.store.specs.Promise.{Leaf, Space, uses}
+use Rattle.store.specs.Store.{outcome-of, result-of, Fine, while-going}
 use Rattle.store.specs.declared.Scope.{Scope}
 use Rattle.store.specs.declared.Step.{Step}
 use borrow.Author.Tests.{le-ltb, lt-ltb}
@@ -63,7 +63,7 @@ module _ {t w : List ℕ} {p : Scope} {s : Step} {i : ℕ} (g : GivenStmt t w p 
   value = let n = return-size x two in give-expr (from (g .ready)) (g .known) (x .value two) (omega arith) (omega arith) (omega arith) (omega arith)
 
   module _ {o w1 o1 : List ℕ} {s1 : Step} (d1 : LowersExpr t (word-of (fields t) i 1) w o p s w1 o1 s1) where
-    at-end : Fine w1 p s1 × Room w1 p s1 0 2 0 × while-going (s1 .outcome) (s1 .result < 255)
+    at-end : Fine w1 p s1 × Space w1 p s1 0 2 0 × while-going (outcome-of s1) (result-of s1 < 255)
     at-end =
         let n = return-size x two in
         let y = stand 0 2 0 (from (g .ready) ▹ d1 .does .moves) (omega arith) (omega arith) (omega arith) (omega arith) in

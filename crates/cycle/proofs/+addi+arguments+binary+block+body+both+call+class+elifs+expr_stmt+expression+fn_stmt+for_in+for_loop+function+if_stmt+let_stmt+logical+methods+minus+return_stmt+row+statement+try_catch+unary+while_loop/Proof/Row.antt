@@ -24,6 +24,7 @@ use Rattle.routines.specs.Pieces.{Small}
 use Rattle.store.specs.Promise.{takes}
 use Rattle.store.specs.declared.Scope.{Scope}
 use Rattle.store.specs.declared.Step.{Step}
+use Rattle.store.specs.Store.{mode-of}
 use mathlib.Core.List.{List}
 use mathlib.Core.Path.{_∙_, _≡_}
 use native.Mathlib.Omega.{arith}
@@ -35,7 +36,7 @@ pub record Rowing (t w0 o0 : List ℕ) (p : Scope) (s0 : Step) (i from to : ℕ)
   pub size : done + size-stmts (stmts-at (fields t) i k to) ≡ size-stmts (stmts-at (fields t) i from to)
   pub seen : ℕ
   pub count : seen + visits-stmts (stmts-at (fields t) i k to) ≡ visits-stmts (stmts-at (fields t) i from to)
-  pub turning : Turning w0 o0 p s0 w o s (takes (8 * done) done seen) (fwd-row (lower-stmts (p .mode) (stmts-at (fields t) i from to))) (fwd-row (lower-stmts (p .mode) (stmts-at (fields t) i k to)))
+  pub turning : Turning w0 o0 p s0 w o s (takes (8 * done) done seen) (fwd-row (lower-stmts (mode-of p) (stmts-at (fields t) i from to))) (fwd-row (lower-stmts (mode-of p) (stmts-at (fields t) i k to)))
   pub small : Small s0 → Small s
 
 module _ {t w0 : List ℕ} {p : Scope} {s0 : Step} {i f g d : ℕ} (r : AskRow t w0 p s0 i f g d) where

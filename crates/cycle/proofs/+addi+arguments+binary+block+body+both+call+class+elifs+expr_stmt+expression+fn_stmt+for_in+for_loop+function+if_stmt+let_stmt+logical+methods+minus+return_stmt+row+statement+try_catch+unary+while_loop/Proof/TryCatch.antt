@@ -28,8 +28,8 @@ use Rattle.meaning.specs.Weight.{size-stmt}
 use Rattle.store.proofs.Around.{block-around}
 use Rattle.store.proofs.Leaving.{left-runs}
 use Rattle.store.proofs.Compose.{known, leaf-after}
-use Rattle.store.specs.Promise.{Leaf, Popped, Room, a-register, both, nothing, uses}
-use Rattle.store.specs.Store.{Fine, Kept, Sound, deeper, while-going}
+use Rattle.store.specs.Promise.{Leaf, Popped, Space, a-register, both, nothing, uses}
+use Rattle.store.specs.Store.{nodes-of, block-of, outcome-of, pc-of, Fine, Kept, Sound, deeper, while-going}
 use Rattle.store.specs.declared.Scope.{Scope}
 use Rattle.store.specs.declared.Step.{Step}
 use lib.Dec.{lit<}
@@ -38,7 +38,7 @@ use mathlib.Core.Path.{_∙_, refl}
 use native.Mathlib.Omega.{arith}
 
 module _ {t w : List ℕ} {p : Scope} {s : Step} {i : ℕ} (g : GivenStmt t w p s i) (x : Try (fields t) i) where
-  at-open : Fine w p s × Room w p s 0 2 0
+  at-open : Fine w p s × Space w p s 0 2 0
   at-open = let n = try-size x in let y = stand 0 2 0 (from (g .ready)) (omega arith) (omega arith) (omega arith) (omega arith) in (y .fine, y .room)
 
   module _ {w1 : List ℕ} {s1 : Step} (d1 : Leaf w p s w1 p s1 (uses 2 0 0) (sure open-try-body)) where
@@ -46,11 +46,11 @@ module _ {t w : List ℕ} {p : Scope} {s : Step} {i : ℕ} (g : GivenStmt t w p 
     body = let n = try-size x in give-stmt (from (g .ready) ▹ d1 .moves) (g .known) (x .body) (omega arith) (omega arith) (omega arith) (omega arith)
 
     module _ {o w2 o2 : List ℕ} {s2 : Step} (d2 : LowersStmt t (word-of (fields t) i 0) w1 o p s1 w2 o2 s2) where
-      at-body : Fine w2 p s2 × Room w2 p s2 0 4 0
+      at-body : Fine w2 p s2 × Space w2 p s2 0 4 0
       at-body = let n = try-size x in let y = stand 0 4 0 (from (g .ready) ▹ d1 .moves ▹ d2 .does .moves) (omega arith) (omega arith) (omega arith) (omega arith) in (y .fine, y .room)
 
       module _ {w3 : List ℕ} {s3 : Step} (d3 : Leaf w2 p s2 w3 p s3 (uses 4 0 0) (sure end-try-body)) where
-        at-enter : Sound w3 p × (p .block < p .nodes + 10)
+        at-enter : Sound w3 p × (block-of p < nodes-of p + 10)
         at-enter = let n = try-size x in (d3 .moves .fine .sound, omega (arith, g .ready .blocks, g .ready .fine .sound .deep))
 
         module _ {w4 : List ℕ} (k4 : Kept w3 (deeper p) w4) (d4 : Leaf w3 p s3 w4 (deeper p) s3 nothing (fwd-unit enter-block)) where
@@ -59,7 +59,7 @@ module _ {t w : List ℕ} {p : Scope} {s : Step} {i : ℕ} (g : GivenStmt t w p 
               let n = try-size x in
               stand-at _ 2 0 (to (deeper p) refl refl (omega arith) (omega arith) (from (g .ready) ▹ d1 .moves ▹ d2 .does .moves ▹ d3 .moves) (d4 .moves)) (omega arith) (omega arith) (omega arith) (omega (arith, g .ready .blocks)) (omega (arith, g .ready .loops))
 
-          at-catch : Fine w4 (deeper p) s3 × Room w4 (deeper p) s3 0 2 0 × (word-of (fields t) i 1 < 65536)
+          at-catch : Fine w4 (deeper p) s3 × Space w4 (deeper p) s3 0 2 0 × (word-of (fields t) i 1 < 65536)
           at-catch = let y = stand 0 2 0 (from inner-ready) (omega arith) (omega arith) (omega arith) (omega arith) in (y .fine, y .room, omega (arith, x .name))
 
           module _ {w5 : List ℕ} {s5 : Step} (d5 : Leaf w4 (deeper p) s3 w5 (deeper p) s5 (both a-register (uses 5 1 0)) (open-catch i (token (word-of (fields t) i 1) (word-of (fields t) i 2)))) where
@@ -68,17 +68,17 @@ module _ {t w : List ℕ} {p : Scope} {s : Step} {i : ℕ} (g : GivenStmt t w p 
 
             module _ {w6 o6 : List ℕ} {s6 : Step} (d6 : LowersStmt t (word-of (fields t) i 3) w5 o2 (deeper p) s5 w6 o6 s6) where
               module _ {w7 : List ℕ} (d7 : Popped w6 p w7) where
-                at-end : Fine w7 p s6 × while-going (s6 .outcome) ((s .pc ≤ s2 .pc) × (s2 .pc < s6 .pc))
+                at-end : Fine w7 p s6 × while-going (outcome-of s6) ((pc-of s ≤ pc-of s2) × (pc-of s2 < pc-of s6))
                 unfolding end-try-body
                 at-end =
                     let m7 = block-around (d3 .moves .fine) k4 (d4 .moves) ((from inner-ready ▹ d5 .moves ▹ d6 .does .moves) .moves) d7 in (
                       m7 .fine,
-                      meanwhile (s6 .outcome) ((s .pc ≤ s2 .pc) × (s2 .pc < s6 .pc)) λ e.
+                      meanwhile (outcome-of s6) ((pc-of s ≤ pc-of s2) × (pc-of s2 < pc-of s6)) λ e.
                           let l = adds d3 2 (λ c. twice (c .code) _ _) (m7 .back e) in
                           (omega (arith, d1 .moves .longer, d2 .does .moves .longer), omega (arith, m7 .longer)),
                     )
 
-                module _ {w8 : List ℕ} {s8 : Step} (d8 : Leaf w7 p s6 w8 p s8 (uses 0 0 0) (sure (end-try (s .pc) (s2 .pc)))) where
+                module _ {w8 : List ℕ} {s8 : Step} (d8 : Leaf w7 p s6 w8 p s8 (uses 0 0 0) (sure (end-try (pc-of s) (pc-of s2)))) where
                   lowers : UnderStmt t i w o p s w8 o6 s8
                   unfolding lower-expr end-try
                   lowers =

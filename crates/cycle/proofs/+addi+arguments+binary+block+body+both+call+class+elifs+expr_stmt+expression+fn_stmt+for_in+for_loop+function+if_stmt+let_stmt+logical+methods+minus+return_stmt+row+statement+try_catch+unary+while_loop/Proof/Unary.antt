@@ -22,8 +22,8 @@ use Rattle.meaning.specs.Lower.{lower-expr}
 use Rattle.meaning.specs.Opcode.{inst, unary-opcode}
 use Rattle.store.proofs.Compose.{known}
 use Rattle.store.proofs.Runs.{due}
-use Rattle.store.specs.Promise.{Leaf, Room, uses}
-use Rattle.store.specs.Store.{Fine, while-going}
+use Rattle.store.specs.Promise.{Leaf, Space, uses}
+use Rattle.store.specs.Store.{outcome-of, result-of, Fine, while-going}
 use Rattle.store.specs.declared.Scope.{Scope}
 use Rattle.store.specs.declared.Step.{Step}
 use mathlib.Core.List.{List}
@@ -35,13 +35,13 @@ module _ {t w : List ℕ} {p : Scope} {s : Step} {i : ℕ} (g : GivenExpr t w p 
   operand = let n = unary-size x in give-expr (from (g .ready)) (g .known) (x .operand) (omega arith) (omega arith) (omega arith) (omega arith)
 
   module _ {o w1 o1 : List ℕ} {s1 : Step} (d1 : LowersExpr t (word-of (fields t) i 2) w o p s w1 o1 s1) where
-    at-emit : (op : ℕ) → op < 256 → Fine w1 p s1 × Room w1 p s1 0 2 0 × while-going (s1 .outcome) (Bytes op (s1 .result) (s1 .result) 0)
+    at-emit : (op : ℕ) → op < 256 → Fine w1 p s1 × Space w1 p s1 0 2 0 × while-going (outcome-of s1) (Bytes op (result-of s1) (result-of s1) 0)
     at-emit op h =
         let n = unary-size x in
         let y = stand 0 2 0 (from (g .ready) ▹ d1 .does .moves) (omega arith) (omega arith) (omega arith) (omega arith) in
-        (y .fine, y .room, fits (s1 .outcome) op (s1 .result) (s1 .result) 0 λ e. let v = due (s1 .outcome) (d1 .small) e in (h, omega arith, omega arith, omega arith))
+        (y .fine, y .room, fits (outcome-of s1) op (result-of s1) (result-of s1) 0 λ e. let v = due (outcome-of s1) (d1 .small) e in (h, omega arith, omega arith, omega arith))
 
-    module _ {w2 : List ℕ} {s2 : Step} (d2 : Leaf w1 p s1 w2 p s2 (uses 2 0 0) (sure (emit (inst (unary-opcode (word-of (fields t) i 0)) (s1 .result) (s1 .result) 0 (word-of (fields t) i 1))))) where
+    module _ {w2 : List ℕ} {s2 : Step} (d2 : Leaf w1 p s1 w2 p s2 (uses 2 0 0) (sure (emit (inst (unary-opcode (word-of (fields t) i 0)) (result-of s1) (result-of s1) 0 (word-of (fields t) i 1))))) where
       lowers : UnderExpr t i w o p s w2 o1 s2
       unfolding lower-expr
       lowers =

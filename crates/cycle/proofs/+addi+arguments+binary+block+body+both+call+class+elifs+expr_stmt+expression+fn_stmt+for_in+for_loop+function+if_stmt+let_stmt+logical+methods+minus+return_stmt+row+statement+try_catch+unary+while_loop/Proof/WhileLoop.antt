@@ -23,8 +23,8 @@ use Rattle.meaning.specs.Lower.{lower-expr}
 use Rattle.store.proofs.Around.{loop-around, loop-entered, loop-left}
 use Rattle.store.proofs.Compose.{known}
 use Rattle.store.proofs.Runs.{due}
-use Rattle.store.specs.Promise.{Leaf, Room, uses}
-use Rattle.store.specs.Store.{Fine, looped, while-going}
+use Rattle.store.specs.Promise.{Leaf, Space, uses}
+use Rattle.store.specs.Store.{nodes-of, loops-of, mode-of, outcome-of, pc-of, result-of, Fine, looped, while-going}
 use Rattle.store.specs.declared.Scope.{Scope}
 use Rattle.store.specs.declared.Step.{Step}
 use mathlib.Core.List.{List}
@@ -35,22 +35,22 @@ module _ {t w : List ℕ} {p : Scope} {s : Step} {i : ℕ} (g : GivenStmt t w p 
   condition : AskExpr t w p s (word-of (fields t) i 1)
   condition = let n = while-size x in give-expr (from (g .ready)) (g .known) (x .condition) (omega arith) (omega arith) (omega arith) (omega arith)
 
-  open-loops : p .loops < p .nodes + 10
+  open-loops : loops-of p < nodes-of p + 10
   open-loops = let n = while-size x in omega (arith, g .ready .loops)
 
   module _ {o w1 o1 : List ℕ} {s1 : Step} (d1 : LowersExpr t (word-of (fields t) i 1) w o p s w1 o1 s1) where
-    at-test : Fine w1 p s1 × Room w1 p s1 0 4 0 × while-going (s1 .outcome) ((s1 .result < 256) × (0 < 256))
+    at-test : Fine w1 p s1 × Space w1 p s1 0 4 0 × while-going (outcome-of s1) ((result-of s1 < 256) × (0 < 256))
     at-test =
         let n = while-size x in
         let y = stand 0 4 0 (from (g .ready) ▹ d1 .does .moves) (omega arith) (omega arith) (omega arith) (omega arith) in
-        (y .fine, y .room, meanwhile (s1 .outcome) ((s1 .result < 256) × (0 < 256)) λ e. let v = due (s1 .outcome) (d1 .small) e in (omega arith, omega arith))
+        (y .fine, y .room, meanwhile (outcome-of s1) ((result-of s1 < 256) × (0 < 256)) λ e. let v = due (outcome-of s1) (d1 .small) e in (omega arith, omega arith))
 
     module _ {w2 : List ℕ} {s2 : Step} (d2 : Leaf w1 p s1 w2 p s2 (uses 4 0 0) (sure (test-and-jump 0 (word-of (fields t) i 0)))) where
       body : AskStmt t w2 (looped p) s2 (word-of (fields t) i 2)
       body = let n = while-size x in give-looped (from (g .ready) ▹ d1 .does .moves ▹ d2 .moves) (g .known) (x .body) (omega arith) (omega arith) (omega arith) (omega arith)
 
       module _ {w3 o3 : List ℕ} {s3 : Step} (d3 : LowersStmt t (word-of (fields t) i 2) w2 o1 (looped p) s2 w3 o3 s3) where
-        at-end : Fine w3 p s3 × Room w3 p s3 0 2 0 × while-going (s3 .outcome) ((s .pc ≤ s3 .pc) × (s .pc ≤ s3 .pc) × (s1 .pc + 2 ≤ s3 .pc) × (s1 .result < 256) × (s .pc ≤ s .pc))
+        at-end : Fine w3 p s3 × Space w3 p s3 0 2 0 × while-going (outcome-of s3) ((pc-of s ≤ pc-of s3) × (pc-of s ≤ pc-of s3) × (pc-of s1 + 2 ≤ pc-of s3) × (result-of s1 < 256) × (pc-of s ≤ pc-of s))
         unfolding test-and-jump
         at-end =
             let n = while-size x in
@@ -58,30 +58,30 @@ module _ {t w : List ℕ} {p : Scope} {s : Step} {i : ℕ} (g : GivenStmt t w p 
             let y = stand 0 2 0 (from (g .ready) ▹ d1 .does .moves ▹ d2 .moves ▹ m3) (omega arith) (omega arith) (omega arith) (omega arith) in (
               y .fine,
               y .room,
-              meanwhile (s3 .outcome) ((s .pc ≤ s3 .pc) × (s .pc ≤ s3 .pc) × (s1 .pc + 2 ≤ s3 .pc) × (s1 .result < 256) × (s .pc ≤ s .pc)) λ e.
+              meanwhile (outcome-of s3) ((pc-of s ≤ pc-of s3) × (pc-of s ≤ pc-of s3) × (pc-of s1 + 2 ≤ pc-of s3) × (result-of s1 < 256) × (pc-of s ≤ pc-of s)) λ e.
                   let e2 = m3 .back e in
-                  let v1 = due (s1 .outcome) (d1 .small) (d2 .moves .back e2) in
+                  let v1 = due (outcome-of s1) (d1 .small) (d2 .moves .back e2) in
                   let l = adds d2 2 (λ c. twice (c .code) _ _) e2 in
                   let a = d1 .does .moves .longer in
                   let b = m3 .longer in
                   (omega arith, omega arith, omega arith, omega arith, omega arith),
             )
 
-        module _ {w4 : List ℕ} {s4 : Step} (d4 : Leaf w3 p s3 w4 p s4 (uses 2 0 0) (sure (end-loop (p .mode) (s .pc) (s .pc) (s .pc) (s1 .pc) (s1 .result) (word-of (fields t) i 0)))) where
+        module _ {w4 : List ℕ} {s4 : Step} (d4 : Leaf w3 p s3 w4 p s4 (uses 2 0 0) (sure (end-loop (mode-of p) (pc-of s) (pc-of s) (pc-of s) (pc-of s1) (result-of s1) (word-of (fields t) i 0)))) where
           lowers : UnderStmt t i w o p s w4 o3 s4
           unfolding lower-expr end-loop
           lowers =
               let n = while-size x in
               let m3 = loop-around p (d2 .moves .fine) (d3 .does .moves) in
               arrive _ _ _ (from (g .ready) ▹ d1 .does .moves ▹ d2 .moves ▹ m3 ▹ d4 .moves) (omega arith) (omega arith) (omega arith) (λ z. omega arith) (omega (arith, while-visits x))
-              (d3 .does .same ∙ d1 .does .same) (sets d4 (s1 .result) (λ c. refl) (λ e. due (s1 .outcome) (d1 .small) (d2 .moves .back (m3 .back (d4 .moves .back e))))) λ ps z.
+              (d3 .does .same ∙ d1 .does .same) (sets d4 (result-of s1) (λ c. refl) (λ e. due (outcome-of s1) (d1 .small) (d2 .moves .back (m3 .back (d4 .moves .back e))))) λ ps z.
               let a1 = d1 .does .does ps z in
               let a2 = next-leaf a1 d2 in
               let a3 = next-leaf a2 (loop-entered (d2 .moves .fine) open-loops) in
               let a4 = next a3 (d3 .does) in
               let a5 = next-leaf a4 (loop-left p (d3 .does .moves .fine)) in
               let a6 = next-leaf a5 d4 in
-              ends a6 (rw (x .is) (while-chain (p .mode) _ _ _ _ _ _ (known _ _ _ ps) _ (a1 .runs) _ (known _ _ _ (a1 .protos)) _ (a2 .runs) _ (a3 .runs) _ (a4 .runs) _ (a5 .runs) _ (a6 .runs)))
+              ends a6 (rw (x .is) (while-chain (mode-of p) _ _ _ _ _ _ (known _ _ _ ps) _ (a1 .runs) _ (known _ _ _ (a1 .protos)) _ (a2 .runs) _ (a3 .runs) _ (a4 .runs) _ (a5 .runs) _ (a6 .runs)))
 
 -- what each function that is called asks and promises; a member of the cycle at a smaller measure
 abbrev pub claims : ℕ → lts.Claims

@@ -13,8 +13,8 @@ use Rattle.routines.proofs.bodies.closure.Tie as tie
 returns : tie.Need-returns
 returns c = leaf-absorbed (uses 2 0 0) _ ((c .before .before .before) .pre .0) ((c .enum-told2) .given .1)
 
-pack-wide-requires : tie.Need-pack-wide-requires
-pack-wide-requires c κs =
+pack-bx-requires : tie.Need-pack-bx-requires
+pack-bx-requires c κs =
     let start = c .before .before .before .before in
     (omega arith, met ((c .before .enum-told) .given .1) (start .pre .1) .1)
 
@@ -34,7 +34,7 @@ returns-2 c =
     let fine = start .pre .0 in
     let on = told .given .1 in
     let h = met on (start .pre .1) in
-    let one = spell (starts fine) ((c .before .before .before .before .before .pack-wide) .ensures) ((c .before .before .before .write-cell) .ensures) (omega (arith, h .0)) in
+    let one = spell (starts fine) ((c .before .before .before .before .before .pack-bx) .ensures) ((c .before .before .before .write-cell) .ensures) (omega (arith, h .0)) in
     rw (c .advance .ensures) (coded (a .register) 2 _ fine on one (omega arith) (omega arith) (omega (arith, h .1)) (λ t. refl))
 
 pub closure-spec : {M : Type 1} → statement M
@@ -45,7 +45,7 @@ closure-spec =
     (λ c. search needs)
     returns
     (λ c. search needs)
-    pack-wide-requires
+    pack-bx-requires
     write-cell-requires
     (λ c. search needs)
     (λ c κs. search needs)

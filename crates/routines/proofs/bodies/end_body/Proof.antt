@@ -10,7 +10,7 @@ use Rattle.store.specs.Table.{tab}
 use Rattle.store.specs.Layout.{mark-cell, inst-at}
 use native.Mathlib.Omega.{arith}
 use Rattle.store.specs.Promise.{uses}
-use Rattle.store.specs.Store.{top-of}
+use Rattle.store.specs.Store.{top-of, pc-of, result-of}
 use Rattle.store.proofs.Runs.{leaf-absorbed}
 use Rattle.store.proofs.Tables.{tab-length, tab-getD}
 use Rattle.meaning.specs.declared.Cause.the-variants.{Returned, Empty}
@@ -35,7 +35,7 @@ returns-2 c =
     let start = c .before .before .before .before .before .before in
     let a = start .args in
     rw ((c .refuse) .ensures)
-    (refusing (uses 2 0 0) _ Returned (a .node) (start .pre .0) ((c .before .before .before .enum-told) .given .1) (λ t. rw (eq-eqb (a .count) 1 ((c .before .before .if1) .taken), eq-eqb (a .step .result) 254 ((c .before .if2) .taken))))
+    (refusing (uses 2 0 0) _ Returned (a .node) (start .pre .0) ((c .before .before .before .enum-told) .given .1) (λ t. rw (eq-eqb (a .count) 1 ((c .before .before .if1) .taken), eq-eqb (result-of (a .step)) 254 ((c .before .if2) .taken))))
 
 returns-3 : tie.Need-returns-3
 unfolding end-body pick
@@ -43,9 +43,9 @@ returns-3 c =
     let start = c .before .before .before .before .before .before .before in
     let told = c .before .before .before .before .enum-told in
     let a = start .args in
-    let size = tab-length (inst-at (now (a .work)) (top-of (a .scope))) (a .step .pc) in
+    let size = tab-length (inst-at (now (a .work)) (top-of (a .scope))) (pc-of (a .step)) in
     rw ((c .refuse2) .ensures)
-    (refusing (uses 2 0 0) _ Empty (a .node) (start .pre .0) (told .given .1) (λ t. rw (eq-eqb (a .count) 1 ((c .before .before .before .if1) .taken), ne-eqb (a .step .result) 254 ((c .before .before .if2) .left), size, eq-eqb (a .step .pc) (a .first) ((c .before .if3) .taken))))
+    (refusing (uses 2 0 0) _ Empty (a .node) (start .pre .0) (told .given .1) (λ t. rw (eq-eqb (a .count) 1 ((c .before .before .before .if1) .taken), ne-eqb (result-of (a .step)) 254 ((c .before .before .if2) .left), size, eq-eqb (pc-of (a .step)) (a .first) ((c .before .if3) .taken))))
 
 mark-at-requires : tie.Need-mark-at-requires
 mark-at-requires c κs =
@@ -83,12 +83,12 @@ returns-4 c =
     let on = told .given .1 in
     let h = met on (start .pre .2) in
     let room = room-for 2 fine on (start .pre .1) in
-    let some : 1 ≤ a .step .pc = omega (arith, h, if3 .left) in
-    let size = tab-length (inst-at w (top-of (a .scope))) (a .step .pc) in
+    let some : 1 ≤ pc-of (a .step) = omega (arith, h, if3 .left) in
+    let size = tab-length (inst-at w (top-of (a .scope))) (pc-of (a .step)) in
     let one = spell (starts fine) ((c .before .before .before .before .before .pack) .ensures) ((c .before .before .before .write-cell) .ensures) (omega (arith, room)) in
     rw (c .advance .ensures)
     (coded 0 2 _ fine on one (omega arith) (omega arith) (omega arith)
-    (λ t. rw (c .before .before .before .before .before .before .mark-at .ensures, eq-eqb (a .count) 1 (if1 .taken), ne-eqb (a .step .result) 254 (if2 .left), ← (last-mark w (top-of (a .scope)) (a .step .pc) some), size, ne-eqb (a .step .pc) (a .first) (if3 .left))))
+    (λ t. rw (c .before .before .before .before .before .before .mark-at .ensures, eq-eqb (a .count) 1 (if1 .taken), ne-eqb (result-of (a .step)) 254 (if2 .left), ← (last-mark w (top-of (a .scope)) (pc-of (a .step)) some), size, ne-eqb (pc-of (a .step)) (a .first) (if3 .left))))
 
 returns-5 : tie.Need-returns-5
 unfolding end-body pick

@@ -9,6 +9,7 @@ use Rattle.forward.proofs.Chains.{jump-chain}
 use Rattle.store.specs.Promise.{uses}
 use Rattle.store.proofs.Compose.{loops-told, refused-leaf}
 use Rattle.store.specs.Cell.{Bytes}
+use Rattle.store.specs.Store.{outcome-of}
 use Rattle.routines.proofs.NodeLine.{one, always, small-put, small-refused, gives}
 use Rattle.routines.proofs.break_stmt.visit_jump.Statement.{statement}
 use Rattle.routines.proofs.break_stmt.visit_jump.Tie as tie
@@ -29,7 +30,7 @@ put-requires c κs =
     let a = start .args in
     let bytes : Bytes 3 (a .kind) 0 0 = record { op-small = lit< tt; a-small = start .pre .2; b-small = lit< tt; c-small = lit< tt } in
     let limit : 0 < 1024 = lit< tt in
-    (start .pre .0, start .pre .1, always (a .step .outcome) bytes, always (a .step .outcome) limit)
+    (start .pre .0, start .pre .1, always (outcome-of (a .step)) bytes, always (outcome-of (a .step)) limit)
 
 returns-2 : tie.Need-returns-2
 returns-2 c =

@@ -5,6 +5,7 @@ use Rattle.routines.proofs.call_expr.end_call.Tie as tie
 use native.Mathlib.Omega.{arith}
 use Rattle.forward.proofs.Leaves.{end-call-chain}
 use Rattle.store.specs.Promise.{uses, a-register, both}
+use Rattle.store.specs.Store.{outcome-of}
 use Rattle.store.proofs.Runs.{due, goes, none-due, leaf-absorbed}
 use Rattle.store.proofs.Compose.{known}
 use Rattle.routines.proofs.PieceLine.{from, _▹_, room, here, given, ends}
@@ -19,13 +20,13 @@ returns c =
 cast-emit : tie.Need-cast-emit
 cast-emit c =
     let start = c .before .before .before .before .before .before .before .before in
-    let d = due (start .args .step .outcome) (start .pre .2) (goes (c .before .before .before .before .before .enum-told .given .1)) in
+    let d = due (outcome-of (start .args .step)) (start .pre .2) (goes (c .before .before .before .before .before .enum-told .given .1)) in
     omega (arith, d .0)
 
 add-emit : tie.Need-add-emit
 add-emit c =
     let start = c .before .before .before .before .before .before .before .before in
-    let d = due (start .args .step .outcome) (start .pre .2) (goes (c .before .before .before .before .before .enum-told .given .1)) in
+    let d = due (outcome-of (start .args .step)) (start .pre .2) (goes (c .before .before .before .before .before .enum-told .given .1)) in
     omega (arith, d .0)
 
 emit-requires : tie.Need-emit-requires

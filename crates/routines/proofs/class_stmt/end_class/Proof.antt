@@ -4,6 +4,7 @@ use Rattle.routines.proofs.class_stmt.end_class.Statement.{statement}
 use Rattle.routines.proofs.class_stmt.end_class.Tie as tie
 use Rattle.forward.proofs.Leaves.{end-class-chain}
 use Rattle.store.specs.Promise.{uses}
+use Rattle.store.specs.Store.{outcome-of}
 use Rattle.store.proofs.Runs.{due, goes, none-due, leaf-absorbed}
 use Rattle.routines.proofs.PieceLine.{from, _▹_, owes, given, settling, ends}
 
@@ -17,7 +18,7 @@ name-result-requires : tie.Need-name-result-requires
 name-result-requires c κs =
     let start = c .before .before .before .before .before in
     let line = from (start .pre .0) (start .pre .1) in
-    let small = due (start .args .step .outcome) (start .pre .3) (goes (c .before .before .enum-told .given .1)) in
+    let small = due (outcome-of (start .args .step)) (start .pre .3) (goes (c .before .before .enum-told .given .1)) in
     let last = settling line small in
     let after = line ▹ last in
     rw (c .before .settle .ensures) (after .moves .fine, owes 2 1 _ after (search needs), given after (start .pre .3) (λ d. d), start .pre .2)
@@ -27,7 +28,7 @@ returns-2 c =
     let start = c .before .before .before .before .before .before .before .before in
     let s = start .args in
     let line = from (start .pre .0) (start .pre .1) in
-    let class = settling line (due (s .step .outcome) (start .pre .3) (goes (c .before .before .before .before .before .enum-told .given .1))) in
+    let class = settling line (due (outcome-of (s .step)) (start .pre .3) (goes (c .before .before .before .before .before .enum-told .given .1))) in
     let last = rw (c .before .before .before .before .settle .ensures) at (c .before .before .name-result .ensures) in
     (ends _ (line ▹ class ▹ last .0) (search needs) (λ ps. end-class-chain (s .node) (s .token) (s .class) _ _ (class .runs ps) _ (last .0 .runs ps)), last .1)
 

@@ -2,6 +2,7 @@
 use mathlib.Core.Path.{refl}
 use native.Mathlib.Omega.{arith}
 use Rattle.store.specs.Promise.{uses}
+use Rattle.store.specs.Store.{result-of}
 use Rattle.store.proofs.Runs.{leaf-absorbed}
 use Rattle.forward.specs.Forward.{make-class}
 use Rattle.code.proofs.Coded.{met, room-for, starts, coded, result-small}
@@ -29,7 +30,7 @@ returns-2 c =
     let on = told .given .1 in
     let room = room-for 2 fine on (start .pre .1) in
     let one = spell (starts fine) ((c .before .before .before .before .before .pack) .ensures) ((c .before .before .before .write-cell) .ensures) (omega (arith, room)) in
-    rw (c .advance .ensures) (coded (a .step .result) 2 _ fine on one (omega arith) (omega arith) (result-small fine on) (λ t. refl))
+    rw (c .advance .ensures) (coded (result-of (a .step)) 2 _ fine on one (omega arith) (omega arith) (result-small fine on) (λ t. refl))
 
 pub make-class-spec : {M : Type 1} → statement M
 make-class-spec =

@@ -8,19 +8,20 @@ use Rattle.store.proofs.Runs.{due}
 use Rattle.store.proofs.Compose.{known}
 use Rattle.routines.proofs.PieceLine.{from, _▹_, room, here, ends}
 use Rattle.routines.proofs.Results.{put-keeps, takes, declare-takes}
+use Rattle.store.specs.Store.{outcome-of}
 
 next-register-requires : tie.Need-next-register-requires
 next-register-requires c κs = c .before .before .before .declare .ensures .0 .moves .fine
 
-put-wide-requires : tie.Need-put-wide-requires
-put-wide-requires c κs =
+put-bx-requires : tie.Need-put-bx-requires
+put-bx-requires c κs =
     let start = c .before .before .before .before .before .before .before .before .before .before .before .before .before .before in
     let one = start .pre .0 .sound .starts 0 (omega arith) in
     let line = from (start .pre .0) (start .pre .1) ▹ c .before .before .before .before .before .before .before .before .before .before .before .declare .ensures .0 ▹ c .before .before .before .before .before .before .before .next-register .ensures .0 ▹ c .before .before .before .add-name .ensures in (
       line .moves .fine,
       room 2 0 line (record { words = omega arith; locals = omega arith; names = omega (arith, one) }),
       here line (λ g. (omega arith, omega (arith, c .before .before .before .before .before .before .before .next-register .ensures .1))),
-      here line (λ g. omega (arith, due (c .before .before .before .before .before .before .before .before .before .before .before .declare .result .outcome) (c .before .before .before .before .before .before .before .before .before .before .before .declare .ensures .1) (c .before .before .before .before .before .before .before .next-register .ensures .0 .moves .back (c .before .before .before .add-name .ensures .moves .back g)))),
+      here line (λ g. omega (arith, due (outcome-of (c .before .before .before .before .before .before .before .before .before .before .before .declare .result)) (c .before .before .before .before .before .before .before .before .before .before .before .declare .ensures .1) (c .before .before .before .before .before .before .before .next-register .ensures .0 .moves .back (c .before .before .before .add-name .ensures .moves .back g)))),
     )
 
 returns : tie.Need-returns
@@ -31,7 +32,7 @@ returns c =
     let class = c .before .before .before .before .before .before .before .before .before .before .before .before .before .before .declare .ensures .0 in
     let names = c .before .before .before .before .before .before .before .before .before .before .next-register .ensures in
     let constant = c .before .before .before .before .before .before .add-name .ensures in
-    let last = c .before .before .put-wide .ensures in
+    let last = c .before .before .put-bx .ensures in
     let line = from (start .pre .0) (start .pre .1) ▹ class ▹ names .0 ▹ constant ▹ last in (
       ends _ line (record { words = omega arith; locals = omega arith; names = omega (arith, one); still = λ z. z; visits = omega arith })
           (λ ps. open-class-chain (s .node) (s .token) _ _ (class .runs ps) _ (known _ _ _ ps) _ (names .0 .runs ps) _ (known _ _ _ ps) _ (constant .runs ps) _ (known _ _ _ ps) _ (last .runs ps)),
@@ -48,6 +49,6 @@ open-class-spec =
     (λ c κs. search needs)
     next-register-requires
     (λ c κs. search needs)
-    put-wide-requires
+    put-bx-requires
     (λ c. search needs)
     returns)

@@ -16,6 +16,7 @@ use Rattle.store.proofs.Visiting.{ticked-runs}
 use Rattle.store.proofs.Compose.{known}
 use Rattle.nodes.specs.declared.statements.Class.{Class}
 use Rattle.store.specs.Cell.{Bytes}
+use Rattle.store.specs.Store.{outcome-of, result-of}
 use Rattle.routines.proofs.Held.{inside, node, lawful-kept, super-none, super-some}
 use Rattle.routines.proofs.NodeLine.{one, counting, _▹_, room-after, always, small-emit, gives}
 use Rattle.routines.proofs.class_stmt.superclass.Statement.{statement}
@@ -74,10 +75,10 @@ emit-requires c κs =
     let start = c .before .before .before .before .before .before .before .before .before .before .before in
     let next-register = c .before .before .before .next-register in
     let line = one (next-register .ensures .0) in
-    let register = next-register .result .result in
+    let register = result-of (next-register .result) in
     let small = next-register .ensures .1 in
     let bytes : Bytes 2 register 0 0 = record { op-small = lit< tt; a-small = omega arith; b-small = lit< tt; c-small = lit< tt } in
-    (line .moves .fine, room-after 0 2 0 line (start .pre .0 .room) (omega arith) (omega arith) (omega arith), always (next-register .result .outcome) bytes)
+    (line .moves .fine, room-after 0 2 0 line (start .pre .0 .room) (omega arith) (omega arith) (omega arith), always (outcome-of (next-register .result)) bytes)
 
 returns-2 : tie.Need-returns-2
 unfolding weight-super visits-super

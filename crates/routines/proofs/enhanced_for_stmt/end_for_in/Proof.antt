@@ -7,7 +7,7 @@ use Rattle.store.specs.Layout.{inst-at}
 use Rattle.store.proofs.Tables.{tab-length}
 use native.Mathlib.Omega.{arith}
 use Rattle.store.specs.Promise.{uses}
-use Rattle.store.specs.Store.{top-of}
+use Rattle.store.specs.Store.{top-of, mode-of, pc-of}
 use Rattle.store.proofs.Runs.{leaf-absorbed}
 use Rattle.forward.specs.Forward.{jump-here, end-loop, end-for-in}
 use Rattle.code.proofs.Coded.{met, room-for, starts, coded}
@@ -58,8 +58,8 @@ returns-2 c =
     let room = room-for 4 fine on (start .pre .1) in
     let one = spell (starts fine) (pack .ensures) (write .ensures) (omega (arith, room)) in
     let goal = (c .before .before .before .before .before .continue-goal) .ensures in
-    let size = tab-length (inst-at (now (a .work)) (top-of (a .scope))) (a .step .pc) in
-    let place = goal ∙ ap (λ k. continue-goal (a .scope .mode) (k - a .first)) (sym size) in
+    let size = tab-length (inst-at (now (a .work)) (top-of (a .scope))) (pc-of (a .step)) in
+    let place = goal ∙ ap (λ k. continue-goal (mode-of (a .scope)) (k - a .first)) (sym size) in
     let two = spell-anew one (rw place at ((c .before .before .before .close-loop) .ensures)) (omega (arith, room)) in
     rw (c .advance .ensures) (coded 0 4 _ fine on (as-many (omega arith) two) (omega arith) (omega arith) (omega arith) (λ t. refl))
 

@@ -10,6 +10,7 @@ use Rattle.meaning.specs.Statements.{iterate}
 use Rattle.forward.specs.Forward.{Run, bind, sure, emit, put, test-and-jump, fwd-code, head-for-in}
 use Rattle.forward.proofs.Calls.{Calls, finally, entry, _>>_, Chain, chain}
 use Rattle.store.specs.Promise.{uses}
+use Rattle.store.specs.Store.{outcome-of}
 use Rattle.store.proofs.Runs.{due, goes, leaf-absorbed}
 use Rattle.store.proofs.Compose.{known}
 use Rattle.routines.proofs.PieceLine.{from, _▹_, room, here, given, ends}
@@ -34,7 +35,7 @@ returns c = leaf-absorbed (uses 11 1 0) _ (c .before .before .before .before .pr
 add-emit : tie.Need-add-emit
 add-emit c =
     let start = c .before .before .before .before .before in
-    let d = due (start .args .step .outcome) (start .pre .5) (goes (c .before .enum-told .given .1)) in
+    let d = due (outcome-of (start .args .step)) (start .pre .5) (goes (c .before .enum-told .given .1)) in
     omega (arith, d .0)
 
 emit-requires : tie.Need-emit-requires
@@ -46,7 +47,7 @@ emit-requires c κs =
 add-put : tie.Need-add-put
 add-put c =
     let start = c .before .before .before .before .before .before .before .before .before in
-    let d = due (start .args .step .outcome) (start .pre .5) (goes (c .before .before .before .before .before .enum-told .given .1)) in
+    let d = due (outcome-of (start .args .step)) (start .pre .5) (goes (c .before .before .before .before .before .enum-told .given .1)) in
     omega (arith, d .0)
 
 add-put-2 : tie.Need-add-put-2
@@ -72,14 +73,14 @@ test-and-jump-requires c κs =
     let line = from (start .pre .0) (start .pre .1) ▹ c .before .before .before .before .before .before .before .emit .ensures ▹ compared in (
       line .moves .fine,
       room 4 0 line (search needs),
-      here line (λ g. let d = due (start .args .step .outcome) (start .pre .5) (line .moves .back g) in (omega (arith, d .0, put-keeps _ _ compared g .result), omega arith)),
+      here line (λ g. let d = due (outcome-of (start .args .step)) (start .pre .5) (line .moves .back g) in (omega (arith, d .0, put-keeps _ _ compared g .result), omega arith)),
     )
 
 iterate-requires : tie.Need-iterate-requires
 iterate-requires c κs =
     let start = c .before .before .before .before .before .before .before .before .before .before .before .before .before .before .before .before .before in
     let line = from (start .pre .0) (start .pre .1) ▹ c .before .before .before .before .before .before .before .before .before .before .before .emit .ensures ▹ c .before .before .before .before .before .before .before .put .ensures ▹ c .before .before .before .test-and-jump .ensures in
-    let d = due (start .args .step .outcome) (start .pre .5) (goes (c .before .before .before .before .before .before .before .before .before .before .before .before .before .enum-told .given .1)) in
+    let d = due (outcome-of (start .args .step)) (start .pre .5) (goes (c .before .before .before .before .before .before .before .before .before .before .before .before .before .enum-told .given .1)) in
     (line .moves .fine, room 3 1 line (search needs), start .pre .2, start .pre .3, start .pre .4, d .0, d .1)
 
 returns-2 : tie.Need-returns-2

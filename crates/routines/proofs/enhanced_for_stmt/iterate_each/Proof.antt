@@ -9,6 +9,7 @@ use Rattle.routines.proofs.Tokens.{pair-there}
 use Rattle.routines.proofs.PairLoops.{Turned, all-names, no-turn, name-turn, name-byte, all-turned}
 use Rattle.routines.proofs.enhanced_for_stmt.iterate_each.Statement.{statement}
 use Rattle.routines.proofs.enhanced_for_stmt.iterate_each.Tie as tie
+use Rattle.store.specs.Store.{outcome-of}
 
 abbrev Inv-loop : tie.InvT-loop
 Inv-loop payload work₀ scope node from n element mark last₀ k₀ work last k = Turned (all-names node mark element) payload from n 3 work₀ scope last₀ work last k
@@ -36,7 +37,7 @@ emit-requires c κs =
       here line (λ g. record {
         op-small = omega arith;
         a-small = omega (arith, register .1);
-        b-small = due (s .step .outcome) (start .pre .4) (line .moves .back g);
+        b-small = due (outcome-of (s .step)) (start .pre .4) (line .moves .back g);
         c-small = name-byte (s .node) (s .mark) (s .element) _ inv (register .0) (register .1) g;
       }),
     )

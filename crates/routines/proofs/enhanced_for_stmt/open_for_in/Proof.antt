@@ -9,8 +9,8 @@ use Rattle.store.proofs.Compose.{known}
 use Rattle.routines.proofs.PieceLine.{from, _▹_, room, here, ends}
 use Rattle.routines.proofs.Results.{put-keeps, takes}
 
-put-wide-requires : tie.Need-put-wide-requires
-put-wide-requires c κs =
+put-bx-requires : tie.Need-put-bx-requires
+put-bx-requires c κs =
     let start = c .before .before .before .before .before .before .before .before .before .before .before .before .before .before .before .before .before .before .before .before .before .before in
     let small = c .before .before .before .before .before .before .before .before .before .before .before .before .before .before .before .before .before .before .before .next-register .ensures .1 in
     let line = from (start .pre .0) (start .pre .1) ▹ c .before .before .before .before .before .before .before .before .before .before .before .before .before .before .before .before .before .before .before .next-register .ensures .0 ▹ c .before .before .before .before .before .before .before .before .before .before .before .before .before .before .before .next-register2 .ensures .0 ▹ c .before .before .before .before .before .before .before .before .before .before .before .next-register3 .ensures .0 ▹ c .before .before .before .before .before .before .before .next-register4 .ensures .0 ▹ c .before .before .before .add-constant .ensures in
@@ -19,7 +19,7 @@ put-wide-requires c κs =
 same-length : tie.Need-same-length
 same-length c =
     let start = c .before .before .before .before .before .before .before .before .before .before .before .before .before .before .before .before .before .before .before .before .before .before .before .before .before in
-    let line = from (start .pre .0) (start .pre .1) ▹ c .before .before .before .before .before .before .before .before .before .before .before .before .before .before .before .before .before .before .before .before .before .before .next-register .ensures .0 ▹ c .before .before .before .before .before .before .before .before .before .before .before .before .before .before .before .before .before .before .next-register2 .ensures .0 ▹ c .before .before .before .before .before .before .before .before .before .before .before .before .before .before .next-register3 .ensures .0 ▹ c .before .before .before .before .before .before .before .before .before .before .next-register4 .ensures .0 ▹ c .before .before .before .before .before .before .add-constant .ensures ▹ c .before .before .put-wide .ensures in
+    let line = from (start .pre .0) (start .pre .1) ▹ c .before .before .before .before .before .before .before .before .before .before .before .before .before .before .before .before .before .before .before .before .before .before .next-register .ensures .0 ▹ c .before .before .before .before .before .before .before .before .before .before .before .before .before .before .before .before .before .before .next-register2 .ensures .0 ▹ c .before .before .before .before .before .before .before .before .before .before .before .before .before .before .next-register3 .ensures .0 ▹ c .before .before .before .before .before .before .before .before .before .before .next-register4 .ensures .0 ▹ c .before .before .before .before .before .before .add-constant .ensures ▹ c .before .before .put-bx .ensures in
     line .moves .kept .same
 
 returns : tie.Need-returns
@@ -32,7 +32,7 @@ returns c =
     let condition = c .before .before .before .before .before .before .before .before .before .before .before .before .before .before .next-register3 .ensures .0 in
     let element = c .before .before .before .before .before .before .before .before .before .before .next-register4 .ensures .0 in
     let constant = c .before .before .before .before .before .before .add-constant .ensures in
-    let last = c .before .before .put-wide .ensures in
+    let last = c .before .before .put-bx .ensures in
     let line = from (start .pre .0) (start .pre .1) ▹ counter ▹ size ▹ condition ▹ element ▹ constant ▹ last in (
       ends _ line (search needs)
           (λ ps. open-for-in-chain (s .node) (s .mark) _ _ (counter .runs ps) _ (known _ _ _ ps) _ (size .runs ps) _ (condition .runs ps) _ (element .runs ps) _ (constant .runs ps) _ (known _ _ _ ps) _ (last .runs ps)),
@@ -54,6 +54,6 @@ open-for-in-spec =
     (λ c κs. search needs)
     (λ c κs. search needs)
     (λ c κs. search needs)
-    put-wide-requires
+    put-bx-requires
     same-length
     returns)

@@ -4,6 +4,7 @@ use native.Mathlib.Omega.{arith}
 use borrow.Author.Needs.{needs}
 use Rattle.forward.proofs.Leaves.{end-fun-chain}
 use Rattle.store.specs.Promise.{uses, both}
+use Rattle.store.specs.Store.{depth-of, block-of, outcome-of}
 use Rattle.store.proofs.Runs.{due, promised}
 use Rattle.routines.specs.Pieces.{a-name-back}
 use Rattle.routines.proofs.Results.{closure-keeps}
@@ -14,15 +15,15 @@ use Rattle.routines.proofs.fn_stmt.end_fun.Tie as tie
 leave-function-requires : tie.Need-leave-function-requires
 leave-function-requires c κs =
     let start = c .before .before .before .before in
-    let o = start .args .step .outcome in
+    let o = outcome-of (start .args .step) in
     (start .pre .0, start .pre .1, promised o (λ g. due o (start .pre .3) g .0), start .pre .4)
 
 closure-requires : tie.Need-closure-requires
 closure-requires c κs =
     let start = c .before .before .before .before .before .before .before .before .before .before in
     let left = c .before .before .before .before .before .leave-function .ensures .0 .leaves in
-    let owing = owes-then left 4 1 (2 - (start .args .scope .depth + start .args .scope .block)) (start .pre .2) (search needs) in
-    (left .fine, there left (λ g. (omega (arith, spare-words (left .fine) owing g), omega (arith, due (start .args .step .outcome) (start .pre .3) (left .back g) .1))))
+    let owing = owes-then left 4 1 (2 - (depth-of (start .args .scope) + block-of (start .args .scope))) (start .pre .2) (search needs) in
+    (left .fine, there left (λ g. (omega (arith, spare-words (left .fine) owing g), omega (arith, due (outcome-of (start .args .step)) (start .pre .3) (left .back g) .1))))
 
 name-result-requires : tie.Need-name-result-requires
 name-result-requires c κs =
@@ -32,7 +33,7 @@ name-result-requires c κs =
     let leaves = leaves-then (c .before .before .before .before .before .before .before .before .before .leave-function .ensures .0 .leaves) made in (
       leaves .fine,
       owes-then leaves 2 1 _ (start .pre .2) (search needs),
-      there leaves (λ g. omega (arith, closure-keeps (s .register) (s .token .mark) made g .result, due (s .step .outcome) (start .pre .3) (leaves .back g) .1)),
+      there leaves (λ g. omega (arith, closure-keeps (s .register) (s .token .mark) made g .result, due (outcome-of (s .step)) (start .pre .3) (leaves .back g) .1)),
       start .pre .5,
     )
 

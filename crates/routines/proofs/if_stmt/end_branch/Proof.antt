@@ -2,6 +2,7 @@
 use mathlib.Core.Path.{refl}
 use native.Mathlib.Omega.{arith}
 use Rattle.store.specs.Promise.{uses}
+use Rattle.store.specs.Store.{pc-of}
 use Rattle.store.proofs.Runs.{leaf-absorbed}
 use Rattle.meaning.specs.Opcode.{inst, Jmp}
 use Rattle.forward.specs.Forward.{end-branch}
@@ -41,8 +42,8 @@ returns-2 c =
     let h = met on (start .pre .2) in
     let room = room-for 2 fine on (start .pre .1) in
     let one = spell {i = inst Jmp 0 0 0} (starts fine) (record { is = λ m. refl }) (write .ensures) (omega (arith, room)) in
-    let two = spell-over one ((c .before .before .before .before .before .pack-wide) .ensures) ((c .before .before .before .write-cell2) .ensures) (omega (arith, h)) in
-    rw (c .advance .ensures) (coded 0 2 _ fine on two (omega arith) (omega arith) (omega arith) (jumped _ (a .step .pc) (a .test) (a .mark) 0 _ _))
+    let two = spell-over one ((c .before .before .before .before .before .pack-bx) .ensures) ((c .before .before .before .write-cell2) .ensures) (omega (arith, h)) in
+    rw (c .advance .ensures) (coded 0 2 _ fine on two (omega arith) (omega arith) (omega arith) (jumped _ (pc-of (a .step)) (a .test) (a .mark) 0 _ _))
 
 pub end-branch-spec : {M : Type 1} → statement M
 end-branch-spec =

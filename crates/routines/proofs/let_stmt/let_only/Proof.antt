@@ -13,6 +13,7 @@ use Rattle.store.specs.Promise.{uses}
 use Rattle.store.proofs.Compose.{known, room-by}
 use Rattle.store.proofs.Pools.{global-here}
 use Rattle.store.specs.Cell.{Bytes}
+use Rattle.store.specs.Store.{outcome-of, result-of}
 use Rattle.routines.proofs.Held.{inside, node}
 use Rattle.routines.proofs.NodeLine.{one, _▹_, room-after, always, small-put, gives}
 use Rattle.routines.proofs.let_stmt.let_only.Statement.{statement}
@@ -42,23 +43,23 @@ emit-requires c κs =
     let next-register = c .before .before .before .next-register in
     let start = c .before .before .before .before .before .before .before .before .before .before .before .before .before .before .before in
     let line = one (new-global .ensures) ▹ one (next-register .ensures .0) in
-    let register = next-register .result .result in
+    let register = result-of (next-register .result) in
     let small = next-register .ensures .1 in
     let bytes : Bytes 2 register 0 0 = record { op-small = lit< tt; a-small = omega arith; b-small = lit< tt; c-small = lit< tt } in
-    (line .moves .fine, room-after 0 2 0 line (start .pre .0 .room) (omega arith) (omega arith) (omega arith), always (next-register .result .outcome) bytes)
+    (line .moves .fine, room-after 0 2 0 line (start .pre .0 .room) (omega arith) (omega arith) (omega arith), always (outcome-of (next-register .result)) bytes)
 
-put-wide-requires : tie.Need-put-wide-requires
-put-wide-requires c κs =
+put-bx-requires : tie.Need-put-bx-requires
+put-bx-requires c κs =
     let new-global = c .before .before .before .before .before .before .before .before .before .before .before .new-global in
     let next-register = c .before .before .before .before .before .before .before .next-register in
     let emit = c .before .before .before .emit in
     let start = c .before .before .before .before .before .before .before .before .before .before .before .before .before .before .before .before .before .before .before in
     let line = one (new-global .ensures) ▹ one (next-register .ensures .0) ▹ one (emit .ensures) in
-    let register = next-register .result .result in
+    let register = result-of (next-register .result) in
     let small = next-register .ensures .1 in
     let bytes : (45 < 256) × (register < 256) = (lit< tt, omega arith) in
     let limit : 0 < 1024 = lit< tt in
-    (line .moves .fine, room-after 0 2 0 line (start .pre .0 .room) (omega arith) (omega arith) (omega arith), always (emit .result .outcome) bytes, always (emit .result .outcome) limit)
+    (line .moves .fine, room-after 0 2 0 line (start .pre .0 .room) (omega arith) (omega arith) (omega arith), always (outcome-of (emit .result)) bytes, always (outcome-of (emit .result)) limit)
 
 returns : tie.Need-returns
 unfolding lower-stmt
@@ -68,7 +69,7 @@ returns c =
     let new-global = c .before .before .before .before .before .before .before .before .before .before .before .before .before .before .new-global in
     let next-register = c .before .before .before .before .before .before .before .before .before .before .next-register in
     let emit = c .before .before .before .before .before .before .emit in
-    let put-wide = c .before .before .put-wide in
+    let put-bx = c .before .before .put-bx in
     let is-global-context = c .before .before .before .before .before .before .before .before .before .before .before .before .before .before .before .before .before .is-global-context in
     let if1 = c .before .before .before .before .before .before .before .before .before .before .before .before .before .before .before .before .if1 in
     let given = start .pre .0 in
@@ -76,7 +77,7 @@ returns c =
     let k = new-global .ensures in
     let a = next-register .ensures .0 in
     let b = emit .ensures in
-    let d = put-wide .ensures in
+    let d = put-bx .ensures in
     gives (uses 8 1 0) (one k ▹ one a ▹ one b ▹ one d) (omega arith) (omega arith) (omega arith) (λ z. omega arith) (omega arith)
     (λ ps. rw (held .is-only (start .pre .2)) (rw (let-of .ensures .0) at (let-only-chain _ _ _ _ _ (is-global-context .ensures .1 _ (start .args .step) (given .fine .sound) ps) .0 (if1 .taken) _ (k .runs ps) _ (known _ _ _ ps) _ (a .runs ps) _ (known _ _ _ ps) _ (b .runs ps) _ (d .runs ps))))
     (small-put d (lit< tt))
@@ -87,7 +88,7 @@ allocate-register-requires c κs =
     let start = c .before .before .before .before .before .before .before .before .before .before .before in
     let let-of = c .before .before .before .before .before .before .before .let-of in
     let line = one (next-register2 .ensures .0) in
-    (line .moves .fine, room-after 0 1 1 line (start .pre .0 .room) (omega arith) (omega arith) (omega arith), let-of .ensures .1, always (next-register2 .result .outcome) (next-register2 .ensures .1))
+    (line .moves .fine, room-after 0 1 1 line (start .pre .0 .room) (omega arith) (omega arith) (omega arith), let-of .ensures .1, always (outcome-of (next-register2 .result)) (next-register2 .ensures .1))
 
 returns-2 : tie.Need-returns-2
 unfolding lower-stmt
@@ -104,7 +105,7 @@ returns-2 c =
     let d = allocate-register .ensures in
     gives (uses 8 1 0) (one a ▹ one d) (omega arith) (omega arith) (omega arith) (λ z. omega arith) (omega arith)
     (λ ps. rw (held .is-only (start .pre .2)) (rw (let-of .ensures .0) at (let-only-chain _ (let-of .result .token) _ _ _ (is-global-context .ensures .1 _ (start .args .step) (given .fine .sound) ps) .1 (if1 .left) _ (a .runs ps) _ (known _ _ _ ps) _ (d .runs ps))))
-    (always (next-register2 .result .outcome) (next-register2 .ensures .1))
+    (always (outcome-of (next-register2 .result)) (next-register2 .ensures .1))
 
 pub let-only-spec : {M : Type 1} → statement M
 let-only-spec =
@@ -115,7 +116,7 @@ let-only-spec =
     new-global-requires
     next-register-requires
     emit-requires
-    put-wide-requires
+    put-bx-requires
     (λ c. search needs)
     returns
     (λ c κs. search needs)

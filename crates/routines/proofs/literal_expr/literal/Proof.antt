@@ -11,6 +11,7 @@ use Rattle.meaning.specs.Lower.{lower-expr}
 use Rattle.values.specs.Literals.{constant-at}
 use Rattle.forward.proofs.Chains.{literal-chain}
 use Rattle.store.specs.Promise.{uses}
+use Rattle.store.specs.Store.{outcome-of, result-of}
 use Rattle.store.proofs.Compose.{known}
 use Rattle.routines.proofs.Held.{readable, literal-is}
 use Rattle.routines.proofs.NodeLine.{one, _▹_, room-after, always, small-put, gives}
@@ -27,31 +28,31 @@ payload-of-requires c κs =
     let start = c .before .before .before .before .before in
     readable (start .pre .0 .lawful) (start .pre .0 .known)
 
-put-wide-requires : tie.Need-put-wide-requires
-put-wide-requires c κs =
+put-bx-requires : tie.Need-put-bx-requires
+put-bx-requires c κs =
     let next-register = c .before .before .before .before .before .before .before .next-register in
     let add-constant = c .before .before .before .add-constant in
     let start = c .before .before .before .before .before .before .before .before .before .before .before .before .before .before .before .before in
     let line = one (next-register .ensures .0) ▹ one (add-constant .ensures) in
-    let register = next-register .result .result in
+    let register = result-of (next-register .result) in
     let small = next-register .ensures .1 in
     let bytes : (1 < 256) × (register < 256) = (lit< tt, omega arith) in
     let limit : register < 1024 = omega arith in
-    (line .moves .fine, room-after 0 2 0 line (start .pre .0 .room) (omega arith) (omega arith) (omega arith), always (add-constant .result .outcome) bytes, always (add-constant .result .outcome) limit)
+    (line .moves .fine, room-after 0 2 0 line (start .pre .0 .room) (omega arith) (omega arith) (omega arith), always (outcome-of (add-constant .result)) bytes, always (outcome-of (add-constant .result)) limit)
 
 returns : tie.Need-returns
 unfolding lower-expr
 returns c =
     let next-register = c .before .before .before .before .before .before .before .before .before .before .next-register in
     let add-constant = c .before .before .before .before .before .before .add-constant in
-    let put-wide = c .before .before .put-wide in
+    let put-bx = c .before .before .put-bx in
     let start = c .before .before .before .before .before .before .before .before .before .before .before .before .before .before .before .before .before .before .before in
     let literal-of = c .before .before .before .before .before .before .before .before .before .before .before .before .literal-of in
     let tag-of = c .before .before .before .before .before .before .before .before .before .before .before .before .before .before .before .tag-of in
     let payload-of = c .before .before .before .before .before .before .before .before .before .before .before .before .before .payload-of in
     let a = next-register .ensures .0 in
     let b = add-constant .ensures in
-    let d = put-wide .ensures in
+    let d = put-bx .ensures in
     let given = start .pre .0 in
     let is = literal-is (given .lawful) (given .known) (start .pre .1) (start .pre .2) in
     let value = literal-of .ensures .1 .0 ∙ ap (λ p. constant-at (tag-of .result) (words p)) (payload-of .ensures) ∙ ap (λ k. constant-at k (file-words (fields (now (start .args .tree))) (start .args .node))) (tag-of .ensures) in
@@ -68,6 +69,6 @@ literal-spec =
     (λ c κs. search needs)
     (λ c κs. search needs)
     (λ c κs. search needs)
-    put-wide-requires
+    put-bx-requires
     (λ c. search needs)
     returns)

@@ -1,6 +1,7 @@
 -- `routines::logical_expr::end_logical` meets its contract: Move is written behind the others, and the jump after the Test goes there. Assumes nothing.
 use native.Mathlib.Omega.{arith}
 use Rattle.store.specs.Promise.{uses}
+use Rattle.store.specs.Store.{pc-of}
 use Rattle.store.proofs.Runs.{leaf-absorbed}
 use Rattle.forward.specs.Forward.{end-logical}
 use Rattle.code.proofs.Coded.{met, room-for, starts, coded, jumped}
@@ -18,8 +19,8 @@ pack-requires c κs =
     let h = met ((c .enum-told) .given .1) (start .pre .2) in
     record { op-small = omega arith; a-small = h .1; b-small = h .2; c-small = omega arith }
 
-sub-pack-wide : tie.Need-sub-pack-wide
-sub-pack-wide c =
+sub-pack-bx : tie.Need-sub-pack-bx
+sub-pack-bx c =
     let start = c .before .before .before .before .before .before .before .before in
     let told = c .before .before .before .before .before .enum-told in
     omega (arith, met (told .given .1) (start .pre .2) .0)
@@ -52,8 +53,8 @@ returns-2 c =
     let h = met on (start .pre .2) in
     let room = room-for 2 fine on (start .pre .1) in
     let one = spell (starts fine) (pack .ensures) (write .ensures) (omega (arith, room)) in
-    let two = spell-over one ((c .before .before .before .before .before .pack-wide) .ensures) ((c .before .before .before .write-cell2) .ensures) (omega (arith, h .0)) in
-    rw (c .advance .ensures) (coded (a .left) 2 _ fine on two (omega arith) (omega arith) (omega (arith, h .1)) (jumped _ (a .step .pc) (a .test) (a .mark) (a .left) _ _))
+    let two = spell-over one ((c .before .before .before .before .before .pack-bx) .ensures) ((c .before .before .before .write-cell2) .ensures) (omega (arith, h .0)) in
+    rw (c .advance .ensures) (coded (a .left) 2 _ fine on two (omega arith) (omega arith) (omega (arith, h .1)) (jumped _ (pc-of (a .step)) (a .test) (a .mark) (a .left) _ _))
 
 pub end-logical-spec : {M : Type 1} → statement M
 end-logical-spec =
@@ -64,7 +65,7 @@ end-logical-spec =
     returns
     pack-requires
     (λ c κs. search needs)
-    sub-pack-wide
+    sub-pack-bx
     (λ c κs. search needs)
     add-write
     write-cell-requires-2

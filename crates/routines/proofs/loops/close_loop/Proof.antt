@@ -5,7 +5,7 @@ use Prim.Native.Nat.{ℕ, _+_, _*_, _-_}
 use native.Mathlib.Omega.{arith}
 use lib.ListN.{length, set, length-append}
 use denote.Ref.{now}
-use Rattle.meaning.specs.Opcode.{wide, back, Jmp}
+use Rattle.meaning.specs.Opcode.{inst-bx, back, Jmp}
 use Rattle.meaning.specs.Chunk.{patch-loop}
 use Rattle.meaning.specs.declared.Instruction.{Instruction}
 use Rattle.store.specs.Table.{tab}
@@ -21,9 +21,9 @@ use Rattle.routines.proofs.loops.close_loop.Tie as tie
 
 -- what is written is what the end of a loop wants
 closed-is : (f : ℕ → Instruction) (k goal first condition test mark : ℕ)
-    → mended (patch-loop goal) first (set (tab f k ++ wide Jmp 0 (back (k - condition)) mark ∷ []) (test + 1) (wide Jmp 0 (k - test) mark)) ≡ closed-loop goal first condition test mark (tab f k)
+    → mended (patch-loop goal) first (set (tab f k ++ inst-bx Jmp 0 (back (k - condition)) mark ∷ []) (test + 1) (inst-bx Jmp 0 (k - test) mark)) ≡ closed-loop goal first condition test mark (tab f k)
 closed-is f k goal first condition test mark =
-    let n : length (tab f k ++ wide Jmp 0 (back (k - condition)) mark ∷ []) - (test + 1) ≡ k - test = simp length-append (omega (arith, tab-length f k)) in
+    let n : length (tab f k ++ inst-bx Jmp 0 (back (k - condition)) mark ∷ []) - (test + 1) ≡ k - test = simp length-append (omega (arith, tab-length f k)) in
     rw (tab-length f k, n)
 
 returns : tie.Need-returns
@@ -31,7 +31,7 @@ returns c =
     let start = c .before .before .before .before .before .before .before .before .before .before .before .before .before .before .before in
     let jump-back = c .before .before .before .before .before .before .before .before .before .before .before .before .jump-back in
     let write = c .before .before .before .before .before .before .before .before .before .before .before .write-cell in
-    let pack-wide = c .before .before .before .before .before .before .before .before .pack-wide in
+    let pack-bx = c .before .before .before .before .before .before .before .before .pack-bx in
     let write2 = c .before .before .before .before .before .before .write-cell2 in
     let a = start .args in
     let pre = start .pre in
@@ -39,7 +39,7 @@ returns c =
     let k : ℕ = a .code in
     let none = spelled (now (a .work)) top (top - 2 * (k + 1)) k (omega arith) (pre .0) in
     let one = spell none (jump-back .ensures) (write .ensures) (omega (arith, pre .1)) in
-    let two = spell-over one (pack-wide .ensures) (write2 .ensures) (omega (arith, pre .5)) in
+    let two = spell-over one (pack-bx .ensures) (write2 .ensures) (omega (arith, pre .5)) in
     let three = spell-anew two ((c .before .before .patch-loop) .ensures) (omega (arith, pre .1)) in
     anew (closed-loop (a .goal) (a .first) (a .condition) (a .test) (a .mark)) three (closed-is _ k (a .goal) (a .first) (a .condition) (a .test) (a .mark))
 

@@ -10,9 +10,10 @@ use Rattle.store.proofs.Compose.{known}
 use Rattle.routines.proofs.PieceLine.{owing-from, _▹_, room, here, given, ends}
 use Rattle.routines.proofs.Context.{alone, not-alone}
 use Rattle.routines.proofs.Results.{put-keeps}
+use Rattle.store.specs.Store.{outcome-of}
 
-put-wide-requires : tie.Need-put-wide-requires
-put-wide-requires c κs =
+put-bx-requires : tie.Need-put-bx-requires
+put-bx-requires c κs =
     let start = c .before .before .before .before .before .before .before .before in
     let at = alone (start .args .scope) (sym (c .before .before .before .before .before .before .is-global-context .ensures .0) ∙ c .before .before .before .before .before .if1 .taken) in
     let line = owing-from (start .pre .0) (start .pre .1) ▹ c .before .before .before .add-name .ensures in (
@@ -36,11 +37,11 @@ returns c =
     let global = c .before .before .before .before .before .before .before .before .before .is-global-context .ensures in
     let at = alone (s .scope) (sym (global .0) ∙ c .before .before .before .before .before .before .before .before .if1 .taken) in
     let constant = c .before .before .before .before .before .before .add-name .ensures in
-    let last = c .before .before .put-wide .ensures in
+    let last = c .before .before .put-bx .ensures in
     let line = owing-from (start .pre .0) (start .pre .1) ▹ constant ▹ last in (
       ends _ line (record { words = omega arith; locals = omega arith; names = omega (arith, at .depth, at .block); still = λ z. omega (arith, z); visits = omega arith })
           (λ ps. name-result-chain (s .node) (s .token) _ _ (known _ _ _ ps) _ _ (global .1 _ _ (start .pre .0 .sound) ps) .0 (c .before .before .before .before .before .before .before .before .if1 .taken) _ (constant .runs ps) _ (known _ _ _ ps) _ (last .runs ps)),
-      here line (λ g. omega (arith, due (s .step .outcome) (start .pre .2) (line .moves .back g), put-keeps _ _ last g .result)),
+      here line (λ g. omega (arith, due (outcome-of (s .step)) (start .pre .2) (line .moves .back g), put-keeps _ _ last g .result)),
     )
 
 returns-2 : tie.Need-returns-2
@@ -62,7 +63,7 @@ name-result-spec =
     (tie.spec
     (λ c κs. search needs)
     (λ c κs. search needs)
-    put-wide-requires
+    put-bx-requires
     allocate-register-requires
     (λ c. search needs)
     returns

@@ -2,6 +2,7 @@
 use borrow.Author.Tests.{eq-eqb, ne-eqb}
 use native.Mathlib.Omega.{arith}
 use Rattle.store.specs.Promise.{uses}
+use Rattle.store.specs.Store.{result-of}
 use Rattle.store.proofs.Runs.{leaf-absorbed}
 use Rattle.meaning.specs.declared.Cause.the-variants.{Returned}
 use Rattle.forward.specs.Forward.{pick, end-return}
@@ -19,7 +20,7 @@ unfolding end-return pick
 returns-2 c =
     let start = c .before .before .before .before .before in
     let a = start .args in
-    rw ((c .refuse) .ensures) (refusing (uses 2 0 0) _ Returned (a .node) (start .pre .0) ((c .before .before .enum-told) .given .1) (λ t. rw (eq-eqb (a .step .result) 254 ((c .before .if1) .taken))))
+    rw ((c .refuse) .ensures) (refusing (uses 2 0 0) _ Returned (a .node) (start .pre .0) ((c .before .before .enum-told) .given .1) (λ t. rw (eq-eqb (result-of (a .step)) 254 ((c .before .if1) .taken))))
 
 pack-requires : tie.Need-pack-requires
 pack-requires c κs =
@@ -39,7 +40,7 @@ returns-3 c =
     let on = told .given .1 in
     let room = room-for 2 fine on (start .pre .1) in
     let one = spell (starts fine) ((c .before .before .before .before .before .pack) .ensures) ((c .before .before .before .write-cell) .ensures) (omega (arith, room)) in
-    rw (c .advance .ensures) (coded 0 2 _ fine on one (omega arith) (omega arith) (omega arith) (λ t. rw (ne-eqb (a .step .result) 254 (if1 .left))))
+    rw (c .advance .ensures) (coded 0 2 _ fine on one (omega arith) (omega arith) (omega arith) (λ t. rw (ne-eqb (result-of (a .step)) 254 (if1 .left))))
 
 pub end-return-spec : {M : Type 1} → statement M
 end-return-spec =

@@ -11,6 +11,7 @@ use Rattle.forward.proofs.Chains.{return-none-chain}
 use Rattle.store.specs.Promise.{uses}
 use Rattle.store.proofs.Compose.{room-by}
 use Rattle.store.specs.Cell.{Bytes}
+use Rattle.store.specs.Store.{outcome-of}
 use Rattle.routines.proofs.Held.{inside, node}
 use Rattle.routines.proofs.NodeLine.{one, always, small-put, gives}
 use Rattle.routines.proofs.return_stmt.return_none.Statement.{statement}
@@ -24,7 +25,7 @@ return-of-requires c κs =
 put-requires : tie.Need-put-requires
 put-requires c κs =
     let start = c .before .before .before .before .before in
-    let going = start .args .step .outcome in
+    let going = outcome-of (start .args .step) in
     let bytes : Bytes 20 0 0 0 = record { op-small = lit< tt; a-small = lit< tt; b-small = lit< tt; c-small = lit< tt } in
     let limit : 0 < 1024 = lit< tt in
     (start .pre .0 .fine, room-by 0 2 0 (omega arith) (omega arith) (start .pre .0 .room), always going bytes, always going limit)

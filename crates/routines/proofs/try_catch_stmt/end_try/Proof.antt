@@ -3,7 +3,7 @@ use denote.Ref.{now}
 use Rattle.store.specs.Layout.{inst-at}
 use native.Mathlib.Omega.{arith}
 use Rattle.store.specs.Promise.{uses}
-use Rattle.store.specs.Store.{top-of}
+use Rattle.store.specs.Store.{top-of, pc-of}
 use Rattle.store.proofs.Runs.{leaf-absorbed}
 use Rattle.store.proofs.Tables.{tab-length}
 use Rattle.forward.specs.Forward.{end-try}
@@ -48,15 +48,15 @@ unfolding end-try
 returns-2 c =
     let start = c .before .before .before .before .before .before .before .before .before .before .before .before .before in
     let told = c .before .before .before .before .before .before .before .before .before .before .enum-told in
-    let pack-wide = c .before .before .before .before .before .before .before .before .before .pack-wide in
+    let pack-bx = c .before .before .before .before .before .before .before .before .before .pack-bx in
     let write = c .before .before .before .before .before .before .before .write-cell in
     let a = start .args in
     let fine = start .pre .0 in
     let on = told .given .1 in
     let h = met on (start .pre .1) in
-    let one = spell-over (starts fine) (pack-wide .ensures) (write .ensures) (omega (arith, h .0, h .1)) in
+    let one = spell-over (starts fine) (pack-bx .ensures) (write .ensures) (omega (arith, h .0, h .1)) in
     let two = spell-anew one ((c .before .before .before .patch-first) .ensures) (omega (arith, fine .room)) in
-    rw (c .settle .ensures) (coded 0 0 _ fine on two (omega arith) (omega arith) (omega arith) (λ t. rw (tab-length (inst-at (now (a .work)) (top-of (a .scope))) (a .step .pc))))
+    rw (c .settle .ensures) (coded 0 0 _ fine on two (omega arith) (omega arith) (omega arith) (λ t. rw (tab-length (inst-at (now (a .work)) (top-of (a .scope))) (pc-of (a .step)))))
 
 pub end-try-spec : {M : Type 1} → statement M
 end-try-spec =

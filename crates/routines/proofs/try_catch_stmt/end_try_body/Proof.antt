@@ -2,6 +2,7 @@
 use mathlib.Core.Path.{refl}
 use native.Mathlib.Omega.{arith}
 use Rattle.store.specs.Promise.{uses}
+use Rattle.store.specs.Store.{result-of}
 use Rattle.store.proofs.Runs.{leaf-absorbed}
 use Rattle.meaning.specs.Opcode.{inst, Jmp, DeregisterTryCatch}
 use Rattle.forward.specs.Forward.{end-try-body}
@@ -25,7 +26,7 @@ returns-2 c =
     let room = room-for 4 fine on (start .pre .1) in
     let one = spell {i = inst DeregisterTryCatch 0 0 0} (starts fine) (record { is = λ m. refl }) (write .ensures) (omega (arith, room)) in
     let two = spell {i = inst Jmp 0 0 0} one (record { is = λ m. refl }) ((c .before .before .before .write-cell2) .ensures) (omega (arith, room)) in
-    rw (c .advance .ensures) (coded (start .args .step .result) 4 _ fine on (as-many (omega arith) two) (omega arith) (omega arith) (result-small fine on) (λ t. refl))
+    rw (c .advance .ensures) (coded (result-of (start .args .step)) 4 _ fine on (as-many (omega arith) two) (omega arith) (omega arith) (result-small fine on) (λ t. refl))
 
 pub end-try-body-spec : {M : Type 1} → statement M
 end-try-body-spec =

@@ -8,6 +8,7 @@ use Rattle.store.specs.Search.{option-of}
 use Rattle.store.specs.Promise.{nothing}
 use Rattle.store.proofs.Compose.{known, settled}
 use Rattle.store.specs.Cell.{Bytes}
+use Rattle.store.specs.Store.{outcome-of, result-of}
 use Rattle.routines.proofs.Held.{not-found, found-small}
 use Rattle.routines.proofs.NodeLine.{one, asked, _▹_, room-after, always, small-emit, gives, told-by}
 use Rattle.routines.proofs.variable_expr.visit_variable_expr.Statement.{statement}
@@ -24,7 +25,7 @@ returns c =
     let small = found-small e (get-var-register .ensures .1) in
     let d = settled (a .step) (local .given .0 .0) (omega arith) (start .pre .0) in
     rw (settle .ensures) (gives nothing (one d) (omega arith) (omega arith) (omega arith) (λ z. omega arith) (omega arith)
-    (λ ps. variable-chain _ _ _ _ _ (told-by (ap option-of e) (get-var-register .ensures .0 (a .step) ps)) _ (d .runs ps)) (always (a .step .outcome) small))
+    (λ ps. variable-chain _ _ _ _ _ (told-by (ap option-of e) (get-var-register .ensures .0 (a .step) ps)) _ (d .runs ps)) (always (outcome-of (a .step)) small))
 
 visit-outside-requires : tie.Need-visit-outside-requires
 visit-outside-requires c κs =
@@ -54,11 +55,11 @@ emit-requires c κs =
     let capture = c .before .before .before .before .before .before .capture in
     let start = c .before .before .before .before .before .before .before .before .before .before .before .before .before .before .before .before .before in
     let line = asked (get-upvalue .ensures .0) ▹ one (next-register .ensures .0) in
-    let register = next-register .result .result in
+    let register = result-of (next-register .result) in
     let small = next-register .ensures .1 in
     let index = found-small (capture .given .1) (get-upvalue .ensures .1) in
     let bytes : Bytes 22 register (capture .given .0 .0) 0 = record { op-small = lit< tt; a-small = omega arith; b-small = omega arith; c-small = lit< tt } in
-    (line .moves .fine, room-after 0 2 0 line (start .pre .1) (omega arith) (omega arith) (omega arith), always (next-register .result .outcome) bytes)
+    (line .moves .fine, room-after 0 2 0 line (start .pre .1) (omega arith) (omega arith) (omega arith), always (outcome-of (next-register .result)) bytes)
 
 returns-3 : tie.Need-returns-3
 returns-3 c =

@@ -1,5 +1,5 @@
 -- What an instruction needs at its place, and code of which every instruction has it.
--- The idea: an instruction is judged with so many instructions before it and so many after it (Fine). What is so with few around it is so
+-- The idea: an instruction is judged with so many instructions before it and so many after it (Obeys). What is so with few around it is so
 -- with more, so chunks are joined by weakening, without any arithmetic of indices. The jumps of a finished chunk lead to its own
 -- instructions or just past the last. The limit of 16 bits stands inside the fact of a jump, and is used once, where a function ends.
 use Prim.Native.Nat.{ℕ, zero, suc, _+_, _≤_, _<_}
@@ -82,26 +82,26 @@ Any x = Unit {0}
 abbrev pub Creates : (registers captures : ℕ) → Proto → Type 0
 Creates r n q = All (Fits r n) (q .captures)
 
-abbrev pub FineAs : Kind → View → (before after : ℕ) → Instruction → Type 0
-FineAs jump v b e x = Leap (v .loops) b e x
-FineAs test v b e x = 1 ≤ e
-FineAs handler v b e x = bx x ≤ e + 1
-FineAs constant-of v b e x = Holds Any (v .constants) (bx x)
-FineAs name-of v b e x = Holds IsText (v .constants) (bx x)
-FineAs capture-of v b e x = x .b < v .captures
-FineAs closure-of v b e x = Holds (Creates (v .registers) (v .captures)) (v .prototypes) (bx x)
-FineAs calls v b e x = (0 < x .b) × (0 < x .c)
-FineAs plain v b e x = Unit {0}
-FineAs never v b e x = ⊥
+abbrev pub ObeysAs : Kind → View → (before after : ℕ) → Instruction → Type 0
+ObeysAs jump v b e x = Leap (v .loops) b e x
+ObeysAs test v b e x = 1 ≤ e
+ObeysAs handler v b e x = bx x ≤ e + 1
+ObeysAs constant-of v b e x = Holds Any (v .constants) (bx x)
+ObeysAs name-of v b e x = Holds IsText (v .constants) (bx x)
+ObeysAs capture-of v b e x = x .b < v .captures
+ObeysAs closure-of v b e x = Holds (Creates (v .registers) (v .captures)) (v .prototypes) (bx x)
+ObeysAs calls v b e x = (0 < x .b) × (0 < x .c)
+ObeysAs plain v b e x = Unit {0}
+ObeysAs never v b e x = ⊥
 
 -- an instruction with so many before it and so many after it
-abbrev pub Fine : View → (before after : ℕ) → Instruction → Type 0
-Fine v b e x = All (λ r. r < v .registers) (met x) × FineAs (kind (x .opcode)) v b e x
+abbrev pub Obeys : View → (before after : ℕ) → Instruction → Type 0
+Obeys v b e x = All (λ r. r < v .registers) (met x) × ObeysAs (kind (x .opcode)) v b e x
 
 -- code with at least b instructions before it and e after it
 abbrev pub Sane : View → (b e : ℕ) → List Instruction → Type 0
 Sane v b e [] = Unit {0}
-Sane v b e (x ∷ xs) = Fine v b (length xs + e) x × Sane v (suc b) e xs
+Sane v b e (x ∷ xs) = Obeys v b (length xs + e) x × Sane v (suc b) e xs
 
 -- ---- lists
 
@@ -194,7 +194,7 @@ leap-more l b e l' b' e' x hl hb he (lands z f) =
 leap-more l b e l' b' e' x hl hb he (continues z f) = continues z (le-trans f hl)
 leap-more l b e l' b' e' x hl hb he (breaks z f) = breaks z (le-trans f hl)
 
-fine-as-more : (κ : Kind) (v w : View) (b e b' e' : ℕ) (x : Instruction) → Wider v w → b ≤ b' → e ≤ e' → FineAs κ v b e x → FineAs κ w b' e' x
+fine-as-more : (κ : Kind) (v w : View) (b e b' e' : ℕ) (x : Instruction) → Wider v w → b ≤ b' → e ≤ e' → ObeysAs κ v b e x → ObeysAs κ w b' e' x
 fine-as-more jump v w b e b' e' x g hb he h = leap-more (v .loops) b e (w .loops) b' e' x (g .loops) hb he h
 fine-as-more test v w b e b' e' x g hb he h = le-trans h he
 fine-as-more handler v w b e b' e' x g hb he h = omega arith
@@ -207,7 +207,7 @@ fine-as-more calls v w b e b' e' x g hb he h = h
 fine-as-more plain v w b e b' e' x g hb he h = tt
 fine-as-more never v w b e b' e' x g hb he h = h
 
-pub fine-more : (v w : View) (b e b' e' : ℕ) (x : Instruction) → Wider v w → b ≤ b' → e ≤ e' → Fine v b e x → Fine w b' e' x
+pub fine-more : (v w : View) (b e b' e' : ℕ) (x : Instruction) → Wider v w → b ≤ b' → e ≤ e' → Obeys v b e x → Obeys w b' e' x
 fine-more v w b e b' e' x g hb he h = (all-more _ _ (met x) (λ r k. le-trans k (g .registers)) (h .0), fine-as-more (kind (x .opcode)) v w b e b' e' x g hb he (h .1))
 
 pub sane-more : (v w : View) (b e b' e' : ℕ) (xs : List Instruction) → Wider v w → b ≤ b' → e ≤ e' → Sane v b e xs → Sane w b' e' xs
@@ -215,8 +215,8 @@ sane-more v w b e b' e' [] g hb he h = tt
 sane-more v w b e b' e' (x ∷ xs) g hb he h = (fine-more v w b _ b' _ x g hb (omega arith) (h .0), sane-more v w (suc b) e (suc b') e' xs g (omega arith) he (h .1))
 
 -- with more around it
-pub fine-at : (v : View) (b e b' e' : ℕ) (x : Instruction) → b ≤ b' → e ≤ e' → Fine v b e x → Fine v b' e' x
-fine-at v b e b' e' x hb he h = fine-more v v b e b' e' x (wider-same v) hb he h
+pub obeys-at : (v : View) (b e b' e' : ℕ) (x : Instruction) → b ≤ b' → e ≤ e' → Obeys v b e x → Obeys v b' e' x
+obeys-at v b e b' e' x hb he h = fine-more v v b e b' e' x (wider-same v) hb he h
 
 pub sane-at : (v : View) (b e b' e' : ℕ) (xs : List Instruction) → b ≤ b' → e ≤ e' → Sane v b e xs → Sane v b' e' xs
 sane-at v b e b' e' xs hb he h = sane-more v v b e b' e' xs (wider-same v) hb he h
@@ -244,7 +244,7 @@ in-a-loop v xs h = widen xs (wider-looped v) h
 pub join-at : (v : View) (b e : ℕ) (xs ys : List Instruction) → Sane v b (length ys + e) xs → Sane v (b + length xs) e ys → Sane v b e (xs ++ ys)
 join-at v b e [] ys h k = sane-at v _ e b e ys (omega arith) (le-refl _) k
 join-at v b e (x ∷ xs) ys h k = (
-  fine-at v b _ b _ x (le-refl _) (omega (arith, length-append xs ys)) (h .0),
+  obeys-at v b _ b _ x (le-refl _) (omega (arith, length-append xs ys)) (h .0),
   join-at v (suc b) e xs ys (h .1) (sane-at v _ e _ e ys (omega arith) (le-refl _) k),
 )
 
@@ -256,9 +256,9 @@ pub join-after : (v : View) (xs ys : List Instruction) → Sane v 0 0 xs → San
 join-after v xs ys h k = join-at v 0 0 xs ys (shift v 0 _ xs h) (sane-at v _ 0 _ 0 ys (omega arith) (le-refl _) k)
 
 -- one instruction more at the end
-pub plus-one : (v : View) (xs : List Instruction) (x : Instruction) → Sane v 0 0 xs → Fine v 0 0 x → Sane v 0 0 (xs ++ x ∷ [])
-plus-one v xs x h k = join v xs (x ∷ []) h (fine-at v 0 0 0 _ x (le-refl _) (omega arith) k, tt)
+pub plus-one : (v : View) (xs : List Instruction) (x : Instruction) → Sane v 0 0 xs → Obeys v 0 0 x → Sane v 0 0 (xs ++ x ∷ [])
+plus-one v xs x h k = join v xs (x ∷ []) h (obeys-at v 0 0 0 _ x (le-refl _) (omega arith) k, tt)
 
 -- one instruction more at the start
-pub one-plus : (v : View) (x : Instruction) (xs : List Instruction) → Fine v 0 0 x → Sane v 0 0 xs → Sane v 0 0 (x ∷ xs)
-one-plus v x xs k h = (fine-at v 0 0 0 _ x (le-refl _) (omega arith) k, shift v 1 0 xs h)
+pub one-plus : (v : View) (x : Instruction) (xs : List Instruction) → Obeys v 0 0 x → Sane v 0 0 xs → Sane v 0 0 (x ∷ xs)
+one-plus v x xs k h = (obeys-at v 0 0 0 _ x (le-refl _) (omega arith) k, shift v 1 0 xs h)
