@@ -1,7 +1,7 @@
 // The walk over the fields of an image in order: which of them are instructions that are replaced.
+use fields::as_size;
 use fields::is_whole;
 use fields::span_of;
-use fields::as_size;
 use fields::word;
 use reader::is_replaced;
 ghost use mathlib.Core.Path.{_≡_};
@@ -19,6 +19,13 @@ pub struct Course {
     pub code: usize,
     pub index: usize,
 }
+
+// Before the first field.
+pub(crate) const START: Course = Course {
+    met: 0,
+    code: 0,
+    index: 0,
+};
 
 // The field at the front is an instruction that is replaced.
 pub(crate) fn is_hit(t: &[u8], tag: u8, c: Course) -> bool
@@ -72,11 +79,7 @@ pub(crate) fn count(image: &[u8], tag: u8) -> usize
     ensures { λ r. ⌜ r ≡ length (listed-in tag (now (image .entry))) ⌝ }
 {
     let mut t = image;
-    let mut c = Course {
-        met: 0,
-        code: 0,
-        index: 0,
-    };
+    let mut c = START;
     let mut entries: usize = 0;
     while is_whole(t) {
         entries = entries + hits(t, tag, c);
