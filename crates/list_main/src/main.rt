@@ -19,31 +19,28 @@ fn main() {
 }
 
 fn started(room: &mut [u8]) {
-    let n = io::read_full(0, room);
     let alone = 1 < os::arg_count();
-    if n < room.len() {
-        told(&room[0..n], alone);
-        return;
-    }
-    if alone {
+    if !is_held(b"", room, alone) & alone {
         large(room, 1);
     }
 }
 
-// One byte more than 256 prototypes of 13 bytes, each with 65,535 captures of 5 and as many instructions of 11, and 1,024 constants of 11.
 fn large(read: &[u8], turns: usize) {
     if programs::never() && 0 < turns {
         large(read, turns - 1);
     }
-    let mut room = [0u8; 268445953];
-    more(read, &mut room);
+    let mut room = [0u8; programs::IMAGE_ROOM];
+    is_held(read, &mut room, true);
 }
 
-fn more(read: &[u8], room: &mut [u8]) {
+// The room holds the image, which is told then.
+fn is_held(read: &[u8], room: &mut [u8], alone: bool) -> bool {
     let n = programs::filled(read, room);
     if n < room.len() {
-        told(&room[0..n], true);
+        told(&room[0..n], alone);
+        return true;
     }
+    false
 }
 
 // The text is for a line.

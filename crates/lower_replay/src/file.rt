@@ -18,16 +18,23 @@ pub struct Case {
 }
 
 // So many bytes on, or the end.
+fn within(end: usize, at: usize, n: usize) -> usize
+    ensures { λ r. ⌜ r ≤ end ⌝ }
+{
+    if end < at {
+        return end;
+    }
+    if end - at < n {
+        return end;
+    }
+    at + n
+}
+
+// In the buffer.
 pub(crate) fn forth(at: usize, n: usize) -> usize
     ensures { λ r. ⌜ r ≤ 1000000 ⌝ }
 {
-    if 1000000 < at {
-        return 1000000;
-    }
-    if 1000000 - at < n {
-        return 1000000;
-    }
-    at + n
+    within(1000000, at, n)
 }
 
 pub(crate) fn byte(text: &[u8; 1000000], at: usize) -> u8 {
@@ -109,13 +116,7 @@ pub(crate) fn case_at(text: &[u8; 1000000], at: usize) -> Case {
 fn onward(at: usize, n: usize) -> usize
     ensures { λ r. ⌜ r ≤ 229372 ⌝ }
 {
-    if 229372 < at {
-        return 229372;
-    }
-    if 229372 - at < n {
-        return 229372;
-    }
-    at + n
+    within(229372, at, n)
 }
 
 fn put(tree: &mut [u8], at: usize, b: u8) {

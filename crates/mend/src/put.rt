@@ -1,5 +1,6 @@
 // The jumps of a copied image replaced, and listed.
 use crate::walk::Course;
+use crate::walk::START;
 use crate::walk::after;
 use crate::walk::is_hit;
 use fields::is_whole;
@@ -70,11 +71,7 @@ pub(crate) fn put_all(image: &[u8], tag: u8, out: &mut [u8], list: &mut [u8])
     ensures { λ _. ⌜ (now (out .exit) ≡ mended-copy tag (now (image .entry)) ++ drop (length (now (image .entry))) (now (out .entry))) × (now (list .exit) ≡ list-bytes (listed-in tag (now (image .entry))) ++ drop (length (list-bytes (listed-in tag (now (image .entry))))) (now (list .entry))) ⌝ }
 {
     let mut t = image;
-    let mut c = Course {
-        met: 0,
-        code: 0,
-        index: 0,
-    };
+    let mut c = START;
     let mut at: usize = 0;
     let mut listed: usize = 0;
     while is_whole(t) {

@@ -20,6 +20,13 @@ pub struct Course {
     pub index: usize,
 }
 
+// Before the first field.
+pub(crate) const START: Course = Course {
+    met: 0,
+    code: 0,
+    index: 0,
+};
+
 // The field at the front is an instruction that is replaced.
 pub(crate) fn is_hit(t: &[u8], tag: u8, c: Course) -> bool
     requires { ⌜ (whole (now t) ≡ true) × (c .code < 65536) ⌝ }
@@ -72,11 +79,7 @@ pub(crate) fn count(image: &[u8], tag: u8) -> usize
     ensures { λ r. ⌜ r ≡ length (listed-in tag (now (image .entry))) ⌝ }
 {
     let mut t = image;
-    let mut c = Course {
-        met: 0,
-        code: 0,
-        index: 0,
-    };
+    let mut c = START;
     let mut entries: usize = 0;
     while is_whole(t) {
         entries = entries + hits(t, tag, c);

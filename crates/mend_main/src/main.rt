@@ -26,12 +26,11 @@ fn few(image: &[u8]) {
     told(image, &mut out, &mut list);
 }
 
-// One byte more than 256 prototypes of 13 bytes, each with 65,535 captures of 5 and as many instructions of 11, and 1,024 constants of 11.
 fn large(read: &[u8], turns: usize) {
     if programs::never() && 0 < turns {
         large(read, turns - 1);
     }
-    let mut room = [0u8; 268445953];
+    let mut room = [0u8; programs::IMAGE_ROOM];
     more(read, &mut room);
 }
 
@@ -47,7 +46,7 @@ fn many(image: &[u8], turns: usize) {
     if programs::never() && 0 < turns {
         many(image, turns - 1);
     }
-    let mut out = [0u8; 268445953];
+    let mut out = [0u8; programs::IMAGE_ROOM];
     let mut list = [0u8; 134215680];
     told(image, &mut out, &mut list);
 }

@@ -10,6 +10,9 @@ pub fn never() -> bool {
     libc::getpid() == 0
 }
 
+// One byte more than the longest image: 256 prototypes of 13 bytes, each with 65,535 captures of 5 and as many instructions of 11, and 1,024 constants of 11.
+pub const IMAGE_ROOM: usize = 268445953;
+
 // What was read so far goes to the front of the room, what follows on standard input behind it.
 pub fn filled(read: &[u8], room: &mut [u8]) -> usize
     ensures { λ r. ⌜ r ≤ length (now (room .entry)) ⌝ }

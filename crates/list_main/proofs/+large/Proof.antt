@@ -10,7 +10,7 @@ use Rattle.list_main.proofs.large.Reads as large
 use Rattle.list_main.proofs.large.Kinds as large-kinds
 use Rattle.list_main.proofs.+large.Lts-large as large-lts
 use Rattle.programs.proofs.never.Reads as never-reads
-use Rattle.list_main.proofs.more.Reads as more-reads
+use Rattle.list_main.proofs.is_held.Reads as is-held-reads
 use Rattle.list_main.proofs.+large.{statement}
 use Rattle.list_main.proofs.+large.Tie.{close}
 
@@ -29,8 +29,8 @@ pub +large-spec : {M : Type 1} → statement M
   never-reads.Learnt,
   large-below t,
   large.Post,
-  more-reads.Asked,
-  more-reads.Learnt,
+  is-held-reads.Asked,
+  is-held-reads.Learnt,
 )
     (large-at t)
     large.Post
