@@ -1,5 +1,5 @@
 -- A payload of fixed length is told by its form: the loop over its words (`Fitting`) is followed over a first word, any words and the expressions at its
--- end, each of which says that the rest is as the rows say. That each start's form is its rows' is one test, computed over the table.
+-- end, each of which says that the rest is as the rows say. That each start's form is its rows' is one test, computed over both tables.
 use mathlib.Core.Path.{_≡_, refl, sym, ap, subst, _∙_}
 use mathlib.Core.Bool.{Bool, true, false, not, _&&_, cond}
 use mathlib.Core.Logic.{_⊎_, inl, inr, ⊎-elim}
@@ -14,7 +14,7 @@ use Rattle.meaning.specs.Fields.{word-at}
 use Rattle.meaning.specs.Grammar.{any, expr, bounds, bound, inside, names, lawful}
 use Rattle.meaning.proofs.Lists.{tail-part, and-left, and-right, false-true, all-to, all-below}
 use Rattle.tree.specs.Rows.{row-list, first-rows, row-at, kind-in, next-in, flow-in, ends-in, next-left, next-row, fits-row}
-use Rattle.tree.specs.Starts.{start-list, start-at, first-in, size-in, children-in, low-in, high-in, like, led, reaches, lead, says, formed, Start}
+use Rattle.tree.specs.Starts.{start-list, first-in, size-in, children-in, low-in, high-in, like, led, reaches, lead, says, formed, Start}
 use Rattle.tree.specs.Scratch.{tags-in, note-word, note-row}
 use Rattle.tree.proofs.Payloads.{Fitting, fitting-start, fitting-more, fitting-stop, fitting-end}
 
@@ -245,7 +245,7 @@ start-says start s h = s .form h
 
 start-right : (wide : Bool) (tag : ℕ) → Bool
 start-right wide tag =
-    let start = start-at wide tag in
+    let start = getD (start-list wide) tag 0 in
     (eqb (first-in start) (getD (first-rows wide) tag 0) && ltb (first-in start) 122) && cond (ltb (size-in start) 65536) (formed start) true
 
 all-right : (wide : Bool) → all-to (start-right wide) 30 ≡ true
@@ -255,7 +255,7 @@ all-right false = refl
 
 module _ (wide : Bool) (tag : ℕ) (h : tag < 30) where
   abbrev it : ℕ
-  it = start-at wide tag
+  it = getD (start-list wide) tag 0
 
   right : start-right wide tag ≡ true
   right = all-below (start-right wide) 30 tag (all-right wide) h

@@ -5,9 +5,8 @@ use Prim.Native.Nat.{ℕ, zero, suc, _+_, _-_, _*_, _/_, _%_, _<_}
 use mathlib.Core.Path.{_≡_}
 use mathlib.Core.Bool.{Bool, true, false, _&&_, cond}
 use mathlib.Core.List.{List, [], _∷_, _++_}
-use lib.ListN.{getD, replicate}
+use lib.ListN.{replicate}
 use lib.Dec.{leb, ltb, eqb}
-use Rattle.meaning.specs.At.{extra}
 use Rattle.meaning.specs.Grammar.{any, expr, bound}
 use Rattle.tree.specs.Rows.{row-at, kind-in, next-in, flow-in, ends-in}
 
@@ -31,30 +30,22 @@ op-led = form 1 2
 abbrev op12-led : (row size children : ℕ) → ℕ
 op12-led = form 1 12
 
--- one by narrow marks and one by wide ones
-abbrev two : (narrow wide : ℕ) → List ℕ
-two n w = n ∷ w ∷ []
-
--- that of a tag without a mark
-abbrev same : ℕ → List ℕ
-same start = two start start
-
--- the starts of each tag but a program's, from 00 on
-unfoldable pub start-list : List (List ℕ)
-start-list =
-    same (no-form 0) ∷ same (any-led 2 8 0) ∷ same (any-led 6 2 0) ∷ same (any-led 7 2 0) ∷ two (name-led 8 4 0) (name-led 78 6 0) ∷
-    two (op-led 10 6 1) (op-led 80 8 1) ∷ two (op12-led 13 8 2) (op12-led 82 10 2) ∷ two (op-led 17 8 2) (op-led 84 10 2) ∷
-    two (no-form 21) (no-form 86) ∷ two (no-form 24) (no-form 88) ∷ same (no-form 0) ∷ same (no-form 0) ∷
-    same (no-form 0) ∷ same (no-form 0) ∷ same (no-form 0) ∷ same (no-form 0) ∷ same (any-led 28 2 1) ∷
-    two (name-led 29 6 1) (name-led 92 8 1) ∷ same (no-form 32) ∷ two (no-form 33) (no-form 94) ∷
-    two (no-form 36) (no-form 95) ∷ two (no-form 41) (no-form 96) ∷ two (any-led 48 2 0) (any-led 106 4 0) ∷
-    two (any-led 49 2 0) (any-led 107 4 0) ∷ two (any-led 50 4 1) (any-led 108 6 1) ∷ two (no-form 52) (no-form 109) ∷
-    same (no-form 59) ∷ two (no-form 61) (no-form 110) ∷ two (no-form 65) (no-form 113) ∷ two (no-form 71) (no-form 120) ∷
+-- the start of each tag but a program's, from 00 on
+unfoldable pub start-list : (wide : Bool) → List ℕ
+start-list false =
+    no-form 0 ∷ any-led 2 8 0 ∷ any-led 6 2 0 ∷ any-led 7 2 0 ∷ name-led 8 4 0 ∷ op-led 10 6 1 ∷
+    op12-led 13 8 2 ∷ op-led 17 8 2 ∷ no-form 21 ∷ no-form 24 ∷ no-form 0 ∷ no-form 0 ∷
+    no-form 0 ∷ no-form 0 ∷ no-form 0 ∷ no-form 0 ∷ any-led 28 2 1 ∷ name-led 29 6 1 ∷
+    no-form 32 ∷ no-form 33 ∷ no-form 36 ∷ no-form 41 ∷ any-led 48 2 0 ∷ any-led 49 2 0 ∷
+    any-led 50 4 1 ∷ no-form 52 ∷ no-form 59 ∷ no-form 61 ∷ no-form 65 ∷ no-form 71 ∷
     []
-
--- the start of a tag
-abbrev pub start-at : (wide : Bool) → (tag : ℕ) → ℕ
-start-at wide tag = getD (getD start-list tag []) (extra wide) 0
+start-list true =
+    no-form 0 ∷ any-led 2 8 0 ∷ any-led 6 2 0 ∷ any-led 7 2 0 ∷ name-led 78 6 0 ∷ op-led 80 8 1 ∷
+    op12-led 82 10 2 ∷ op-led 84 10 2 ∷ no-form 86 ∷ no-form 88 ∷ no-form 0 ∷ no-form 0 ∷
+    no-form 0 ∷ no-form 0 ∷ no-form 0 ∷ no-form 0 ∷ any-led 28 2 1 ∷ name-led 92 8 1 ∷
+    no-form 32 ∷ no-form 94 ∷ no-form 95 ∷ no-form 96 ∷ any-led 106 4 0 ∷ any-led 107 4 0 ∷
+    any-led 108 6 1 ∷ no-form 109 ∷ no-form 59 ∷ no-form 110 ∷ no-form 113 ∷ no-form 120 ∷
+    []
 
 -- ---- what a start says
 

@@ -12,6 +12,7 @@ use crate::starts::HIGH;
 use crate::starts::LOW;
 use crate::starts::SIZE;
 use crate::starts::STARTS;
+use crate::starts::WIDE_STARTS;
 use crate::starts::start_of;
 use fields::is_whole;
 use fields::payload;
@@ -213,8 +214,8 @@ pub(crate) struct Walked {
     pub(crate) wrong: usize,
 }
 
-// One walk over the file, by the tables that are lent: the first `limit` nodes are judged, by marks of two bytes or of four, and the offsets of the
-// first `notes` are noted.
+// One walk over the file, by the tables that are lent: the first `limit` nodes are judged, and the offsets of the first `notes` are noted. The contract
+// alone reads whether marks have four bytes, as the starts say.
 fn walk_by(
     scratch: &mut [u32],
     tree: &[u8],
@@ -222,10 +223,10 @@ fn walk_by(
     notes: usize,
     four: bool,
     rows: &[u32; 122],
-    starts: &[[usize; 2]; 30],
+    starts: &[usize; 30],
     limits: &[u32; 36],
 ) -> Walked
-    requires { ⌜ Apart limit notes (now scratch) × (now rows ≡ row-list) × (now starts ≡ start-list) × (now limits ≡ bounds) ⌝ }
+    requires { ⌜ Apart limit notes (now scratch) × (now rows ≡ row-list) × (now starts ≡ start-list four) × (now limits ≡ bounds) ⌝ }
     ensures count { λ r. ⌜ r .count ≡ length (fields (now (tree .entry))) ⌝ }
     ensures found { λ r. ⌜ (few (r .count) ≤ limit → Found four (now (tree .entry)) (now (scratch .exit)) (r .count) (r .after) (r .wrong)) ⌝ }
     ensures last { λ r. ⌜ r .last ≡ last-tag (fields (now (tree .entry))) ⌝ }
@@ -270,11 +271,10 @@ pub(crate) fn walk(scratch: &mut [u32], tree: &[u8], limit: usize, notes: usize)
     ensures beyond { λ r. ⌜ Beyond (min (r .count) limit) (with-offsets (now (tree .entry)) (min (r .count) notes) (now (scratch .entry))) (now (scratch .exit)) ⌝ }
 {
     let rows = ROWS;
-    let starts = STARTS;
     let limits = LIMITS;
-    let narrow = walk_by(scratch, tree, limit, notes, false, &rows, &starts, &limits);
+    let narrow = walk_by(scratch, tree, limit, notes, false, &rows, &STARTS, &limits);
     if narrow.last != 0x3E {
         return narrow;
     }
-    walk_by(scratch, tree, limit, 0, true, &rows, &starts, &limits)
+    walk_by(scratch, tree, limit, 0, true, &rows, &WIDE_STARTS, &limits)
 }

@@ -1,4 +1,4 @@
-// Where the telling of a payload starts, by its tag and the width of the marks. A start is one number:
+// Where the telling of a payload starts, by its tag. A start is one number:
 //     its row, the first of the tag, in the lowest eight bits
 //     SIZE      times the bytes of a payload that has the tag's form; NO_FORM: no payload has
 //     CHILDREN  times the words at the form's end that are expressions
@@ -8,8 +8,6 @@
 // longer one has the form. specs/Starts.antt has the same table, and proofs/Forms.antt proves that the forms say what the rows say.
 use fields::as_size;
 ghost use mathlib.Core.Path.{_≡_};
-ghost use Prim.Native.Nat.{_<_};
-ghost use Rattle.meaning.specs.At.{extra};
 ghost use Rattle.tree.specs.Rows.{start-of};
 ghost use Rattle.tree.specs.Starts.{start-list, first-in, Start};
 
@@ -32,94 +30,127 @@ const OP12: usize = LOW + 12 * HIGH;
 // no payload is as long
 const NO_FORM: usize = 65536 * SIZE;
 
-// The starts of each tag but a program's, from 00 on: by marks of two bytes and of four, which are the same where a tag has no mark. Row 0 for a number
-// that is no tag.
-pub(crate) const STARTS: [[usize; 2]; 30] = [
+// The start of each tag but a program's, from 00 on; row 0 for a number that is no tag.
+pub(crate) const STARTS: [usize; 30] = [
     // 00: no tag
-    [NO_FORM; 2],
+    0 + NO_FORM,
     // 01 number
-    [2 + 8 * SIZE + ANY; 2],
+    2 + 8 * SIZE + ANY,
     // 02 text
-    [6 + 2 * SIZE + ANY; 2],
+    6 + 2 * SIZE + ANY,
     // 03 other literal
-    [7 + 2 * SIZE + ANY; 2],
+    7 + 2 * SIZE + ANY,
     // 04 variable
-    [8 + 4 * SIZE + NAME, 78 + 6 * SIZE + NAME],
+    8 + 4 * SIZE + NAME,
     // 05 unary
-    [
-        10 + 6 * SIZE + OP + 1 * CHILDREN,
-        80 + 8 * SIZE + OP + 1 * CHILDREN,
-    ],
+    10 + 6 * SIZE + OP + 1 * CHILDREN,
     // 06 binary
-    [
-        13 + 8 * SIZE + OP12 + 2 * CHILDREN,
-        82 + 10 * SIZE + OP12 + 2 * CHILDREN,
-    ],
+    13 + 8 * SIZE + OP12 + 2 * CHILDREN,
     // 07 logical
-    [
-        17 + 8 * SIZE + OP + 2 * CHILDREN,
-        84 + 10 * SIZE + OP + 2 * CHILDREN,
-    ],
+    17 + 8 * SIZE + OP + 2 * CHILDREN,
     // 08 call
-    [21 + NO_FORM, 86 + NO_FORM],
+    21 + NO_FORM,
     // 09 function
-    [24 + NO_FORM, 88 + NO_FORM],
+    24 + NO_FORM,
     // 0A: no tag
-    [NO_FORM; 2],
-    [NO_FORM; 2],
-    [NO_FORM; 2],
-    [NO_FORM; 2],
-    [NO_FORM; 2],
-    [NO_FORM; 2],
+    0 + NO_FORM,
+    0 + NO_FORM,
+    0 + NO_FORM,
+    0 + NO_FORM,
+    0 + NO_FORM,
+    0 + NO_FORM,
     // 10 expression
-    [28 + 2 * SIZE + ANY + 1 * CHILDREN; 2],
+    28 + 2 * SIZE + ANY + 1 * CHILDREN,
     // 11 let
-    [
-        29 + 6 * SIZE + NAME + 1 * CHILDREN,
-        92 + 8 * SIZE + NAME + 1 * CHILDREN,
-    ],
+    29 + 6 * SIZE + NAME + 1 * CHILDREN,
     // 12 block
-    [32 + NO_FORM; 2],
+    32 + NO_FORM,
     // 13 while
-    [33 + NO_FORM, 94 + NO_FORM],
+    33 + NO_FORM,
     // 14 for
-    [36 + NO_FORM, 95 + NO_FORM],
+    36 + NO_FORM,
     // 15 for-in
-    [41 + NO_FORM, 96 + NO_FORM],
+    41 + NO_FORM,
     // 16 break
-    [48 + 2 * SIZE + ANY, 106 + 4 * SIZE + ANY],
+    48 + 2 * SIZE + ANY,
     // 17 continue
-    [49 + 2 * SIZE + ANY, 107 + 4 * SIZE + ANY],
+    49 + 2 * SIZE + ANY,
     // 18 return
-    [
-        50 + 4 * SIZE + ANY + 1 * CHILDREN,
-        108 + 6 * SIZE + ANY + 1 * CHILDREN,
-    ],
+    50 + 4 * SIZE + ANY + 1 * CHILDREN,
     // 19 if
-    [52 + NO_FORM, 109 + NO_FORM],
+    52 + NO_FORM,
     // 1A elif
-    [59 + NO_FORM; 2],
+    59 + NO_FORM,
     // 1B try
-    [61 + NO_FORM, 110 + NO_FORM],
+    61 + NO_FORM,
     // 1C function statement
-    [65 + NO_FORM, 113 + NO_FORM],
+    65 + NO_FORM,
     // 1D class
-    [71 + NO_FORM, 120 + NO_FORM],
+    71 + NO_FORM,
 ];
 
-// Where in the table the starts by marks of four bytes stand, or those of two.
-fn column(four: bool) -> usize
-    ensures { λ r. ⌜ (r ≡ extra four) × (r < 2) ⌝ }
-{
-    if four {
-        return 1;
-    }
-    0
-}
+// The same in a tree of wide marks: tags that have no mark share their rows.
+pub(crate) const WIDE_STARTS: [usize; 30] = [
+    // 00: no tag
+    0 + NO_FORM,
+    // 01 number
+    2 + 8 * SIZE + ANY,
+    // 02 text
+    6 + 2 * SIZE + ANY,
+    // 03 other literal
+    7 + 2 * SIZE + ANY,
+    // 04 variable
+    78 + 6 * SIZE + NAME,
+    // 05 unary
+    80 + 8 * SIZE + OP + 1 * CHILDREN,
+    // 06 binary
+    82 + 10 * SIZE + OP12 + 2 * CHILDREN,
+    // 07 logical
+    84 + 10 * SIZE + OP + 2 * CHILDREN,
+    // 08 call
+    86 + NO_FORM,
+    // 09 function
+    88 + NO_FORM,
+    // 0A: no tag
+    0 + NO_FORM,
+    0 + NO_FORM,
+    0 + NO_FORM,
+    0 + NO_FORM,
+    0 + NO_FORM,
+    0 + NO_FORM,
+    // 10 expression
+    28 + 2 * SIZE + ANY + 1 * CHILDREN,
+    // 11 let
+    92 + 8 * SIZE + NAME + 1 * CHILDREN,
+    // 12 block
+    32 + NO_FORM,
+    // 13 while
+    94 + NO_FORM,
+    // 14 for
+    95 + NO_FORM,
+    // 15 for-in
+    96 + NO_FORM,
+    // 16 break
+    106 + 4 * SIZE + ANY,
+    // 17 continue
+    107 + 4 * SIZE + ANY,
+    // 18 return
+    108 + 6 * SIZE + ANY + 1 * CHILDREN,
+    // 19 if
+    109 + NO_FORM,
+    // 1A elif
+    59 + NO_FORM,
+    // 1B try
+    110 + NO_FORM,
+    // 1C function statement
+    113 + NO_FORM,
+    // 1D class
+    120 + NO_FORM,
+];
 
-// The start of a node: the last node is a program, and no other is.
-pub(crate) fn start_of(starts: &[[usize; 2]; 30], four: bool, tag: u8, last: bool) -> usize
-    requires { ⌜ now starts ≡ start-list ⌝ }
+// The start of a node: the last node is a program, and no other is. The contract alone reads whether marks have four bytes, as the starts say.
+pub(crate) fn start_of(starts: &[usize; 30], four: bool, tag: u8, last: bool) -> usize
+    requires { ⌜ now starts ≡ start-list four ⌝ }
     ensures { λ r. ⌜ (first-in r ≡ start-of four tag last) × Start r ⌝ }
 {
     if last {
@@ -129,7 +160,7 @@ pub(crate) fn start_of(starts: &[[usize; 2]; 30], four: bool, tag: u8, last: boo
         return NO_FORM;
     }
     if tag < 0x1E {
-        return starts[as_size(tag)][column(four)];
+        return starts[as_size(tag)];
     }
     NO_FORM
 }

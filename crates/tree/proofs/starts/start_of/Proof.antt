@@ -20,9 +20,9 @@ unfolding start-of
 returns-2 c = (rw (c .before .if1 .taken, c .if2 .left), record { low = omega arith; form = λ h. absurd (omega (arith, h)) })
 
 returns-3 : tie.Need-returns-3
-returns-3 c = let a = c .before .before in let t = a .before in let s = t .before .before in let four = s .args .four in let tag = s .args .tag in
-    rw (s .pre, a .as-size .ensures .0, c .before .column .ensures .0)
-    (start-row four tag (t .if3 .taken) ∙ start-tag four tag (t .if3 .taken) ∙ rw (t .before .if1 .left), start-is four tag (t .if3 .taken))
+returns-3 c = let t = c .before .before in let s = t .before .before in
+    rw (s .pre, c .before .as-size .ensures .0)
+    (start-row _ _ (t .if3 .taken) ∙ start-tag _ _ (t .if3 .taken) ∙ rw (t .before .if1 .left), start-is _ _ (t .if3 .taken))
 
 returns-4 : tie.Need-returns-4
 returns-4 c = (rw (c .before .if1 .left) (start-none _ _ (c .if3 .left)), record { low = omega arith; form = λ h. absurd (omega (arith, h)) })
@@ -35,9 +35,6 @@ start-of-spec =
     returns
     returns-2
     (λ c κs. search needs)
-    (λ c κs. search needs)
-    (λ c. search needs)
-    (λ c. search needs)
     (λ c. search needs)
     (λ c. search needs)
     returns-3
