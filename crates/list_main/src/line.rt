@@ -43,6 +43,7 @@ fn mark_number(mark: u32, tag: u8) -> u64
 
 // Prototype, index, name, a, b, c, mark, and what is retired; false where the line could not be written.
 pub(crate) fn instruction(
+    names: &[[u8; 18]; 51],
     text: &mut [u8],
     prototype: u64,
     index: u64,
@@ -53,7 +54,7 @@ pub(crate) fn instruction(
 {
     let mut at = number(text, 0, prototype, b' ');
     at = number(text, at, index, b' ');
-    at = names::name(text, at, inst.opcode);
+    at = names::name(names, text, at, inst.opcode);
     at = operands(text, at, inst, mark_number(inst.mark, tag));
     written(text, at)
 }

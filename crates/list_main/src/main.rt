@@ -105,10 +105,11 @@ fn lines(part: &[u8], tag: u8, q: usize, text: &mut [u8]) -> bool
     requires { ⌜ (proto-span (now part) tag ≤ length (now part)) × (160 ≤ length (now text)) ⌝ }
 {
     let count = fields::word(part, 11);
+    let table = names::NAMES;
     let mut i: usize = 0;
     while i < count {
         let inst = reader::instruction(part, tag, i);
-        if !line::instruction(text, q as u64, i as u64, inst, tag) {
+        if !line::instruction(&table, text, q as u64, i as u64, inst, tag) {
             return false;
         }
         i += 1;

@@ -8,7 +8,7 @@ ghost use lib.Dec.{eqb};
 ghost use lib.ListN.{length};
 
 // From 0 on (src/instruction.rs, enum OpCode), each with blanks behind it.
-const NAMES: [[u8; 18]; 51] = [
+pub(crate) const NAMES: [[u8; 18]; 51] = [
     *b"Move              ",
     *b"LoadK             ",
     *b"LoadNil           ",
@@ -62,15 +62,15 @@ const NAMES: [[u8; 18]; 51] = [
     *b"GetExcept         ",
 ];
 
-// Puts the name of an opcode at a place, and a blank behind it. The reader takes none above 50.
-pub(crate) fn name(text: &mut [u8], at: usize, opcode: u8) -> usize
+// Puts the name of an opcode at a place, and a blank behind it. The reader takes none above 50. The table is lent: a constant is copied where it is named.
+pub(crate) fn name(names: &[[u8; 18]; 51], text: &mut [u8], at: usize, opcode: u8) -> usize
     requires { ⌜ at + 18 < length (now text) ⌝ }
     ensures { λ r. ⌜ r ≤ at + 19 ⌝ }
 {
     if 50 < opcode {
         return at;
     }
-    row(text, at, &NAMES[as_size(opcode)])
+    row(text, at, &names[as_size(opcode)])
 }
 
 // What stands in a row before its blanks.

@@ -8,10 +8,10 @@ use Rattle.list_main.proofs.lines.Statement.{statement}
 use Rattle.list_main.proofs.lines.Tie as tie
 
 abbrev Inv-loop : tie.InvT-loop
-Inv-loop part tag q text₀ count i₀ text i = (count ≡ word-at part 11) × (length text ≡ length text₀)
+Inv-loop part tag q text₀ count table i₀ text i = (count ≡ word-at part 11) × (length text ≡ length text₀)
 
 abbrev μ-loop : tie.MeasureT-loop
-μ-loop part tag q text₀ count i₀ text i = count - i
+μ-loop part tag q text₀ count table i₀ text i = count - i
 
 pub lines-spec : {M : Type 1} → statement M
 lines-spec =
