@@ -52,6 +52,15 @@ static void prepare(void)
     pthread_key_create(&ending, end);
 }
 
+/* The same file, above the numbers that a child has its own under: other threads open and close files meanwhile, so any number may be told. */
+static int aside(int file)
+{
+    int other = fcntl(file, F_DUPFD_CLOEXEC, 4);
+    if (other < 0) fail("no file to share");
+    close(file);
+    return other;
+}
+
 /* One child for each thread. */
 static void start(void)
 {
@@ -61,6 +70,7 @@ static void start(void)
     if (memory < 0 || ftruncate(memory, SHARED) || pipe2(ask, O_CLOEXEC) || pipe2(tell, O_CLOEXEC)) fail("no memory to share");
     child.shared = mmap(NULL, SHARED, PROT_READ | PROT_WRITE, MAP_SHARED | MAP_NORESERVE, memory, 0);
     if (child.shared == MAP_FAILED) fail("no memory to share");
+    memory = aside(memory), ask[0] = aside(ask[0]), tell[1] = aside(tell[1]);
     posix_spawn_file_actions_init(&actions);
     posix_spawn_file_actions_adddup2(&actions, memory, 3);
     posix_spawn_file_actions_adddup2(&actions, ask[0], 0);
