@@ -49,27 +49,34 @@ def lines(listed, image):
         yield f"mended: prototype {prototype}, instruction {index}, {marked}: Jmp {a} {b} {c}{what} led to {to}{where}\n"
 
 
-def write(name, data):
-    """A file is written beside its name and then renamed; a device, a pipe or a link is written to."""
+def beside(name, data):
+    """The data in a file beside the name that it is to have, and that file's name; none where a device, a pipe or a link has the name."""
     if os.path.islink(name) or (os.path.exists(name) and not os.path.isfile(name)):
-        with open(name, "wb") as file:
-            file.write(data)
-        return
+        return None
     part = tempfile.NamedTemporaryFile(dir=os.path.dirname(name) or ".", prefix=".mend.", delete=False)
     try:
         with part:
             part.write(data)
         os.umask(mask := os.umask(0))
         os.chmod(part.name, 0o666 & ~mask)
-        os.replace(part.name, name)
     except BaseException:
         os.unlink(part.name)
         raise
+    return part.name
 
 
-def written(name, data):
+def poured(name, data):
+    with open(name, "wb") as file:
+        file.write(data)
+
+
+def named(name, part):
+    os.replace(part, name)
+
+
+def tried(do, name, *words):
     try:
-        write(name, data)
+        return do(name, *words)
     except OSError as problem:
         raise Failed(f"{name} cannot be written") from problem
 
@@ -82,6 +89,25 @@ def printed(data):
         raise Failed("the image could not be written") from problem
 
 
+def write(files, image):
+    """All of it or, as far as it can be taken back, nothing: no file has its name before every byte is written, those to standard output too."""
+    parts = {}
+    try:
+        for name, data in files:
+            parts[name] = tried(beside, name, data)
+        for name, data in files:
+            if not parts[name]:
+                tried(poured, name, data)
+        if image is not None:
+            printed(image)
+        for name in [name for name in parts if parts[name]]:
+            tried(named, name, parts[name])
+            parts[name] = None
+    finally:
+        for part in filter(None, parts.values()):
+            os.unlink(part)
+
+
 def main(made, shown, output, listing):
     with open(made, "rb") as file:
         number, place, listed, image = taken_apart(file.read())
@@ -89,12 +115,7 @@ def main(made, shown, output, listing):
         words = CAUSES[number].format(place) if number in CAUSES else f"by cause {number} at {place}"
         print(f"refused {number} {words} ({shown.translate({c: '?' for c in [*range(32), 127]})})", file=sys.stderr)
         return 1
-    if listing:
-        written(listing, listed)
-    if output:
-        written(output, image)
-    else:
-        printed(image)
+    write([(name, data) for name, data in ((listing, listed), (output, image)) if name], None if output else image)
     sys.stderr.writelines(lines(listed, image))
     return 0
 
