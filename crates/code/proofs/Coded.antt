@@ -1,6 +1,6 @@
 -- A step that changes the pending code alone keeps its promise if the instructions are as the operation wants them; one that refuses changes no word.
 -- Assumes nothing.
-use mathlib.Core.Path.{◌≡◌, refl, sym, ap, ◌∙◌}
+use mathlib.Core.Path.{◌≡◌, refl, ap, ◌∙◌}
 use mathlib.Core.List.{List, [], ◌∷◌, ◌++◌}
 use Prim.Native.Nat.{ℕ, ◌+◌, ◌*◌, ◌-◌, ◌<◌, ◌≤◌}
 use native.Mathlib.Omega.{arith}
@@ -42,13 +42,6 @@ result_small {w} {p} {s} fine on = cases (outcome_of s) on fine.result
     cases : {x : ℕ} (o : Outcome) → o ≡ Accepted x → result_of s < result_limit o → result_of s < 1024
     cases (Accepted y) e h = h
     cases (Refused k n) e h = omega arith
-
-pub result_due : {w : List ℕ} {p : Scope} {s : Step} → Fine w p s → while_going (outcome_of s) (result_of s < 1024)
-result_due {w} {p} {s} fine = cases (outcome_of s) fine.result
-  where
-    cases : (o : Outcome) → result_of s < result_limit o → while_going o (result_of s < 1024)
-    cases (Accepted y) small = small
-    cases (Refused k n) small = tt
 
 -- what is written starts with the code that there is
 pub starts : {w : List ℕ} {p : Scope} {s : Step} → Fine w p s → Spelled w w (top_of p) (first_local (nodes_of p) + edge w (nodes_of p) (block_of p)) (pc_of s) (tab (inst_at w (top_of p)) (pc_of s))

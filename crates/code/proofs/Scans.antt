@@ -4,7 +4,6 @@ use mathlib.Core.Bool.{true, false}
 use mathlib.Core.List.{List, [], ◌∷◌, ◌++◌, append_assoc, append-nil}
 use Prim.Native.Nat.{ℕ, zero, suc, ◌+◌, ◌*◌, ◌-◌, ◌<◌, ◌≤◌}
 use native.Mathlib.Omega.{arith}
-use native.Mathlib.Decide.{ℕ_discrete}
 use lib.ListN.{length, get_or, set, take, drop, length-set}
 use lib.Seq.{get_or-set_other}
 use Rattle.store.specs.Table.{tab}
@@ -44,30 +43,6 @@ pub record Scanning (w w' : List ℕ) (top first i : ℕ) (f : ℕ → Instructi
   pub same : length w' ≡ length w
   pub other : (j : ℕ) → (top - 2 * i ≤ j → top - 2 * first ≤ j) → get_or w' j 0 ≡ get_or w j 0
   pub turned : (k : ℕ) → first ≤ k → k < i → inst_at w' top k ≡ f (k - first) (inst_at w top k)
-
-pub scan_starts : (w : List ℕ) (top first : ℕ) (f : ℕ → Instruction → Instruction) → Scanning w w top first first f
-scan_starts w top first f = record { same = refl; other = λ j h. refl; turned = λ k a b. absurd (omega arith) }
-
-module _ {w w' : List ℕ} {top first i : ℕ} {f : ℕ → Instruction → Instruction} (scan : Scanning w w' top first i f) (lo : first ≤ i) (hi : 2 * i + 2 ≤ top) (long : top ≤ length w') where
-  -- the words of instruction i are as they were
-  fresh : (j : ℕ) → j < top - 2 * i → get_or w' j 0 ≡ get_or w j 0
-  fresh j h = scan.other j (λ k. absurd (omega arith))
-
-  pub scan_step : {y : ℕ} → Turns (get_or w' (cell top i) 0) (f (i - first)) y → Scanning w (set w' (cell top i) y) top first (i + 1) f
-  scan_step {y} turns =
-      record {
-        same = length-set w' (cell top i) y ∙ scan.same;
-        other = λ j h. get_or-set_other w' (cell top i) j y 0 (λ e. past j e (h (omega arith))) ∙ scan.other j (λ k. h (omega arith));
-        turned = λ k a b. cases k a b (ℕ_discrete k i);
-      }
-    where
-      past : (j : ℕ) → j ≡ cell top i → top - 2 * first ≤ j → ⊥
-      past j e k = omega arith
-
-      cases : (k : ℕ) → first ≤ k → k < i + 1 → Dec (k ≡ i) → inst_at (set w' (cell top i) y) top k ≡ f (k - first) (inst_at w top k)
-      cases k a b (yes e) =
-          rw e (word_here w' top i y hi long ∙ turns.is (get_or w' (mark_cell top i) 0) ∙ ap₂ (λ x m. f (i - first) (unpacked x m)) (fresh (cell top i) (omega arith)) (fresh (mark_cell top i) (omega arith)))
-      cases k a b (no e) = word_else w' top i y hi long k (omega arith) e ∙ scan.turned k a (omega arith)
 
 module _ {w w' : List ℕ} {top first : ℕ} {f : ℕ → Instruction → Instruction} (g : List Instruction → List Instruction) where
   -- the region has m instructions
@@ -123,13 +98,6 @@ module _ (w : List ℕ) (top first offset : ℕ) where
   abbrev pub None : ℕ → Type 0
   None i = (k : ℕ) → first ≤ k → k < i → is_end_jump (inst_at w top k) ≡ false
 
-  pub none_more : (i : ℕ) → None i → is_end_jump (inst_at w top i) ≡ false → None (i + 1)
-  none_more i none is k a b = cases (ℕ_discrete k i)
-    where
-      cases : Dec (k ≡ i) → is_end_jump (inst_at w top k) ≡ false
-      cases (yes e) = rw e is
-      cases (no e) = none k a (omega arith)
-
   pub first_none : (end : ℕ) → first ≤ end → None end → Recoded w top end end (mended (patch_first offset) first) w
   first_none end le none = subst (λ k. Recoded w top k k (mended (patch_first offset) first) w) (omega arith) (done (end - first) (λ k a b. none k a (omega arith)))
     where
@@ -158,7 +126,7 @@ module _ (w : List ℕ) (top first offset : ℕ) where
       done : (r : ℕ) → 2 * (first + (i - first + suc r)) ≤ top → Recoded w top (first + (i - first + suc r)) (first + (i - first + suc r)) (mended (patch_first offset) first) (set w (cell top i) y)
       done r room =
           let e : first + (i - first) ≡ i = omega arith in
-          let is-here : is_end_jump (inst_at w top (first + (i - first))) ≡ true = rw e is in
+          let is_here : is_end_jump (inst_at w top (first + (i - first))) ≡ true = rw e is in
           let turned : inst_at (set w (cell top i) y) top (first + (i - first)) ≡ jump_by (inst_at w top (first + (i - first))) offset = rw e here in
           record {
             same = length-set w (cell top i) y;
@@ -166,5 +134,5 @@ module _ (w : List ℕ) (top first offset : ℕ) where
             code = rw (tab_take (inst_at w top) first (i - first + suc r), tab_drop (inst_at w top) first (i - first + suc r))
                 (tab_add (inst_at (set w (cell top i) y) top) first (i - first + suc r)
                 ∙ ap₂ (λ x z. x ++ z) (tab_ext _ _ first (λ j h. else j (omega arith) (omega arith)))
-                (first_at offset (λ j. inst_at (set w (cell top i) y) top (first + j)) (λ j. inst_at w top (first + j)) (i - first) r (λ j h. none (first + j) (omega arith) (omega arith)) is-here turned (λ j h ne. else (first + j) (omega arith) (omega arith))));
+                (first_at offset (λ j. inst_at (set w (cell top i) y) top (first + j)) (λ j. inst_at w top (first + j)) (i - first) r (λ j h. none (first + j) (omega arith) (omega arith)) is_here turned (λ j h ne. else (first + j) (omega arith) (omega arith))));
           }

@@ -1,5 +1,7 @@
 // Pending code in the work area: instructions put behind the others, cut off, patched, and made a prototype in the output (document 01, module 4).
 // It knows no routine: those are in `routines`.
+#![tactic(auto)]
+
 mod ahead;
 mod one;
 mod patches;

@@ -6,4 +6,4 @@ pub mod Nodes
 pub mod Dropped
 pub mod Nested
 pub mod Turns
-pub mod Counts
+pub mod Members

@@ -1,6 +1,8 @@
 // Module 4 of document 01: statements and expressions are lowered by functions that call each other; the node's number falls at each call.
 // A function is the straight line of its calls. Each passes a refused step on; the two dispatchers return it at once, and count a visit of any other;
 // the loops count those of elifs and methods.
+#![tactic(auto)]
+
 mod operators;
 
 ghost use Rattle.std.specs.Prelude.{◌≡◌, ◌<◌, ◌≤◌};
@@ -35,7 +37,7 @@ const NO_NAME: usize = 65535;
 // ---- rows of children
 
 // self.compile, and the bodies of blocks, functions and branches: the statements in the words `from` up to `to`, which stand `skew` places further in the file.
-#[cycle(addi_arguments_binary_block_body_both_call_class_elifs_expr_stmt_expression_fn_stmt_for_in_for_loop_function_if_stmt_let_stmt_logical_methods_minus_return_stmt_row_statement_try_catch_unary_while_loop)]
+#[cycle(visit)]
 pub fn row(
     tree: &[u8],
     work: &mut [u32],
@@ -64,7 +66,7 @@ pub fn row(
 // ---- impl StmtVisitor for Compiler
 
 // fn visit_expr_stmt
-#[cycle(addi_arguments_binary_block_body_both_call_class_elifs_expr_stmt_expression_fn_stmt_for_in_for_loop_function_if_stmt_let_stmt_logical_methods_minus_return_stmt_row_statement_try_catch_unary_while_loop)]
+#[cycle(visit)]
 fn expr_stmt(
     tree: &[u8],
     work: &mut [u32],
@@ -81,7 +83,7 @@ fn expr_stmt(
 }
 
 // fn visit_try_catch_stmt
-#[cycle(addi_arguments_binary_block_body_both_call_class_elifs_expr_stmt_expression_fn_stmt_for_in_for_loop_function_if_stmt_let_stmt_logical_methods_minus_return_stmt_row_statement_try_catch_unary_while_loop)]
+#[cycle(visit)]
 fn try_catch(
     tree: &[u8],
     work: &mut [u32],
@@ -105,7 +107,7 @@ fn try_catch(
 }
 
 // fn visit_classic_for_stmt: the body is lowered before the increment
-#[cycle(addi_arguments_binary_block_body_both_call_class_elifs_expr_stmt_expression_fn_stmt_for_in_for_loop_function_if_stmt_let_stmt_logical_methods_minus_return_stmt_row_statement_try_catch_unary_while_loop)]
+#[cycle(visit)]
 fn for_loop(
     tree: &[u8],
     work: &mut [u32],
@@ -148,7 +150,7 @@ fn for_loop(
 }
 
 // fn visit_enhanced_for_stmt
-#[cycle(addi_arguments_binary_block_body_both_call_class_elifs_expr_stmt_expression_fn_stmt_for_in_for_loop_function_if_stmt_let_stmt_logical_methods_minus_return_stmt_row_statement_try_catch_unary_while_loop)]
+#[cycle(visit)]
 fn for_in(
     tree: &[u8],
     work: &mut [u32],
@@ -189,7 +191,7 @@ fn for_in(
 }
 
 // fn visit_let_stmt
-#[cycle(addi_arguments_binary_block_body_both_call_class_elifs_expr_stmt_expression_fn_stmt_for_in_for_loop_function_if_stmt_let_stmt_logical_methods_minus_return_stmt_row_statement_try_catch_unary_while_loop)]
+#[cycle(visit)]
 fn let_stmt(
     tree: &[u8],
     work: &mut [u32],
@@ -224,7 +226,7 @@ fn let_stmt(
 }
 
 // fn visit_block_stmt
-#[cycle(addi_arguments_binary_block_body_both_call_class_elifs_expr_stmt_expression_fn_stmt_for_in_for_loop_function_if_stmt_let_stmt_logical_methods_minus_return_stmt_row_statement_try_catch_unary_while_loop)]
+#[cycle(visit)]
 fn block(
     tree: &[u8],
     work: &mut [u32],
@@ -244,7 +246,7 @@ fn block(
 }
 
 // fn visit_while_stmt
-#[cycle(addi_arguments_binary_block_body_both_call_class_elifs_expr_stmt_expression_fn_stmt_for_in_for_loop_function_if_stmt_let_stmt_logical_methods_minus_return_stmt_row_statement_try_catch_unary_while_loop)]
+#[cycle(visit)]
 fn while_loop(
     tree: &[u8],
     work: &mut [u32],
@@ -274,7 +276,7 @@ fn while_loop(
 }
 
 // fn visit_return_stmt
-#[cycle(addi_arguments_binary_block_body_both_call_class_elifs_expr_stmt_expression_fn_stmt_for_in_for_loop_function_if_stmt_let_stmt_logical_methods_minus_return_stmt_row_statement_try_catch_unary_while_loop)]
+#[cycle(visit)]
 fn return_stmt(
     tree: &[u8],
     work: &mut [u32],
@@ -295,7 +297,7 @@ fn return_stmt(
 }
 
 // fn visit_if_stmt: "if branches .. open no block"
-#[cycle(addi_arguments_binary_block_body_both_call_class_elifs_expr_stmt_expression_fn_stmt_for_in_for_loop_function_if_stmt_let_stmt_logical_methods_minus_return_stmt_row_statement_try_catch_unary_while_loop)]
+#[cycle(visit)]
 fn if_stmt(
     tree: &[u8],
     work: &mut [u32],
@@ -329,7 +331,7 @@ fn if_stmt(
 }
 
 // fn visit_if_stmt, `for elif in &stmt.elifs`
-#[cycle(addi_arguments_binary_block_body_both_call_class_elifs_expr_stmt_expression_fn_stmt_for_in_for_loop_function_if_stmt_let_stmt_logical_methods_minus_return_stmt_row_statement_try_catch_unary_while_loop)]
+#[cycle(visit)]
 fn elifs(
     tree: &[u8],
     work: &mut [u32],
@@ -361,7 +363,7 @@ fn elifs(
 }
 
 // fn visit_fn_stmt
-#[cycle(addi_arguments_binary_block_body_both_call_class_elifs_expr_stmt_expression_fn_stmt_for_in_for_loop_function_if_stmt_let_stmt_logical_methods_minus_return_stmt_row_statement_try_catch_unary_while_loop)]
+#[cycle(visit)]
 fn fn_stmt(
     tree: &[u8],
     work: &mut [u32],
@@ -405,7 +407,7 @@ fn fn_stmt(
 }
 
 // fn visit_class_stmt
-#[cycle(addi_arguments_binary_block_body_both_call_class_elifs_expr_stmt_expression_fn_stmt_for_in_for_loop_function_if_stmt_let_stmt_logical_methods_minus_return_stmt_row_statement_try_catch_unary_while_loop)]
+#[cycle(visit)]
 fn class(
     tree: &[u8],
     work: &mut [u32],
@@ -457,7 +459,7 @@ fn class(
 }
 
 // fn visit_class_stmt, `for method in &stmt.methods` and `&stmt.static_methods`
-#[cycle(addi_arguments_binary_block_body_both_call_class_elifs_expr_stmt_expression_fn_stmt_for_in_for_loop_function_if_stmt_let_stmt_logical_methods_minus_return_stmt_row_statement_try_catch_unary_while_loop)]
+#[cycle(visit)]
 fn methods(
     tree: &[u8],
     work: &mut [u32],
@@ -502,7 +504,7 @@ fn methods(
 // ---- impl ExprVisitor for Compiler
 
 // fn visit_function_expr
-#[cycle(addi_arguments_binary_block_body_both_call_class_elifs_expr_stmt_expression_fn_stmt_for_in_for_loop_function_if_stmt_let_stmt_logical_methods_minus_return_stmt_row_statement_try_catch_unary_while_loop)]
+#[cycle(visit)]
 fn function(
     tree: &[u8],
     work: &mut [u32],
@@ -545,7 +547,7 @@ fn function(
 }
 
 // visit_fn_stmt and visit_function_expr: the body, a block of its own
-#[cycle(addi_arguments_binary_block_body_both_call_class_elifs_expr_stmt_expression_fn_stmt_for_in_for_loop_function_if_stmt_let_stmt_logical_methods_minus_return_stmt_row_statement_try_catch_unary_while_loop)]
+#[cycle(visit)]
 fn body(
     tree: &[u8],
     work: &mut [u32],
@@ -568,7 +570,7 @@ fn body(
 }
 
 // fn visit_binary_expr
-#[cycle(addi_arguments_binary_block_body_both_call_class_elifs_expr_stmt_expression_fn_stmt_for_in_for_loop_function_if_stmt_let_stmt_logical_methods_minus_return_stmt_row_statement_try_catch_unary_while_loop)]
+#[cycle(visit)]
 fn binary(
     tree: &[u8],
     work: &mut [u32],
@@ -593,7 +595,7 @@ fn binary(
 }
 
 // fn binary_literal at Plus
-#[cycle(addi_arguments_binary_block_body_both_call_class_elifs_expr_stmt_expression_fn_stmt_for_in_for_loop_function_if_stmt_let_stmt_logical_methods_minus_return_stmt_row_statement_try_catch_unary_while_loop)]
+#[cycle(visit)]
 fn addi(
     tree: &[u8],
     work: &mut [u32],
@@ -613,7 +615,7 @@ fn addi(
 }
 
 // fn binary_literal at Minus: the right side is lowered and dropped, then all is lowered
-#[cycle(addi_arguments_binary_block_body_both_call_class_elifs_expr_stmt_expression_fn_stmt_for_in_for_loop_function_if_stmt_let_stmt_logical_methods_minus_return_stmt_row_statement_try_catch_unary_while_loop)]
+#[cycle(visit)]
 fn minus(
     tree: &[u8],
     work: &mut [u32],
@@ -633,7 +635,7 @@ fn minus(
 }
 
 // fn visit_binary_expr, after the immediate forms
-#[cycle(addi_arguments_binary_block_body_both_call_class_elifs_expr_stmt_expression_fn_stmt_for_in_for_loop_function_if_stmt_let_stmt_logical_methods_minus_return_stmt_row_statement_try_catch_unary_while_loop)]
+#[cycle(visit)]
 fn both(
     tree: &[u8],
     work: &mut [u32],
@@ -662,7 +664,7 @@ fn both(
 }
 
 // fn visit_call_expr
-#[cycle(addi_arguments_binary_block_body_both_call_class_elifs_expr_stmt_expression_fn_stmt_for_in_for_loop_function_if_stmt_let_stmt_logical_methods_minus_return_stmt_row_statement_try_catch_unary_while_loop)]
+#[cycle(visit)]
 fn call(
     tree: &[u8],
     work: &mut [u32],
@@ -682,7 +684,7 @@ fn call(
 }
 
 // fn visit_call_expr, `for (i, expr) in (&expr.arguments).iter().enumerate()`
-#[cycle(addi_arguments_binary_block_body_both_call_class_elifs_expr_stmt_expression_fn_stmt_for_in_for_loop_function_if_stmt_let_stmt_logical_methods_minus_return_stmt_row_statement_try_catch_unary_while_loop)]
+#[cycle(visit)]
 fn arguments(
     tree: &[u8],
     work: &mut [u32],
@@ -712,7 +714,7 @@ fn arguments(
 }
 
 // fn visit_logical_expr
-#[cycle(addi_arguments_binary_block_body_both_call_class_elifs_expr_stmt_expression_fn_stmt_for_in_for_loop_function_if_stmt_let_stmt_logical_methods_minus_return_stmt_row_statement_try_catch_unary_while_loop)]
+#[cycle(visit)]
 fn logical(
     tree: &[u8],
     work: &mut [u32],
@@ -732,7 +734,7 @@ fn logical(
 }
 
 // fn visit_unary_expr
-#[cycle(addi_arguments_binary_block_body_both_call_class_elifs_expr_stmt_expression_fn_stmt_for_in_for_loop_function_if_stmt_let_stmt_logical_methods_minus_return_stmt_row_statement_try_catch_unary_while_loop)]
+#[cycle(visit)]
 fn unary(
     tree: &[u8],
     work: &mut [u32],
@@ -759,7 +761,7 @@ fn unary(
 }
 
 // impl StmtAcceptor for Stmt
-#[cycle(addi_arguments_binary_block_body_both_call_class_elifs_expr_stmt_expression_fn_stmt_for_in_for_loop_function_if_stmt_let_stmt_logical_methods_minus_return_stmt_row_statement_try_catch_unary_while_loop)]
+#[cycle(visit)]
 fn statement(
     tree: &[u8],
     work: &mut [u32],
@@ -794,7 +796,7 @@ fn statement(
 }
 
 // impl ExprAcceptor for Expr
-#[cycle(addi_arguments_binary_block_body_both_call_class_elifs_expr_stmt_expression_fn_stmt_for_in_for_loop_function_if_stmt_let_stmt_logical_methods_minus_return_stmt_row_statement_try_catch_unary_while_loop)]
+#[cycle(visit)]
 fn expression(
     tree: &[u8],
     work: &mut [u32],

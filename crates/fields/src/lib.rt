@@ -1,4 +1,6 @@
 // Fields: a one-byte tag, a two-byte length and the payload. What is handed on is a part of the caller's slice, never a copy.
+#![tactic(auto)]
+
 ghost use Rattle.std.specs.Prelude.{◌≡◌, ◌+◌, ◌<◌, ◌≤◌, length};
 ghost use Rattle.meaning.specs.Fields.{word_at, span, whole, payload_of};
 

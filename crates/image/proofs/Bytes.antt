@@ -2,16 +2,14 @@
 use mathlib.Core.Path.{◌≡◌, sym, ap, ◌∙◌}
 use mathlib.Core.Bool.{Bool, true, false, cond}
 use mathlib.Core.List.{List, [], ◌∷◌, ◌++◌, append-nil}
-use Prim.Native.Nat.{ℕ, ◌+◌, ◌*◌, ◌-◌, ◌%◌, ◌<◌, ◌≤◌}
+use Prim.Native.Nat.{ℕ, ◌+◌, ◌*◌, ◌≤◌}
 use native.Mathlib.Omega.{arith}
-use native.Mathlib.Nat.{suc-mul, mul_comm, mul-le-mul_right, mul-le-mul}
+use native.Mathlib.Nat.{suc-mul, mul_comm, mul-le-mul}
 use native.Mathlib.Numerals.{add-one}
-use native.Mathlib.Decide.{dec_lt}
 use lib.ListN.{length, length-append}
-use lib.Dec.{eqb, leb}
-use borrow.Author.Tests.{lt-ltb, le-ltb, lt-leb, le-leb}
+use lib.Dec.{eqb}
 use Rattle.store.specs.Table.{tab}
-use Rattle.store.specs.Layout.{name_of, registers, held, capture_of, capture_at, inst_at}
+use Rattle.store.specs.Layout.{name_of, registers, held, capture_at, inst_at}
 use Rattle.store.proofs.Tables.{tab_suc, tab_length}
 use Rattle.meaning.specs.Opcode.{inst, Return, no_mark}
 use Rattle.meaning.specs.State.{Capture}
@@ -25,10 +23,6 @@ use Rattle.image.specs.Output.{proto_of}
 
 pub one_more : (i span : ℕ) → (i + 1) * span ≡ i * span + span
 one_more i span = ap (λ k. k * span) (add-one i) ∙ suc-mul i span
-
--- one of n, each of `span`, ends where all do, or before
-pub lies_in : (i n span : ℕ) → i < n → i * span + span ≤ n * span
-lies_in i n span h = omega (arith, mul-le-mul_right {m = i + 1} {n = n} span (omega arith), one_more i span)
 
 -- an instruction has eleven bytes at most
 pub short_inst : (tag : ℕ) → 3 + inst_size tag ≤ 11
@@ -53,19 +47,6 @@ module _ (tag : ℕ) (f : ℕ → Instruction) where
 
   pub insts_long : (i : ℕ) → length (inst_bytes tag (tab f i)) ≡ i * (3 + inst_size tag)
   insts_long i = insts_size tag (tab f i) ∙ ap (λ k. (3 + inst_size tag) * k) (tab_length f i) ∙ mul_comm (3 + inst_size tag) i
-
--- ---- a capture, as it is stored
-
-pub captured_is : (x : ℕ) → x < 512 → record { is_local = leb 256 x; index = x % 256 } ≡ capture_of x
-captured_is x h = cases (dec_lt x 256)
-  where
-    cases : Dec (x < 256) → record { is_local = leb 256 x; index = x % 256 } ≡ capture_of x
-    cases (yes k) =
-        let e : x % 256 ≡ x = omega arith in
-        rw (lt-ltb x 256 k, lt-leb 256 x k, e)
-    cases (no k) =
-        let e : x % 256 ≡ x - 256 = omega arith in
-        rw (le-ltb x 256 (omega arith), le-leb 256 x (omega arith), e)
 
 -- ---- a prototype: header, captures, code, the last Return
 

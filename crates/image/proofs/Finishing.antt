@@ -15,7 +15,7 @@ use Rattle.store.specs.declared.Step.{Step}
 use Rattle.store.specs.declared.Scope.{Scope}
 use Rattle.store.specs.Table.{tab}
 use Rattle.store.specs.Layout.{constant_at}
-use Rattle.store.specs.Store.{outcome_of, constants_of, functions_of, state_of, config_of, run, is_wide, code_tag, written_by, Written, Image, Fine}
+use Rattle.store.specs.Store.{outcome_of, constants_of, functions_of, state_of, config_of, run, is_wide, code_tag, Written, Image, Fine}
 use Rattle.store.proofs.Runs.{run_going, run_stopped}
 use Rattle.writers.specs.Spliced.{Spliced}
 use Rattle.image.specs.Finish.{ended, Ending, Finishable, Finishes}
@@ -70,9 +70,6 @@ module _ (w o : List ℕ) (s : Step) (last : ℕ) {written : ℕ} (e : outcome_o
             (with_room (length o) o' last end (bytes p ps) (sym l) (n ∙ sym (size p ps i)) (omega (arith, x.fits))
             (ap (λ k. take k o') n ∙ spliced_take x ∙ ap (λ b. b ++ pool w s) ((held p ps i).bytes (omega (arith, x.fits)))));
       }
-
-pub written_is : (s : Step) {written : ℕ} → outcome_of s ≡ Accepted written → written_by (outcome_of s) < 4294967296 → written < 4294967296
-written_is s e h = rw e at h
 
 -- every fine step has what `finish` goes by
 pub fine_finishable : {w : List ℕ} {p : Scope} {s : Step} → Fine w p s → Finishable w s

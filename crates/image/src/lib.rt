@@ -1,4 +1,6 @@
 // The bytes of an image (document 01, "Image file"): what the work area holds, handed to the writers part by part.
+#![tactic(auto)]
+
 mod constants;
 
 ghost use Rattle.std.specs.Prelude.{◌+◌, ◌*◌, ◌<◌, ◌≤◌, ◌≡◌, [], ◌∷◌, length};

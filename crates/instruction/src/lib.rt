@@ -1,4 +1,6 @@
 // The port of src/instruction.rs: opcodes, what an instruction's b and c hold, and the 16-bit offset of a jump. `imm` is left out.
+#![tactic(auto)]
+
 ghost use Rattle.std.specs.Prelude.{◌≡◌, map};
 ghost use Rattle.meaning.specs.Opcode.{opcode_table, opcode_of, bx, back, is_continue, is_break};
 ghost use Rattle.instruction.specs.Offset.{signed, sbx, halves_of};
@@ -6,7 +8,7 @@ ghost use Rattle.instruction.specs.Offset.{signed, sbx, halves_of};
 use meaning::Instruction;
 
 // In the order of the source: `OpCode::Jmp as u8` is its number, 3.
-#[derive(Drop)]
+#[derive(Clone, Copy)]
 pub enum OpCode {
     Move,
     LoadK,
@@ -165,7 +167,7 @@ pub fn is_break(x: Instruction) -> bool
 }
 
 // A 16-bit number as an instruction holds it, high byte first.
-#[derive(Drop)]
+#[derive(Clone, Copy)]
 pub struct Halves {
     pub b: u8,
     pub c: u8,

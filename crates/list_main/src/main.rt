@@ -2,6 +2,8 @@
 // place of what is refused. Of a longer one nothing is written.
 // Started with a word, whichever, it writes the verdict alone, number and place, `0 0` of an image that is taken; it then takes every length that an
 // image can have. There is no heap, so every room is an array on the stack.
+#![tactic(auto)]
+
 mod line;
 mod names;
 
@@ -10,19 +12,30 @@ ghost use Rattle.meaning.specs.Fields.{whole};
 ghost use Rattle.reader.specs.Laid.{Ordered, proto_span};
 
 use meaning::Outcome;
+use std::env::{Env, FillError};
 
-fn main() {
+fn main(rt: HostRuntime) {
+    let alone = has_word(&rt);
     let mut room = [0u8; 65536];
-    started(&mut room);
+    started(&mut room, alone);
 }
 
-fn started(room: &mut [u8]) {
-    let alone = 1 < os::arg_count();
+// Whether there is a first word.
+fn has_word(rt: &impl Env) -> bool {
+    let mut word = [0u8; 1];
+    match rt.arg(1, &mut word) {
+        Err(FillError::NotPresent) => false,
+        _ => true,
+    }
+}
+
+fn started(room: &mut [u8], alone: bool) {
     if !is_held(b"", room, alone) & alone {
         large(room, 1);
     }
 }
 
+#[inline(never)]
 fn large(read: &[u8], turns: usize) {
     if programs::never() && 0 < turns {
         large(read, turns - 1);

@@ -1,10 +1,10 @@
 -- Words and bytes are cleared from a place on, one a turn: after the turns up to i the front is as it was, then there are zeros, then what is left.
 use mathlib.Core.Path.{◌≡◌, sym, ap, ◌∙◌}
-use mathlib.Core.List.{List, [], ◌∷◌, ◌++◌, append_assoc, append-nil}
+use mathlib.Core.List.{List, [], ◌∷◌, ◌++◌, append_assoc}
 use Prim.Native.Nat.{ℕ, suc, ◌+◌, ◌-◌, ◌<◌, ◌≤◌}
 use native.Mathlib.Omega.{arith}
 use native.Mathlib.Numerals.{add-one}
-use lib.ListN.{length, take, drop, replicate, set, length-append, length-replicate, take-append-drop, replicate-append-replicate, drop_of_length-le}
+use lib.ListN.{length, take, drop, replicate, set, length-append, length-replicate, replicate-append-replicate}
 use lib.Seq.{length-take-le, drop-cons, set_at}
 
 abbrev front : (o : List ℕ) (from i : ℕ) → List ℕ
@@ -16,11 +16,6 @@ cleared_to o from i = front o from i ++ drop i o
 module _ (o : List ℕ) (from : ℕ) where
   front_length : (i : ℕ) → from ≤ i → i ≤ length o → length (front o from i) ≡ i
   front_length i f h = omega (arith, length-append (take from o) (replicate (i - from) 0), length-take-le from o (omega arith), length-replicate {A = ℕ} (i - from) 0)
-
-  pub cleared_none : o ≡ cleared_to o from from
-  cleared_none =
-      let e : from - from ≡ 0 = omega arith in
-      sym (ap (λ k. (take from o ++ replicate k 0) ++ drop from o) e ∙ ap (λ l. l ++ drop from o) (append-nil (take from o)) ∙ take-append-drop from o)
 
   front_more : (i : ℕ) → from ≤ i → front o from i ++ (0 ∷ []) ≡ front o from (i + 1)
   front_more i f =
@@ -35,6 +30,3 @@ module _ (o : List ℕ) (from : ℕ) where
       ∙ sym (append_assoc (front o from i) (0 ∷ []) (drop (suc i) o))
       ∙ ap (λ l. l ++ drop (suc i) o) (front_more i f)
       ∙ ap (λ k. front o from (i + 1) ++ drop k o) (sym (add-one i))
-
-  pub cleared_all : (i : ℕ) → length o ≤ i → cleared_to o from i ≡ take from o ++ replicate (i - from) 0
-  cleared_all i h = ap (λ l. front o from i ++ l) (drop_of_length-le o h) ∙ append-nil (front o from i)

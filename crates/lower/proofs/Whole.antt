@@ -1,10 +1,10 @@
 -- A whole program: its statements, the prototype of main, the constants. The run that the words stand for at the end is the definition's `lower_program`.
 use mathlib.Core.Path.{◌≡◌, refl, sym, ap, subst, ◌∙◌}
 use mathlib.Core.Bool.{Bool}
-use mathlib.Core.List.{List, [], ◌++◌}
+use mathlib.Core.List.{List, []}
 use Prim.Native.Nat.{ℕ, ◌+◌, ◌-◌, ◌<◌, ◌≤◌}
 use native.Mathlib.Omega.{arith}
-use lib.ListN.{length, take, replicate}
+use lib.ListN.{length}
 use Rattle.meaning.specs.Fields.{fields}
 use Rattle.meaning.specs.Grammar.{wide_marks}
 use Rattle.meaning.specs.Check.{checked}
@@ -12,12 +12,10 @@ use Rattle.meaning.specs.At.{extra, count_of, stmts_at}
 use Rattle.meaning.specs.Read.{read_program}
 use Rattle.meaning.specs.State.{Res, refused, done}
 use Rattle.meaning.specs.Lower.{lower_stmts, lower_program}
-use Rattle.meaning.specs.Answer.{Finished, imaged, stopped, lowered, finished_after, finished, outcome, answer, reply, output}
+use Rattle.meaning.specs.Answer.{Finished, imaged, stopped, lowered, finished_after, finished, outcome}
 use Rattle.meaning.specs.Visits.{visits_stmts, visits_program}
 use Rattle.meaning.proofs.Imaged.{finished_lowered}
 use Rattle.meaning.proofs.VisitsMost.{program_exact}
-use Rattle.meaning.specs.declared.Answer.{Answer}
-use Rattle.meaning.specs.declared.Reply.{Reply}
 use Rattle.meaning.specs.declared.Cause.{Cause}
 use Rattle.meaning.specs.declared.Outcome.{Outcome}
 use Rattle.meaning.specs.declared.Outcome.TheVariants.{Accepted, Refused}
@@ -29,9 +27,9 @@ use Rattle.store.specs.Store.{outcome_of, is_wide, run, main_scope, first_step, 
 use Rattle.store.specs.Promise.{After}
 use Rattle.store.proofs.Runs.{due, run_stopped}
 use Rattle.code.specs.Cuts.{EndsProgram}
-use Rattle.image.specs.Finish.{ended, length_of, Ending, Finishes}
+use Rattle.image.specs.Finish.{ended, Ending, Finishes}
 use Rattle.lower.specs.Open.{Opened}
-use Rattle.lower.specs.Told.{counted, Counted, Countable}
+use Rattle.lower.specs.Told.{Counted}
 use Rattle.cycle.specs.Cycle.{LowersRow}
 use Rattle.cycle.proofs.Way.{wide_is}
 use Rattle.lower.proofs.Start.{program_is}
@@ -116,43 +114,3 @@ module _ (mode : ℕ) (t : List ℕ) (work n : ℕ) (e : checked mode t work ≡
 pub not_begun : (mode : ℕ) (t o : List ℕ) (work room : ℕ) (r : Outcome) {c : Cause} {k : ℕ} → r ≡ checked mode t work → r ≡ Refused c k → Ending (finished mode t work room) o r
 unfolding finished
 not_begun mode t o work room r {c} {k} e f = subst (λ x. Ending (finished_after mode x t room) o r) (sym f ∙ e) (record { told = f; fits = rw f (omega arith); front = rw f refl })
-
--- ---- what is left once the bytes behind the image are cleared
-
-length_is : (r : Outcome) → length_of r ≡ (answer r).length
-length_is (Accepted n) = refl
-length_is (Refused c k) = refl
-
--- the output, by the length that the answer tells
-ending_output : (x : Finished) (o : List ℕ) (r : Outcome) → Ending x o r → take (length_of r) o ++ replicate (length o - length_of r) 0 ≡ output (length o) x
-ending_output (imaged bytes) o r h = rw h.front (ap (λ k. bytes ++ replicate (length o - k) 0) (ap length_of h.told))
-ending_output (stopped c k) o r h = let e : length o - 0 ≡ length o = omega arith in rw h.told (ap (λ k. replicate k 0) e)
-
-module _ {x : Finished} {o : List ℕ} {r : Outcome} (h : Ending x o r) {a : Answer} (e : a ≡ answer r) where
-  pub told_length : length_of r ≡ a.length
-  told_length = length_is r ∙ sym (ap (λ b. b.length) e)
-
-  pub told_fits : a.length ≤ length o
-  told_fits = omega (arith, told_length, h.fits)
-
-  told_answer : a ≡ answer (outcome x)
-  told_answer = e ∙ ap answer h.told
-
-  -- with the visits: those of an accepted tree, 0 where it is refused
-  pub told_reply : (t w : List ℕ) (v : ℕ) → Counted t w r → v ≡ counted w r → ◌≡◌ {A = Reply} (record { number = a.number; place = a.place; length = a.length; visits = v }) (reply t x)
-  told_reply t w v c n = rw (told_answer, n) (by x r h.told c)
-    where
-      by : (y : Finished) (r : Outcome) → r ≡ outcome y → Counted t w r
-          → ◌≡◌ {A = Reply} (record { number = (answer (outcome y)).number; place = (answer (outcome y)).place; length = (answer (outcome y)).length; visits = counted w r }) (reply t y)
-      by (imaged bytes) r q c = rw q (ap (λ m. record { number = 0; place = 0; length = length bytes; visits = m }) (rw q at c).1)
-      by (stopped k place) r q c = rw q
-
-  pub countable : (t w : List ℕ) → Counted t w r → Countable w r
-  countable t w c = by r c
-    where
-      by : (q : Outcome) → Counted t w q → Countable w q
-      by (Accepted m) c = c.0
-      by (Refused k place) c = tt
-
-  pub told_output : (room : ℕ) → length o ≡ room → take a.length o ++ replicate (length o - a.length) 0 ≡ output room x
-  told_output room l = rw (← told_length, ← l) (ending_output x o r h)

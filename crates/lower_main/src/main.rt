@@ -1,6 +1,8 @@
 // Lowers the tree on standard input in the mode that the first argument says, 0 without one: its image on standard output, and one line on
 // standard error: the image's length and the visits, or what is refused, or failed.
 // There is no heap, so every room is an array on the stack. Rooms are taken in turn, the smallest first, so that a small tree costs little.
+#![tactic(auto)]
+
 mod mode;
 mod words;
 
@@ -9,8 +11,8 @@ ghost use Rattle.std.specs.Prelude.{◌≤◌, length};
 use meaning::Reply;
 use programs::Spelled;
 
-fn main() {
-    let said = mode::said();
+fn main(rt: HostRuntime) {
+    let said = mode::said(&rt);
     let Spelled::Number(mode) = said else {
         words::say(b"the mode is no decimal number of 64 bits, in 20 digits at most");
         return;
@@ -46,6 +48,7 @@ fn small(room: &mut [u8], mode: u64) {
 }
 
 // A longer tree is refused in any case. The next rooms are for the number and the place.
+#[inline(never)]
 fn medium(read: &[u8], turns: usize, mode: u64) {
     if programs::never() && 0 < turns {
         medium(read, turns - 1, mode);
@@ -64,6 +67,7 @@ fn more(read: &[u8], room: &mut [u8], mode: u64) {
 }
 
 // The compiler takes 2 GiB of locals in a function at most, so this room is 131,072 bytes short of 32,768 fields of the greatest length.
+#[inline(never)]
 fn large(read: &[u8], turns: usize, mode: u64) {
     if programs::never() && 0 < turns {
         large(read, turns - 1, mode);
@@ -97,6 +101,7 @@ fn first(tree: &[u8], out: &mut [u8], mode: u64) {
 }
 
 // 256 prototypes of 13 bytes, each with 255 captures of 5 and 32,767 instructions of 9, and 1,024 constants of 11.
+#[inline(never)]
 fn full(tree: &[u8], turns: usize, mode: u64) {
     if programs::never() && 0 < turns {
         full(tree, turns - 1, mode);

@@ -1,16 +1,13 @@
 // The mode that the program is told by its first argument.
 use programs::Spelled;
+use std::env::{Env, FillError};
 
 // The first argument in decimal; 0 where there is none. Twenty digits hold every number of 64 bits.
-pub(crate) fn said() -> Spelled {
+pub(crate) fn said(rt: &impl Env) -> Spelled {
     let mut word = [0u8; 20];
-    let n = os::arg(1, &mut word);
-    let error = os::errno();
-    if error == libc::EINVAL {
-        return Spelled::Number(0);
+    match rt.arg(1, &mut word) {
+        Ok(n) => programs::decimal(&word[..n]),
+        Err(FillError::NotPresent) => Spelled::Number(0),
+        Err(FillError::TooLong) => Spelled::Wrong,
     }
-    if error != 0 {
-        return Spelled::Wrong;
-    }
-    programs::decimal(&word[..n])
 }

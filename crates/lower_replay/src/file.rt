@@ -2,7 +2,7 @@
 ghost use Rattle.std.specs.Prelude.{◌<◌, ◌≤◌};
 
 // What a case says, and where its tree's parts, its image and the next case start.
-#[derive(Drop)]
+#[derive(Clone, Copy)]
 pub struct Case {
     pub mode: u64,
     pub parts: usize,

@@ -1,5 +1,7 @@
 // Replays the fixed answers of standard input, whose layout README.md has: each tree is built, the work area and the output are filled
 // with noise, the tree is lowered, and all that is due is compared. A line is written for the first case that differs, then one for each number.
+#![tactic(auto)]
+
 mod file;
 mod judge;
 

@@ -12,7 +12,7 @@ use lib.Dec.{eqb, leb, ltb}
 use borrow.Author.Tests.{ltb-true, leb-true, eqb-false, eq-eqb, ne_eqb}
 use Rattle.meaning.specs.Base.{count}
 use Rattle.meaning.specs.Fields.{Field, field_at}
-use Rattle.meaning.specs.Grammar.{Item, never, bounds, bound, inside, names, lawful, grammar, items_of, is_program, spread_kinds, spread, items_in, items_for, wide_marks, kind_of, ends, fits, kids, tags_of, shape_at}
+use Rattle.meaning.specs.Grammar.{Item, never, bounds, bound, inside, names, lawful, grammar, items_of, is_program, spread_kinds, spread, items_in, items_for, wide_marks, kind_of, ends, due_after, fits, kids, tags_of, shape_at}
 use Rattle.meaning.specs.Tree.{kids_of, all_kids, parent_by, parent_of, depth_by}
 use Rattle.meaning.proofs.Lists.{lt_or_le, and_left, and_right, false_true, zeros, count_append}
 
@@ -34,7 +34,7 @@ module _ (ts : List ℕ) (i c : ℕ) (h : i ≤ c) where
   kids_below is (a ∷ []) e = refl
   kids_below is (a ∷ b ∷ p) e =
       count_append c (cond (names (kind_of is) (a * 256 + b)) ((a * 256 + b) ∷ []) []) _
-      ∙ zeros (word_below (kind_of is) (a * 256 + b) (and_left _ _ e)) (kids_below _ p (and_right (lawful ts i (kind_of is) (a * 256 + b)) _ e))
+      ∙ zeros (word_below (kind_of is) (a * 256 + b) (and_left _ _ e)) (kids_below (due_after is (a * 256 + b)) p (and_right (lawful ts i (kind_of is) (a * 256 + b)) _ e))
 
 -- no word is of the kind `none`, so nothing fits `never`
 pub inside_none : (w : ℕ) → inside 0 w ≡ true → ⊥

@@ -33,3 +33,5 @@ pub mod Mend
 pub mod WalkSteps
 pub mod Quick
 pub mod Modes
+pub mod Missed
+pub mod Named

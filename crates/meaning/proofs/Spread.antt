@@ -102,7 +102,7 @@ tidy_copies : (n : ℕ) (ks : List ℕ) (is : List Item) → tidy is ≡ true �
 tidy_copies zero ks is t = t
 tidy_copies (suc n) ks is t = tidy_ones ks (copies n ks is) (tidy_copies n ks is t)
 
-tidy_after : (is : List Item) (w : ℕ) → tidy is ≡ true → tidy (due_after is w) ≡ true
+pub tidy_after : (is : List Item) (w : ℕ) → tidy is ≡ true → tidy (due_after is w) ≡ true
 unfolding tidy due_after
 tidy_after [] w t = t
 tidy_after (one k ∷ is) w t = t
@@ -111,11 +111,11 @@ tidy_after (many ks ∷ is) w t = tidy_ones (drop 1 ks) (many ks ∷ is) t
 tidy_after (counted ks ∷ is) w t = tidy_copies w ks is t
 
 -- a word that is no mark
-record Plain (wide : Bool) (is : List Item) (v : ℕ) : Type 0 where
-  kind : kind_of (spread wide is) ≡ kind_of is
-  after : due_after (spread wide is) v ≡ spread wide (due_after is v)
+pub record Plain (wide : Bool) (is : List Item) (v : ℕ) : Type 0 where
+  pub kind : kind_of (spread wide is) ≡ kind_of is
+  pub after : due_after (spread wide is) v ≡ spread wide (due_after is v)
 
-plain_step : (wide : Bool) (is : List Item) (v : ℕ) → marked is ≡ false → Plain wide is v
+pub plain_step : (wide : Bool) (is : List Item) (v : ℕ) → marked is ≡ false → Plain wide is v
 unfolding marked kind_of due_after spread spread_kinds
 plain_step wide [] v e = record { kind = refl; after = refl }
 plain_step wide (one k ∷ is) v e = record { kind = rw e; after = rw e }
@@ -125,12 +125,12 @@ plain_step wide (many (k ∷ ks) ∷ is) v e = record { kind = rw e; after = rw 
 plain_step wide (counted ks ∷ is) v e = record { kind = refl; after = sym (spread_copies wide v ks is) }
 
 -- a mark: of one word, or of two
-record Mark (wide : Bool) (is : List Item) (v m : ℕ) : Type 0 where
-  is_mark : kind_of is ≡ mark
-  kind : kind_of (spread wide is) ≡ any
-  after : due_after (spread wide is) v ≡ cond wide (one any ∷ spread wide (due_after is m)) (spread wide (due_after is m))
+pub record Mark (wide : Bool) (is : List Item) (v m : ℕ) : Type 0 where
+  pub is_mark : kind_of is ≡ mark
+  pub kind : kind_of (spread wide is) ≡ any
+  pub after : due_after (spread wide is) v ≡ cond wide (one any ∷ spread wide (due_after is m)) (spread wide (due_after is m))
 
-mark_step : (wide : Bool) (is : List Item) (v m : ℕ) → tidy is ≡ true → marked is ≡ true → Mark wide is v m
+pub mark_step : (wide : Bool) (is : List Item) (v m : ℕ) → tidy is ≡ true → marked is ≡ true → Mark wide is v m
 unfolding tidy marked kind_of due_after spread spread_kinds
 mark_step wide [] v m t e = absurd (false_true e)
 mark_step true (one k ∷ is) v m t e = record { is_mark = eqb-true k mark e; kind = rw e; after = rw e }
@@ -144,7 +144,7 @@ mark_step false (many (k ∷ ks) ∷ is) v m t e =
 mark_step wide (counted ks ∷ is) v m t e = absurd (false_true e)
 
 -- what is due after a mark is the same whichever it is
-due_same : (is : List Item) (m n : ℕ) → marked is ≡ true → due_after is m ≡ due_after is n
+pub due_same : (is : List Item) (m n : ℕ) → marked is ≡ true → due_after is m ≡ due_after is n
 unfolding marked kind_of due_after
 due_same [] m n e = refl
 due_same (one k ∷ is) m n e = refl
@@ -170,7 +170,8 @@ due_short wide is v (u ∷ vs) q e = rw (e, q)
 pub due_wide : (wide : Bool) (is : List Item) (v u : ℕ) (vs : List ℕ) → wide ≡ true → marked is ≡ true
     → due_words wide is (v ∷ u ∷ vs) ≡ (v * 65536 + u) ∷ due_words wide (due_after is (v * 65536 + u)) vs
 unfolding due_words
-due_wide wide is v u vs q e = rw (e, q)
+due_wide true is v u vs q e = rw e
+due_wide false is v u vs q e = absurd (false_true q)
 
 pub due_half : (wide : Bool) (is : List Item) (v : ℕ) → wide ≡ true → marked is ≡ true → due_words wide is (v ∷ []) ≡ v * 65536 ∷ []
 unfolding due_words

@@ -1,6 +1,6 @@
 -- The lowering: `accept` of every node, and a whole program.
 use Rattle.std.specs.Prelude.{ℕ, zero, suc, ◌+◌, List, [], ◌∷◌, eqb}
-use Rattle.meaning.specs.Opcode.{plus, minus, JMP-BREAK, JMP-CONTINUE}
+use Rattle.meaning.specs.Opcode.{plus, minus, jmp_break, jmp_continue}
 use Rattle.meaning.specs.Syntax.{Expr, literal, variable, unary, binary, logical, call, function, Exprs, no_expr, and_expr, Stmt, expression, let_only, let_as, block, while, classic_for, for_in, break, continue, return_none, return, if, try, define, class, Stmts, no_stmt, and_stmt, Elifs, no_elif, and_elif, Fun, fun, Funs, no_fun, and_fun, small_if}
 use Rattle.meaning.specs.State.{State, Chunk, M, Res, ◌>>=◌, ◌>>◌, pure, add_prototype, fresh}
 use Rattle.meaning.specs.Chunk.{joined}
@@ -51,8 +51,8 @@ module _ (mode : ℕ) where
     lower_stmt (while node mark e s) = visit_while node mark (lower_expr e) (lower_stmt s)
     lower_stmt (classic_for node mark i c n s) = visit_classic_for mode node mark (lower_stmts i) (lower_expr c) (lower_expr n) (lower_stmt s)
     lower_stmt (for_in node mark e s xs) = visit_for_in mode node mark xs (lower_expr e) (lower_stmt s)
-    lower_stmt (break node mark) = visit_jump node JMP-BREAK mark
-    lower_stmt (continue node mark) = visit_jump node JMP-CONTINUE mark
+    lower_stmt (break node mark) = visit_jump node jmp_break mark
+    lower_stmt (continue node mark) = visit_jump node jmp_continue mark
     lower_stmt (return_none node mark) = visit_return_none mark
     lower_stmt (return node mark e) = visit_return node mark (lower_expr e)
     lower_stmt (if node mark e ss es ts) = visit_if node mark (lower_expr e) (lower_stmts ss) (lower_elifs es) (lower_stmts ts)

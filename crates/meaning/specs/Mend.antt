@@ -3,7 +3,7 @@ use Rattle.std.specs.Prelude.{ℕ, ◌+◌, ◌-◌, ◌*◌, Bool, not, ◌&&�
 use Rattle.std.proofs.Math.Option.{Option, none, some}
 use Rattle.meaning.specs.Fields.{fields}
 use Rattle.meaning.specs.Check.{framed}
-use Rattle.meaning.specs.Opcode.{inst, bx, Jmp, Return, JMP-CONTINUE, JMP-BREAK}
+use Rattle.meaning.specs.Opcode.{inst, bx, Jmp, Return, jmp_continue, jmp_break}
 use Rattle.meaning.specs.State.{Proto}
 use Rattle.meaning.specs.Images.{Image, image_of}
 use Rattle.meaning.specs.Image.{word, written}
@@ -21,7 +21,7 @@ use Rattle.meaning.specs.declared.Cause.TheVariants.{Room, ImageFrame, ImageRule
 
 -- "each Jmp whose a is 1 or 2, or whose target leaves its prototype", x standing at index i of n instructions
 unfoldable pub replaced : (n i : ℕ) → Instruction → Bool
-replaced n i x = eqb x.opcode Jmp && ((eqb x.a JMP-CONTINUE || eqb x.a JMP-BREAK) || not (inside n (target i (bx x))))
+replaced n i x = eqb x.opcode Jmp && ((eqb x.a jmp_continue || eqb x.a jmp_break) || not (inside n (target i (bx x))))
 
 -- "by Return 0 0 0 with its mark kept"
 unfoldable pub mended : (n i : ℕ) → Instruction → Instruction

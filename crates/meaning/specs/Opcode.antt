@@ -162,7 +162,7 @@ GetExcept = 50
 
 -- 01, "Registers met": which of an instruction's operands are registers; Return and Call have a rule of their own
 pub data Meets : Type 0 where
-  of_none of-a of-ab of-abc of-return of-call : Meets
+  of_none of_a of_ab of_abc of_return of_call : Meets
 
 -- a row: an opcode that this lowering writes, and what it meets; or one that it does not write
 pub data Row : Type 0 where
@@ -172,30 +172,30 @@ pub data Row : Type 0 where
 -- the one table, in the order of `OpCode`; proofs/Table proves that its rows are numbered from 0 to 50
 abbrev pub opcode_table : Core.List Row
 opcode_table =
-    is_written Move of-ab ∷
-    is_written LoadK of-a ∷
-    is_written LoadNil of-a ∷
+    is_written Move of_ab ∷
+    is_written LoadK of_a ∷
+    is_written LoadNil of_a ∷
     is_written Jmp of_none ∷
-    is_written Test of-ab ∷
-    is_written Add of-abc ∷
-    is_written Sub of-abc ∷
-    is_written Div of-abc ∷
-    is_written Mod of-abc ∷
-    is_written Mul of-abc ∷
-    is_written Pow of-abc ∷
-    is_written Lt of-abc ∷
-    is_written Gt of-abc ∷
-    is_written Lte of-abc ∷
-    is_written Gte of-abc ∷
-    is_written Eq of-abc ∷
-    is_written Neq of-abc ∷
-    is_written Not of-ab ∷
-    is_written Neg of-ab ∷
-    is_written Call of-call ∷
-    is_written Return of-return ∷
+    is_written Test of_ab ∷
+    is_written Add of_abc ∷
+    is_written Sub of_abc ∷
+    is_written Div of_abc ∷
+    is_written Mod of_abc ∷
+    is_written Mul of_abc ∷
+    is_written Pow of_abc ∷
+    is_written Lt of_abc ∷
+    is_written Gt of_abc ∷
+    is_written Lte of_abc ∷
+    is_written Gte of_abc ∷
+    is_written Eq of_abc ∷
+    is_written Neq of_abc ∷
+    is_written Not of_ab ∷
+    is_written Neg of_ab ∷
+    is_written Call of_call ∷
+    is_written Return of_return ∷
     not_written SetUpval ∷
-    is_written GetUpval of-a ∷
-    is_written Closure of-a ∷
+    is_written GetUpval of_a ∷
+    is_written Closure of_a ∷
     not_written List ∷
     not_written PushList ∷
     not_written Dict ∷
@@ -203,26 +203,26 @@ opcode_table =
     not_written Slice ∷
     not_written Access ∷
     not_written Set ∷
-    is_written Class of-abc ∷
-    is_written ClassMeth of-abc ∷
-    is_written ClassStMeth of-abc ∷
+    is_written Class of_abc ∷
+    is_written ClassMeth of_abc ∷
+    is_written ClassStMeth of_abc ∷
     not_written GetObj ∷
     not_written SetObj ∷
-    is_written Addi of-ab ∷
+    is_written Addi of_ab ∷
     not_written Subi ∷
-    is_written GetIter of-abc ∷
-    is_written GetIterk of-abc ∷
-    is_written GetIteri of-ab ∷
-    is_written Length of-ab ∷
+    is_written GetIter of_abc ∷
+    is_written GetIterk of_abc ∷
+    is_written GetIteri of_ab ∷
+    is_written Length of_ab ∷
     not_written Super ∷
     not_written This ∷
-    is_written GetGlobal of-a ∷
-    is_written SetGlobal of-a ∷
-    is_written GetCurrentFunc of-a ∷
-    is_written GetBuiltin of-a ∷
+    is_written GetGlobal of_a ∷
+    is_written SetGlobal of_a ∷
+    is_written GetCurrentFunc of_a ∷
+    is_written GetBuiltin of_a ∷
     is_written RegisterTryCatch of_none ∷
     is_written DeregisterTryCatch of_none ∷
-    is_written GetExcept of-a ∷
+    is_written GetExcept of_a ∷
     []
 
 -- the opcode of a row
@@ -242,7 +242,7 @@ opcodes_written = written_in opcode_table
 
 -- what rows say that an opcode meets; "of the rest a"
 abbrev pub meets_in : Core.List Row → (opcode : ℕ) → Meets
-meets_in [] n = of-a
+meets_in [] n = of_a
 meets_in (is_written o m ∷ rows) n = cond (eqb n o) m (meets_in rows n)
 meets_in (not_written o ∷ rows) n = meets_in rows n
 
@@ -273,20 +273,20 @@ abbrev pub back : ℕ → ℕ
 back n = (65536 - n % 65536) % 65536
 
 -- const JMP_CONTINUE: what a holds in a continue's jump until it is patched
-abbrev pub JMP-CONTINUE : ℕ
-JMP-CONTINUE = 1
+abbrev pub jmp_continue : ℕ
+jmp_continue = 1
 
 -- const JMP_BREAK: the same of a break's jump
-abbrev pub JMP-BREAK : ℕ
-JMP-BREAK = 2
+abbrev pub jmp_break : ℕ
+jmp_break = 2
 
 -- fn is_continue
 abbrev pub is_continue : Instruction → Bool
-is_continue x = eqb x.opcode Jmp && eqb x.a JMP-CONTINUE
+is_continue x = eqb x.opcode Jmp && eqb x.a jmp_continue
 
 -- fn is_break
 abbrev pub is_break : Instruction → Bool
-is_break x = eqb x.opcode Jmp && eqb x.a JMP-BREAK
+is_break x = eqb x.opcode Jmp && eqb x.a jmp_break
 
 -- the jump to the end of an if or a try, before it is patched: Jmp 0 0 0
 abbrev pub is_end_jump : Instruction → Bool

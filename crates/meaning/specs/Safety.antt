@@ -4,7 +4,7 @@ use Rattle.std.proofs.Math.Option.{Option, none, some}
 use Rattle.meaning.specs.Fields.{fields}
 use Rattle.meaning.specs.Grammar.{wide_marks}
 use Rattle.meaning.specs.Check.{checked}
-use Rattle.meaning.specs.Opcode.{inst, bx, no_mark, Meets, of_none, of-a, of-ab, of-abc, of-return, of-call, meets, LoadK, Jmp, Call, Return, GetUpval, Closure, GetGlobal, SetGlobal, GetBuiltin}
+use Rattle.meaning.specs.Opcode.{inst, bx, no_mark, Meets, of_none, of_a, of_ab, of_abc, of_return, of_call, meets, LoadK, Jmp, Call, Return, GetUpval, Closure, GetGlobal, SetGlobal, GetBuiltin}
 use Rattle.meaning.specs.Constant.{Constant, number, text, other}
 use Rattle.meaning.specs.Read.{read_program}
 use Rattle.meaning.specs.State.{Capture, Proto, State, done, among}
@@ -22,13 +22,13 @@ from r (suc n) = r ∷ from (suc r) n
 -- "Registers met", by what an opcode's row says of it
 abbrev pub met_by : Meets → Instruction → List ℕ
 met_by of_none x = []
-met_by of-a x = x.a ∷ []
-met_by of-ab x = x.a ∷ x.b ∷ []
-met_by of-abc x = x.a ∷ x.b ∷ x.c ∷ []
+met_by of_a x = x.a ∷ []
+met_by of_ab x = x.a ∷ x.b ∷ []
+met_by of_abc x = x.a ∷ x.b ∷ x.c ∷ []
 -- "of Return a, only when b is not 0"
-met_by of-return x = cond (eqb x.b 0) [] (x.a ∷ [])
+met_by of_return x = cond (eqb x.b 0) [] (x.a ∷ [])
 -- "of Call .. a, as many after it as arguments (one less than b), and the one before c"
-met_by of-call x = x.a ∷ (from (x.a + 1) (x.b - 1) ++ (x.c - 1) ∷ [])
+met_by of_call x = x.a ∷ (from (x.a + 1) (x.b - 1) ++ (x.c - 1) ∷ [])
 
 -- the registers that an instruction meets
 abbrev pub met : Instruction → List ℕ

@@ -1,10 +1,11 @@
 // The types that the crates share. The definitions of specs/ give document 01's number and values for each case of an enum.
+#![tactic(auto)]
 
 // The mark of an instruction that has none, at either width (02, E5); its two low bytes are 01's 65,535.
 pub const NO_MARK: u32 = 4294967295;
 
 // A constant. A number is its f64; a NaN keeps its 64 bits in a case of its own (docs/DECISIONS.md).
-#[derive(Drop)]
+#[derive(Clone, Copy)]
 pub enum Literal {
     Number(f64),
     NotANumber(u64),
@@ -13,14 +14,14 @@ pub enum Literal {
 }
 
 // struct TokenData: a name and its mark.
-#[derive(Drop)]
+#[derive(Clone, Copy)]
 pub struct Token {
     pub name: usize,
     pub mark: u32,
 }
 
 // The causes of refusal, in the order of their numbers: 1 to 23, 25 to 27, 29.
-#[derive(Drop)]
+#[derive(Clone, Copy)]
 pub enum Cause {
     Frame,
     Many,
@@ -52,14 +53,14 @@ pub enum Cause {
 }
 
 // Accepted with a length (of the image; of a check, the number of nodes; of a reading, the number of fields), or refused with a cause and its place.
-#[derive(Drop)]
+#[derive(Clone, Copy)]
 pub enum Outcome {
     Accepted(usize),
     Refused(Cause, usize),
 }
 
 // What a caller is told: 0 or the cause's number, the place, the image's length.
-#[derive(Drop)]
+#[derive(Clone, Copy)]
 pub struct Answer {
     pub number: u64,
     pub place: u64,
@@ -67,7 +68,7 @@ pub struct Answer {
 }
 
 // What a lowering answers: the same, and how many nodes were visited (document 02, E6).
-#[derive(Drop)]
+#[derive(Clone, Copy)]
 pub struct Reply {
     pub number: u64,
     pub place: u64,
@@ -76,7 +77,7 @@ pub struct Reply {
 }
 
 // What who mends an image is told: 0 or the cause's number, the place, the image's length, how many jumps were replaced.
-#[derive(Drop)]
+#[derive(Clone, Copy)]
 pub struct MendAnswer {
     pub number: u64,
     pub place: u64,
@@ -85,7 +86,7 @@ pub struct MendAnswer {
 }
 
 // struct Instruction with its mark (struct InstSrc).
-#[derive(Drop)]
+#[derive(Clone, Copy)]
 pub struct Instruction {
     pub opcode: u8,
     pub a: u8,
@@ -95,7 +96,7 @@ pub struct Instruction {
 }
 
 // What an image still has to bring: captures and instructions of the prototype in hand that are to come; and how many prototypes and constants it has brought.
-#[derive(Drop)]
+#[derive(Clone, Copy)]
 pub struct Due {
     pub captures: usize,
     pub code: usize,
@@ -104,7 +105,7 @@ pub struct Due {
 }
 
 // How a walk ended (document 02, E4 and E8): at a Return, out of decisions, out of budget; a failure with no handler registered, a 257th handler.
-#[derive(Drop)]
+#[derive(Clone, Copy)]
 pub enum Ending {
     AtReturn,
     NoDecision,
@@ -114,7 +115,7 @@ pub enum Ending {
 }
 
 // What a caller is told of a walk: 0 or the cause's number, the place; the steps taken, the index where it stood, and how it ended.
-#[derive(Drop)]
+#[derive(Clone, Copy)]
 pub struct WalkAnswer {
     pub number: u64,
     pub place: u64,

@@ -1,21 +1,19 @@
 -- The walk over the fields of an image finds what Mend lists, and replaces what Mend replaces. The idea: fields in order are those of the image that they stand for, prototype by prototype.
 use mathlib.Core.Path.{◌≡◌, refl, sym, ap, ap₂, ◌∙◌, subst}
-use mathlib.Core.Bool.{Bool, true, false, ◌&&◌, cond}
-use mathlib.Core.Logic.{◌⊎◌, inl, inr, ⊎_elim}
-use mathlib.Core.Option.{none}
-use mathlib.Core.List.{List, [], ◌∷◌, ◌++◌, map, append-nil, append_assoc}
-use Prim.Native.Nat.{ℕ, zero, suc, ◌+◌, ◌-◌, ◌<◌, ◌≤◌}
+use mathlib.Core.Bool.{Bool, true, false, cond}
+use mathlib.Core.Logic.{⊎_elim}
+use mathlib.Core.List.{List, [], ◌∷◌, ◌++◌, map, append_assoc}
+use Prim.Native.Nat.{ℕ, ◌+◌, ◌-◌, ◌<◌}
 use native.Mathlib.Nat.{le_refl}
 use native.Mathlib.Omega.{arith}
 use lib.ListN.{length, drop}
-use lib.Dec.{eqb, leb, ltb}
+use lib.Dec.{eqb}
 use borrow.Author.Tests.{eq-eqb, ne_eqb, lt-ltb, le-leb}
 use Rattle.meaning.specs.Fields.{Field, word_at, fields}
-use Rattle.meaning.specs.Opcode.{inst, Return}
 use Rattle.meaning.specs.Constant.{Constant, number, text, other}
 use Rattle.meaning.specs.State.{Capture, Proto}
-use Rattle.meaning.specs.Images.{Image, inst_of, image_of}
-use Rattle.meaning.specs.Image.{word, mark_bytes, written}
+use Rattle.meaning.specs.Images.{image_of}
+use Rattle.meaning.specs.Image.{word, mark_bytes}
 use Rattle.meaning.specs.Safety.{All}
 use Rattle.meaning.specs.Mend.{replaced, mended, mended_from, mended_proto, mended_image, Entry, listed_from, listed, mended_copy, listed_in}
 use Rattle.meaning.specs.declared.Instruction.{Instruction}

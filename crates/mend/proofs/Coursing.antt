@@ -1,18 +1,17 @@
 -- The walk from field to field: what it knows of where it stands, and how many hits are behind it.
-use mathlib.Core.Path.{◌≡◌, refl, sym, ap, ◌∙◌}
+use mathlib.Core.Path.{◌≡◌, ap, ◌∙◌}
 use mathlib.Core.Bool.{Bool, true, false, ◌&&◌, cond}
-use mathlib.Core.List.{List, [], ◌∷◌, ◌++◌}
-use Prim.Native.Nat.{ℕ, ◌+◌, ◌-◌, ◌<◌, ◌≤◌}
+use mathlib.Core.List.{List, [], ◌++◌}
+use Prim.Native.Nat.{ℕ, ◌+◌, ◌<◌, ◌≤◌}
 use native.Mathlib.Omega.{arith}
-use lib.ListN.{length, get_or, drop, length-append, length-drop}
+use lib.ListN.{length, drop, length-append, length-drop}
 use lib.Dec.{eqb, leb}
-use Rattle.meaning.specs.Fields.{Field, word_at, span, whole, payload_of, front, rest, fields}
-use Rattle.meaning.specs.Mend.{Entry}
+use Rattle.meaning.specs.Fields.{Field, word_at, span, whole, front, rest, fields}
 use Rattle.meaning.proofs.Lists.{tail_part}
 use Rattle.meaning.proofs.FieldLaws.{from, whole_true, fields_whole, fields_cut}
 use Rattle.meaning.proofs.Images.Fielded.{Bytes, bytes_at, bytes_take, bytes_drop}
 use Rattle.mend.specs.declared.walk.Course.{Course}
-use Rattle.mend.specs.Course.{course, hit, hits, after}
+use Rattle.mend.specs.Course.{course, hits, after}
 use Rattle.mend.proofs.Courses.{entries_in}
 use Rattle.mend.proofs.Seen.{hits_few}
 

@@ -4,11 +4,11 @@ use mathlib.Core.Bool.{true}
 use mathlib.Core.List.{List, ◌++◌}
 use Prim.Native.Nat.{ℕ, zero, suc, ◌*◌, ◌-◌, ◌≤◌}
 use native.Mathlib.Omega.{arith}
-use lib.ListN.{length, drop, replicate, length-append}
+use lib.ListN.{length, drop, replicate}
 use lib.Seq.{drop-append_seam}
 use Rattle.meaning.specs.Check.{framed}
 use Rattle.meaning.specs.Answer.{cause_number}
-use Rattle.meaning.specs.Mend.{Entry, mended_copy, listed_in, list_bytes, Mending, unmended, mended_to, mend_as, mend_answer, mend_output, mend_list}
+use Rattle.meaning.specs.Mend.{mended_copy, listed_in, list_bytes, Mending, unmended, mended_to, mend_as, mend_answer, mend_output, mend_list}
 use Rattle.meaning.specs.declared.MendAnswer.{MendAnswer}
 use Rattle.meaning.specs.declared.Cause.{Cause}
 use Rattle.meaning.specs.declared.Outcome.{Outcome}

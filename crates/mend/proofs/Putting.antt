@@ -1,12 +1,12 @@
 -- The output and the list while fields are replaced. The idea: what is done, then what is left of the image as it was; and what is done with what will become of the rest is the whole copy.
-use mathlib.Core.Path.{◌≡◌, refl, sym, ap, ap₂, ◌∙◌, subst}
+use mathlib.Core.Path.{◌≡◌, refl, sym, ap, ap₂, ◌∙◌}
 use mathlib.Core.Bool.{Bool, true, false, cond}
 use mathlib.Core.List.{List, [], ◌∷◌, ◌++◌, append_assoc, append-nil}
-use Prim.Native.Nat.{ℕ, suc, ◌+◌, ◌-◌, ◌*◌, ◌<◌, ◌≤◌}
+use Prim.Native.Nat.{ℕ, suc, ◌+◌, ◌*◌, ◌≤◌}
 use native.Mathlib.Omega.{arith}
 use lib.ListN.{length, get_or, take, drop, length-append}
 use lib.Seq.{sets, sets-eq, length-sets, take_at, drop-append-add, drop-drop}
-use Rattle.meaning.specs.Fields.{Field, word_at, span, whole, payload_of, front, rest, fields, left}
+use Rattle.meaning.specs.Fields.{Field, span, whole, front, rest, fields, left}
 use Rattle.meaning.specs.Image.{word}
 use Rattle.meaning.specs.Mend.{Entry, entry_bytes, list_bytes}
 use Rattle.meaning.proofs.FieldLaws.{from, fields_whole, fields_cut, left_whole, left_cut}

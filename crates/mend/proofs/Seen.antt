@@ -1,8 +1,8 @@
 -- What is read of the field at the front.
-use mathlib.Core.Path.{◌≡◌, refl, sym, ap, ap₂, ◌∙◌}
+use mathlib.Core.Path.{◌≡◌, refl, sym, ap, ◌∙◌}
 use mathlib.Core.Bool.{Bool, true, false, ◌&&◌, cond}
 use mathlib.Core.List.{List, [], ◌∷◌, ◌++◌}
-use Prim.Native.Nat.{ℕ, ◌+◌, ◌-◌, ◌*◌, ◌<◌, ◌≤◌}
+use Prim.Native.Nat.{ℕ, ◌+◌, ◌-◌, ◌<◌, ◌≤◌}
 use native.Mathlib.Omega.{arith}
 use lib.ListN.{length, get_or}
 use lib.Dec.{eqb, leb, ltb}
@@ -48,9 +48,6 @@ module _ (t : List ℕ) (w : whole t ≡ true) (tag : ℕ) (c : Course) (size : 
   module _ (e : within ≡ true) where
     pub four : 4 ≤ word_at t 1
     four = let z = leb-true 4 size (and_right (eqb (get_or t 0 0) tag) _ (and_left _ _ e)) in omega arith
-
-    pub below : c.index < c.code
-    below = ltb-true c.index c.code (and_right (ltb 0 c.met) _ (and_right (eqb (get_or t 0 0) tag && leb 4 size) _ e))
 
     pub hit_if : (a v : ℕ) (r : Bool) → a ≡ get_or t 4 0 → v ≡ word_at t 5 → r ≡ replaced_seen (get_or t 3 0) a v c.index c.code → r ≡ hit tag c (front t)
     hit_if a v r ea ev er =

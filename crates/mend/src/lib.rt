@@ -1,4 +1,6 @@
 // Images mended (document 02, E9): judged first, as they will be; then copied, their stray jumps replaced and listed.
+#![tactic(auto)]
+
 mod put;
 mod walk;
 

@@ -9,7 +9,7 @@ use fields::{as_size, is_whole, span_of, word};
 use reader::is_replaced;
 
 // Where the walk stands: how many headers it has met, how many instructions the last one names, how many of these it has passed.
-#[derive(Drop)]
+#[derive(Clone, Copy)]
 pub struct Course {
     pub met: usize,
     pub code: usize,

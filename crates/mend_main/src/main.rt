@@ -1,6 +1,8 @@
 // Mends the image on standard input (document 02, E9): on standard output a line of four numbers, number, place, length of the image and entries in
 // the list; where number is 0 the bytes of the list follow, then those of the mended image. Of more bytes than an image can have nothing is written.
 // There is no heap, so every room is an array on the stack: small ones for an image of less than 65,536 bytes.
+#![tactic(auto)]
+
 ghost use Rattle.std.specs.Prelude.{◌*◌, ◌≤◌, length};
 
 use meaning::MendAnswer;
@@ -26,6 +28,7 @@ fn few(image: &[u8]) {
     told(image, &mut out, &mut list);
 }
 
+#[inline(never)]
 fn large(read: &[u8], turns: usize) {
     if programs::never() && 0 < turns {
         large(read, turns - 1);
@@ -42,6 +45,7 @@ fn more(read: &[u8], room: &mut [u8]) {
 }
 
 // 256 prototypes of 65,535 instructions have 16,776,960 entries at most.
+#[inline(never)]
 fn many(image: &[u8], turns: usize) {
     if programs::never() && 0 < turns {
         many(image, turns - 1);

@@ -1,5 +1,5 @@
 -- The table of the nodes' offsets, at the end of the work area: its last word is where field 0 starts in the tree, the word before it where field 1 does.
-use Rattle.std.specs.Prelude.{ℕ, ◌+◌, ◌-◌, ◌<◌, ◌≤◌, ◌≡◌, List, length, get_or}
+use Rattle.std.specs.Prelude.{ℕ, ◌-◌, ◌<◌, ◌≤◌, ◌≡◌, List, length, get_or}
 use Rattle.meaning.specs.Fields.{fields, header}
 
 -- the table of a tree

@@ -19,7 +19,7 @@ pub fn variable_of(tree: &[u8], work: &[u32], node: usize, wide: usize) -> Token
 }
 
 // 05 unary: op m x
-#[derive(Drop)]
+#[derive(Clone, Copy)]
 pub struct Unary {
     pub op: u32,
     pub mark: u32,
@@ -40,7 +40,7 @@ pub fn unary_of(tree: &[u8], work: &[u32], node: usize, wide: usize) -> Unary
 }
 
 // 06 binary: op m x x
-#[derive(Drop)]
+#[derive(Clone, Copy)]
 pub struct Binary {
     pub op: u32,
     pub mark: u32,
@@ -63,7 +63,7 @@ pub fn binary_of(tree: &[u8], work: &[u32], node: usize, wide: usize) -> Binary
 }
 
 // 07 logical: op m x x
-#[derive(Drop)]
+#[derive(Clone, Copy)]
 pub struct Logical {
     pub op: u32,
     pub mark: u32,
@@ -86,7 +86,7 @@ pub fn logical_of(tree: &[u8], work: &[u32], node: usize, wide: usize) -> Logica
 }
 
 // 08 call: callee m arguments..; how many arguments
-#[derive(Drop)]
+#[derive(Clone, Copy)]
 pub struct Call {
     pub callee: usize,
     pub mark: u32,
@@ -107,7 +107,7 @@ pub fn call_of(tree: &[u8], work: &[u32], node: usize, wide: usize) -> Call
 }
 
 // 09 function: k, k pairs n m, body..; how many parameters, the mark of the first, and where the body ends
-#[derive(Drop)]
+#[derive(Clone, Copy)]
 pub struct Function {
     pub params: usize,
     pub mark: u32,

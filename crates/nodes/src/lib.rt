@@ -1,4 +1,6 @@
 // Where the nodes of a tree stand, and what a node of each kind holds, by name. The functions are called with a tree that the check has accepted.
+#![tactic(auto)]
+
 mod expressions;
 mod offsets;
 mod statements;

@@ -20,7 +20,7 @@ pub fn expr_stmt_of(tree: &[u8], work: &[u32], node: usize) -> usize
 }
 
 // 11 let: n m and perhaps x, else absent
-#[derive(Drop)]
+#[derive(Clone, Copy)]
 pub struct Let {
     pub token: Token,
     pub value: usize,
@@ -39,7 +39,7 @@ pub fn let_of(tree: &[u8], work: &[u32], node: usize, wide: usize) -> Let
 }
 
 // 13 while: m condition body
-#[derive(Drop)]
+#[derive(Clone, Copy)]
 pub struct While {
     pub mark: u32,
     pub condition: usize,
@@ -60,7 +60,7 @@ pub fn while_of(tree: &[u8], work: &[u32], node: usize, wide: usize) -> While
 }
 
 // 14 for: m initializer condition increment body; the initializer may be absent
-#[derive(Drop)]
+#[derive(Clone, Copy)]
 pub struct For {
     pub mark: u32,
     pub initializer: usize,
@@ -92,7 +92,7 @@ pub fn for_of(tree: &[u8], work: &[u32], node: usize, wide: usize) -> For
 }
 
 // 15 for-in: m collection body, pairs n m, at least one; how many names
-#[derive(Drop)]
+#[derive(Clone, Copy)]
 pub struct ForIn {
     pub mark: u32,
     pub collection: usize,
@@ -135,7 +135,7 @@ pub fn jump_of(tree: &[u8], work: &[u32], node: usize, wide: usize) -> u32
 }
 
 // 18 return: m and perhaps x, else absent
-#[derive(Drop)]
+#[derive(Clone, Copy)]
 pub struct Return {
     pub mark: u32,
     pub value: usize,
@@ -154,7 +154,7 @@ pub fn return_of(tree: &[u8], work: &[u32], node: usize, wide: usize) -> Return
 }
 
 // 19 if: m condition t, t x, e, e elifs, else x..; where its statements, its elifs and its else end
-#[derive(Drop)]
+#[derive(Clone, Copy)]
 pub struct If {
     pub mark: u32,
     pub condition: usize,
@@ -181,7 +181,7 @@ pub fn if_of(tree: &[u8], work: &[u32], node: usize, wide: usize) -> If
 }
 
 // 1A elif: condition x..; where it ends
-#[derive(Drop)]
+#[derive(Clone, Copy)]
 pub struct Elif {
     pub condition: usize,
     pub end: usize,
@@ -200,7 +200,7 @@ pub fn elif_of(tree: &[u8], work: &[u32], node: usize) -> Elif
 }
 
 // 1B try: body n m catch body
-#[derive(Drop)]
+#[derive(Clone, Copy)]
 pub struct Try {
     pub body: usize,
     pub token: Token,
@@ -221,7 +221,7 @@ pub fn try_of(tree: &[u8], work: &[u32], node: usize, wide: usize) -> Try
 }
 
 // 1C function statement: n m k, k pairs n m, body..; how many parameters, and where the body ends
-#[derive(Drop)]
+#[derive(Clone, Copy)]
 pub struct Define {
     pub token: Token,
     pub params: usize,
@@ -243,7 +243,7 @@ pub fn define_of(tree: &[u8], work: &[u32], node: usize, wide: usize) -> Define
 }
 
 // 1D class: n m superclass s, s methods, static methods..; how many methods, and where the static ones end
-#[derive(Drop)]
+#[derive(Clone, Copy)]
 pub struct Class {
     pub token: Token,
     pub superclass: usize,

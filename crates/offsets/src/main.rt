@@ -1,5 +1,7 @@
 // Every offset that a function of at most 32,767 instructions can hold, stored by `forward` or `backward` and read back by `sbx`:
 // the law that the one is the other's inverse, by their promises alone.
+#![tactic(auto)]
+
 ghost use Rattle.std.specs.Prelude.{◌≡◌, ◌≤◌, pos, neg_ℤ};
 ghost use Rattle.meaning.specs.Opcode.{Jmp, no_mark, inst};
 

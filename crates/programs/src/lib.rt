@@ -1,11 +1,14 @@
 // What the programs share. There is no heap, so what they read stands in rooms: arrays on the stack, taken in turn, the smallest first.
+#![tactic(auto)]
+
 ghost use Rattle.std.specs.Prelude.{◌≤◌, ◌≡◌, length};
 ghost use Rattle.programs.specs.Words.{spelled};
 
-// Never: no process has the number 0. A function that calls itself behind this test is compiled apart, with a frame of its own on the stack;
-// its room would otherwise be a part of main's frame, in every run.
+// Never. A function that calls itself behind this test is compiled apart, with a frame of its own on the stack; its room would otherwise be a
+// part of main's frame, in every run.
+#[inline(never)]
 pub fn never() -> bool {
-    libc::getpid() == 0
+    false
 }
 
 // One byte more than the longest image: 256 prototypes of 13 bytes, each with 65,535 captures of 5 and as many instructions of 11, and 1,024 constants of 11.
@@ -31,7 +34,7 @@ fn copied(read: &[u8], room: &mut [u8]) -> usize
 }
 
 // What a word spells.
-#[derive(Drop)]
+#[derive(Clone, Copy)]
 pub enum Spelled {
     Number(u64),
     Wrong,

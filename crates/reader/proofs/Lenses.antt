@@ -1,14 +1,13 @@
 -- What is seen through the lens. E1's changes nothing; E9's makes Return 0 0 0 of a jump that is replaced, which passes every test and enters nothing.
 use mathlib.Core.Path.{◌≡◌, refl, sym, ap, ap₂, ◌∙◌}
-use mathlib.Core.Bool.{Bool, true, false, not, ◌&&◌, ◌||◌, cond}
-use mathlib.Core.Logic.{⊎_elim}
+use mathlib.Core.Bool.{Bool, true, false, ◌&&◌, ◌||◌, cond}
 use mathlib.Core.Option.{Option, none, some}
 use mathlib.Core.List.{List, [], ◌∷◌, map}
 use Prim.Native.Nat.{ℕ, ◌+◌, ◌*◌, ◌<◌}
 use native.Mathlib.Omega.{arith}
 use lib.ListN.{length, get_or}
-use lib.Dec.{eqb, ltb}
-use borrow.Author.Tests.{eqb-true, ne_eqb, ltb-false}
+use lib.Dec.{eqb}
+use borrow.Author.Tests.{ne_eqb, ltb-false}
 use Rattle.meaning.specs.Fields.{word_at, fields}
 use Rattle.meaning.specs.Check.{framed}
 use Rattle.meaning.specs.Opcode.{inst, bx, no_mark, Jmp, Return}
@@ -18,10 +17,9 @@ use Rattle.meaning.specs.Images.{Image, image_of}
 use Rattle.meaning.specs.Follow.{at_first, stray}
 use Rattle.meaning.specs.Rules.{some_of, is, leads, inside}
 use Rattle.meaning.specs.Reader.{Read, refused, ruled, broken, ordered, read_as}
-use Rattle.meaning.specs.Mend.{replaced, mended, mended_copy, read_copy, read_mended}
+use Rattle.meaning.specs.Mend.{replaced, mended, read_copy, read_mended}
 use Rattle.meaning.specs.declared.Instruction.{Instruction}
 use Rattle.meaning.specs.declared.Cause.TheVariants.{ImageFrame}
-use Rattle.meaning.proofs.Lists.{false_true}
 use Rattle.meaning.proofs.Images.Fielded.{Bytes}
 use Rattle.meaning.proofs.Images.Assembled.{Tagged}
 use Rattle.meaning.proofs.Mend.{copy_read}
@@ -30,7 +28,7 @@ use Rattle.reader.specs.declared.facts.Around.{Around}
 use Rattle.reader.specs.Laid.{code_in}
 use Rattle.reader.specs.Marks.{seen_opcode, first_lead, second_lead}
 use Rattle.reader.specs.Tests.{closure_seen, text_seen, lawful_seen, replaced_seen, kind_seen, seen_test}
-use Rattle.reader.specs.Lens.{lens, lens_code, lens_proto, lens_image, ordered_by, read_by}
+use Rattle.reader.specs.Lens.{lens, lens_code, lens_proto, ordered_by, read_by}
 use Rattle.reader.proofs.Scanned.{byte_at, code_at, seen_is}
 use Rattle.reader.proofs.Tested.{replaced_is}
 use Rattle.reader.proofs.Marking.{or_false, no_place, leads_are, code_length, opcode_there, a_there, bx_there}

@@ -136,10 +136,6 @@ module _ (mend : Bool) (s : List ℕ) (tag : ℕ) (ok : Tagged tag) (t : List �
     pub front : Headed tag ok t k
     front = here s tag 256 t k ok r.at w h
 
-    -- its fields are no more than its bytes
-    pub fields_fit : f + 1 + word_at t 9 + word_at t 11 ≤ length s
-    fields_fit = omega (arith, front.room, r.room, grows (eqb tag 0x47) (word_at t 11))
-
     captures_are : length p.captures ≡ word_at t 9
     unfolding proto_in
     captures_are = captures_length t 13 (word_at t 9)

@@ -9,7 +9,7 @@ use native.Mathlib.Omega.{arith}
 use lib.ListN.{length}
 use lib.Dec.{eqb, leb, ltb}
 use borrow.Author.Tests.{eqb-true, ltb-true, leb-true, lt-ltb, le-ltb, le-leb, lt-leb}
-use Rattle.meaning.specs.Opcode.{Meets, of_none, of-a, of-ab, of-abc, of-return, of-call, meets, opcodes_written, bx, LoadK, GetUpval, Closure, Jmp, Test, Call, Return, RegisterTryCatch}
+use Rattle.meaning.specs.Opcode.{Meets, of_none, of_a, of_ab, of_abc, of_return, of_call, meets, opcodes_written, bx, LoadK, GetUpval, Closure, Jmp, Test, Call, Return, RegisterTryCatch}
 use Rattle.meaning.specs.State.{Capture, Proto, among}
 use Rattle.meaning.specs.Steps.{target}
 use Rattle.meaning.specs.Safety.{from, met_by, met, name_due}
@@ -41,11 +41,11 @@ both false false f g = refl
 -- a number for what a row says of registers
 abbrev form : Meets → ℕ
 form of_none = 0
-form of-a = 1
-form of-ab = 2
-form of-abc = 3
-form of-return = 4
-form of-call = 5
+form of_a = 1
+form of_ab = 2
+form of_abc = 3
+form of_return = 4
+form of_call = 5
 
 -- what kind and number tell of an opcode is what its row says
 abbrev agrees : ℕ → Bool
@@ -152,15 +152,15 @@ module _ (x : Instruction) (n : ℕ) where
   form_is : (m : Meets) → below (met_by m x) ≡ by_form (eqb (form m) 0) (eqb (form m) 2) (eqb (form m) 3) (eqb (form m) 4) (eqb (form m) 5)
   unfolding all
   form_is of_none = refl
-  form_is of-a = refl
-  form_is of-ab = refl
-  form_is of-abc = refl
-  form_is of-return = go (eqb x.b 0)
+  form_is of_a = refl
+  form_is of_ab = refl
+  form_is of_abc = refl
+  form_is of_return = go (eqb x.b 0)
     where
       go : (b : Bool) → below (cond b [] (x.a ∷ [])) ≡ (b || (ltb x.a n && true))
       go true = refl
       go false = refl
-  form_is of-call = ⊎_elim
+  form_is of_call = ⊎_elim
       (λ (h : x.a < n). rw (lt-ltb x.a n h) (call_is x.a x.b x.c n h))
       (λ (h : n ≤ x.a). rw (le-ltb x.a n h) refl)
       (lt_or_le x.a n)

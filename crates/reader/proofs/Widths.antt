@@ -5,7 +5,7 @@ use mathlib.Core.List.{List}
 use Prim.Native.Nat.{ℕ}
 use lib.ListN.{get_or}
 use borrow.Author.Tests.{eq-eqb, ne_eqb}
-use Rattle.meaning.specs.Fields.{span, whole, rest, fields}
+use Rattle.meaning.specs.Fields.{span, whole}
 use Rattle.meaning.specs.Reader.{tag_in, image_tag}
 use Rattle.meaning.proofs.FieldLaws.{from, fields_whole, fields_cut}
 use Rattle.meaning.proofs.Lists.{tail_part}

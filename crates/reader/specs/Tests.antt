@@ -2,7 +2,7 @@
 use Rattle.std.specs.Prelude.{ℕ, max, ◌+◌, ◌<◌, ◌≡◌, Bool, not, ◌&&◌, ◌||◌, cond, eqb, leb, ltb, get_or, List, [], ◌∷◌}
 use Rattle.meaning.specs.State.{Capture, among}
 use Rattle.reader.specs.declared.facts.Around.{Around}
-use Rattle.meaning.specs.Opcode.{Meets, of_none, of-a, of-ab, of-abc, of-return, of-call, meets, opcodes_written, bx, Jmp, LoadK, Call, GetUpval, Closure, RegisterTryCatch}
+use Rattle.meaning.specs.Opcode.{Meets, of_none, of_a, of_ab, of_abc, of_return, of_call, meets, opcodes_written, bx, Jmp, LoadK, Call, GetUpval, Closure, RegisterTryCatch}
 use Rattle.meaning.specs.Safety.{name_due}
 use Rattle.meaning.specs.declared.Instruction.{Instruction}
 
@@ -15,11 +15,11 @@ asking = Jmp ∷ LoadK ∷ Call ∷ GetUpval ∷ Closure ∷ RegisterTryCatch �
 -- of the others, which registers are enough: a (0), a and b (1), a, b and c (2)
 abbrev pub enough : Meets → ℕ
 enough of_none = 0
-enough of-a = 0
-enough of-ab = 1
-enough of-abc = 2
-enough of-return = 0
-enough of-call = 0
+enough of_a = 0
+enough of_ab = 1
+enough of_abc = 2
+enough of_return = 0
+enough of_call = 0
 
 -- that, or 3 where more is asked, or 4 where the opcode is not written
 unfoldable pub kind_seen : ℕ → ℕ

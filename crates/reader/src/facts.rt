@@ -63,7 +63,7 @@ fn operates(
 }
 
 // What an instruction's facts ask of what is around it: the registers and captures of its prototype, how many prototypes and constants there are.
-#[derive(Drop)]
+#[derive(Clone, Copy)]
 pub struct Around {
     pub registers: usize,
     pub captures: usize,
@@ -342,7 +342,7 @@ pub(crate) fn first_unlawful(
 }
 
 // What the captures of a prototype need of its creator: so many registers, so many captures.
-#[derive(Drop)]
+#[derive(Clone, Copy)]
 pub struct Needs {
     pub locals: u16,
     pub outers: u16,

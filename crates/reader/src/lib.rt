@@ -1,4 +1,6 @@
 // Images read back (document 02, E1): frame, order and counts, then the facts of demand 3 at every instruction.
+#![tactic(auto)]
+
 mod facts;
 mod locate;
 mod marks;

@@ -10,14 +10,14 @@ use fields::{as_size, is_whole, span_of, word};
 use meaning::Due;
 
 // A place, or none.
-#[derive(Drop)]
+#[derive(Clone, Copy)]
 pub enum Spot {
     Nowhere,
     At(usize),
 }
 
 // The whole fields of a file, and the bytes that stand after them.
-#[derive(Drop)]
+#[derive(Clone, Copy)]
 pub struct Framed {
     pub count: usize,
     pub after: usize,
@@ -41,7 +41,7 @@ pub fn frame(image: &[u8]) -> Framed
 }
 
 // What is read of a field to judge it: its tag and its length; of two bytes the first; of a header the counts.
-#[derive(Drop)]
+#[derive(Clone, Copy)]
 pub struct Seen {
     pub tag: u8,
     pub size: usize,
@@ -211,7 +211,7 @@ fn run(t: &[u8], tag: u8, size: usize, n: usize) -> usize
 }
 
 // What one walk tells: the whole fields, the bytes after them, the first field that cannot follow, or the field count where the end is too soon.
-#[derive(Drop)]
+#[derive(Clone, Copy)]
 pub struct Walked {
     pub count: usize,
     pub after: usize,

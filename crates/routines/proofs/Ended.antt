@@ -1,6 +1,6 @@
 -- A function is left, and calls in the scope around it follow. As on a line (PieceLine.antt) the room that a call asks for and the cost of the whole add up, but the function's code is
 -- gone: what is used is measured from the words with the code cut off at `first`.
-use Prim.Native.Nat.{ℕ, ◌+◌, ◌*◌, ◌%◌, ◌≤◌}
+use Prim.Native.Nat.{ℕ, ◌+◌, ◌%◌, ◌≤◌}
 use mathlib.Core.Path.{refl, ap, ◌∙◌}
 use mathlib.Core.List.{List}
 use native.Mathlib.Omega.{arith}

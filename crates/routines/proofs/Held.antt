@@ -3,7 +3,6 @@ use Prim.Native.Nat.{ℕ, zero, suc, ◌<◌, ◌≤◌}
 use mathlib.Core.Path.{◌≡◌, refl, sym, ap, ◌∙◌}
 use mathlib.Core.Bool.{true}
 use mathlib.Core.List.{List}
-use mathlib.Core.Logic.{◌⊎◌, inl, inr}
 use mathlib.Core.Option.{Option, none, some}
 use native.Mathlib.Omega.{arith}
 use native.Mathlib.Decide.{ℕ_discrete}
@@ -18,13 +17,11 @@ use Rattle.meaning.proofs.Reading.{number_node, text_node, other_node}
 use Rattle.meaning.proofs.Places.{none_of, unmarked, rest, from_first}
 use Rattle.values.specs.declared.literal.Immediate.TheVariants.{Is, Not}
 use Rattle.values.specs.Literals.{constant_at, small_as}
-use denote.Enum.Declared.{tag_of}
 use Rattle.store.specs.declared.Scope.{Scope}
 use Rattle.store.specs.Store.{nodes_of, Kept}
 use Rattle.store.specs.declared.Found.{Found}
 use Rattle.store.specs.declared.Found.TheVariants.{At, Nothing, Full}
 use Rattle.store.specs.Search.{option_of, in_byte}
-use Rattle.store.specs.contracts.Found.{the_type}
 use Rattle.nodes.specs.Offsets.{Readable}
 use Rattle.nodes.specs.Nodes.{Node}
 use Rattle.nodes.proofs.Headers.{offsets_kept}
@@ -117,9 +114,8 @@ pub is_small : (o : Option ℕ) (k : ℕ) → Is k ≡ small_as o → o ≡ some
 is_small none k e = absurd (let z : ◌≡◌ {A = ℕ} 0 1 = cc in omega arith)
 is_small (some j) k e = let z : k ≡ j = cc in ap some (sym z)
 
-pub not_found : (f : Found) → (tag_of the_type f ≡ 1) ⊎ (tag_of the_type f ≡ 2) → option_of f ≡ none
-not_found (At j) (inl e) = absurd (omega arith)
-not_found (At j) (inr e) = absurd (omega arith)
+pub not_found : (f : Found) → ((i : ℕ) → f ≡ At i → ⊥) → option_of f ≡ none
+not_found (At j) h = absurd (h j refl)
 not_found Nothing h = refl
 not_found Full h = refl
 

@@ -93,8 +93,3 @@ module _ (node mark element name : ℕ) {l : List ℕ} {from n k : ℕ} {w₀ w 
       one_turn v less (costing (turns 3 (k + 1)) (record { words = omega arith; locals = omega arith; names = omega arith; still = λ z. omega arith; visits = omega arith }) (v.line ▹ m ▹ i))
       (λ g. omega (arith, (emit_keeps _ i g).counted, (named_takes node name m (i.moves.back g)).counted, v.counted (m.moves.back (i.moves.back g))))
       (λ ps x h. iterate_each_chain node mark element k (token (at (words l) (from + pair_place (is_wide p) k)) (mark_in p l from k)) _ _ _ (rw (← e) (m.runs ps)) _ (known _ _ _ ps) _ (i.runs ps) x h)
-
--- each turn took a register, so k is a byte
-pub name_byte : (node mark element name : ℕ) {l : List ℕ} {from n k : ℕ} {w₀ w w1 : List ℕ} {p : Scope} {s₀ s s1 : Step} → Turned (all_names node mark element) l from n 3 w₀ p s₀ w s k → Leaf w p s w1 p s1 (both a_register a_local) (a_parameter node name)
-    → result_of s1 < 255 → goes_on (outcome_of s1) → k < 256
-name_byte node mark element name v m small g = omega (arith, (named_takes node name m g).result, v.counted (m.moves.back g))

@@ -65,7 +65,3 @@ before false from k n len l h = omega arith
 -- each of the n pairs is in the payload
 pub pair_there : {p : Scope} {l : List ℕ} {from n : ℕ} (k : ℕ) → HasPairs p l from n → k < n → from + pair_place (is_wide p) k < length (words l)
 pair_there {p} {l} {from} {n} k h b = before (is_wide p) from k n (length (words l)) b h.inside
-
--- its first word is the name of the first
-pub first_there : {p : Scope} {l : List ℕ} {from n : ℕ} → HasPairs p l from n → 1 ≤ n → from < length (words l)
-first_there {p} {l} {from} h b = let z = none_before (is_wide p) in omega (arith, z, pair_there 0 h b)

@@ -1,5 +1,7 @@
 // The routines of the Rust's compiler, but for their recursion (that is `cycle`): what each does before, between and behind its children, and the whole of one
 // that has none. A file for each `visit_` routine, named after it; what several share is in loops.rt, names.rt and bodies.rt.
+#![tactic(auto)]
+
 mod binary_expr;
 mod bodies;
 mod break_stmt;

@@ -4,7 +4,7 @@ use native.Mathlib.Decide.{dec_lt}
 use Rattle.store.specs.declared.Step.{Step}
 use Rattle.store.specs.declared.Scope.{Scope}
 use Rattle.store.specs.Table.{tab, span}
-use Rattle.store.specs.Layout.{first_edge, first_local, all_words, registers, first, edge, local_at, block, inst_at}
+use Rattle.store.specs.Layout.{first_edge, first_local, all_words, first, edge, local_at, block, inst_at}
 use Rattle.store.specs.Store.{top_of, open_at, around, state_of, run, deeper, Linked, Sound, Fine, Kept}
 use Rattle.store.specs.Promise.{nothing, Used, Moves, Leaf}
 use Rattle.store.proofs.Tables.{span_more, span_none}

@@ -4,7 +4,7 @@ use mathlib.Core.Bool.{beq}
 use native.Mathlib.Decide.{dec_lt}
 use borrow.Author.Tests.{lt-leb}
 use Rattle.store.specs.declared.Found.TheVariants.{At, Nothing, Full}
-use Rattle.store.specs.Half.{half, with_half}
+use Rattle.store.specs.Half.{with_half}
 use Rattle.store.specs.Table.{tab, span}
 use Rattle.store.specs.Layout.{first_edge, first_local, edge, block, first, held, capture_of, capture_word, capture_at}
 use Rattle.store.specs.Store.{open_at, around}

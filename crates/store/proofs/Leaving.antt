@@ -3,7 +3,7 @@ use Rattle.std.proofs.Common.{◌≡◌, ℕ, suc, ◌+◌, ◌*◌, ◌%◌, �
 use Rattle.store.specs.declared.Step.{Step}
 use Rattle.store.specs.declared.Scope.{Scope}
 use Rattle.store.specs.Table.{tab, span}
-use Rattle.store.specs.Layout.{first_edge, first_local, registers, first, edge, block, inst_at}
+use Rattle.store.specs.Layout.{first_edge, first_local, first, edge, block, inst_at}
 use Rattle.store.specs.Store.{top_of, open_at, around, state_of, run, deeper, Sound, Fine, Kept}
 use Rattle.store.specs.Promise.{Cost, boxed, taken, Used, Moves, Popped}
 use Rattle.store.proofs.Tables.{span_more}

@@ -5,7 +5,7 @@ use Rattle.store.specs.declared.Step.{Step}
 use Rattle.store.specs.declared.Scope.{Scope}
 use Rattle.store.specs.Half.{half, with_half}
 use Rattle.store.specs.Table.{tab, span}
-use Rattle.store.specs.Layout.{first_edge, first_local, first_head, beyond, all_words, registers, first, edge, local_at, block, latest, link, head, inst_at, top}
+use Rattle.store.specs.Layout.{first_edge, first_local, first_head, beyond, all_words, first, edge, local_at, block, latest, link, head, inst_at, top}
 use Rattle.store.specs.Store.{top_of, open_at, around, state_of, Leads, Linked, Sound, Fine, Kept}
 use Rattle.store.specs.Promise.{a_local, Roomy, Used, Moves, Leaf, Latest, Unlinked}
 use Rattle.store.proofs.Tables.{span_more, span_ext}

@@ -10,7 +10,7 @@ use Rattle.meaning.specs.State.{Proto, M, refused, done}
 use Rattle.meaning.specs.declared.Cause.{Cause}
 use Rattle.meaning.specs.declared.Outcome.{Outcome}
 use Rattle.meaning.specs.declared.Outcome.TheVariants.{Accepted, Refused}
-use Rattle.forward.specs.Forward.{Config, config, Run, stopped, going, bind, on, at, fwd_by}
+use Rattle.forward.specs.Forward.{Config, config, Run, stopped, going, bind, on, fwd_by}
 
 -- ---- facts that are due while nothing is refused
 

@@ -4,7 +4,7 @@ use mathlib.Core.Option.{Option, none, some}
 use Rattle.store.specs.declared.Found.{Found}
 use Rattle.store.specs.declared.Found.TheVariants.{At, Nothing, Full}
 use Rattle.store.specs.declared.Scope.{Scope}
-use Rattle.store.specs.Layout.{edge, local_at, block, first, saved, held, capture_of}
+use Rattle.store.specs.Layout.{edge, local_at, first, saved, held, capture_of}
 use Rattle.store.specs.Store.{open_at, around, Sound}
 use Rattle.store.specs.Search.{found_of, seek, search_of, Caught, Added, Sought, Ready}
 use Rattle.store.proofs.Regions.{frame, captures_same, edges_below, below_256}

@@ -1,11 +1,10 @@
 -- One visit more is counted: a word of main's frame that nothing else stands on, so all that the words stand for stays.
-use Rattle.std.proofs.Common.{◌≡◌, ℕ, suc, ◌+◌, ◌-◌, ◌*◌, ◌%◌, ◌<◌, ◌≤◌, List, length, get_or, set, refl, ap, ◌∙◌, arith, length-set, get_or-set_other, get_or-set_same}
+use Rattle.std.proofs.Common.{◌≡◌, ℕ, suc, ◌+◌, ◌-◌, ◌*◌, ◌%◌, ◌≤◌, List, length, get_or, set, refl, ap, arith, length-set, get_or-set_other, get_or-set_same}
 use Rattle.store.specs.declared.Step.{Step}
 use Rattle.store.specs.declared.Scope.{Scope}
-use Rattle.store.specs.Table.{tab}
-use Rattle.store.specs.Layout.{registers, first, held, edge, visited}
+use Rattle.store.specs.Layout.{registers, first, held, edge}
 use Rattle.store.specs.Store.{top_of, open_at, around, state_of, config_of, run_by, run, while_going, Fine}
-use Rattle.store.specs.Promise.{a_visit, taken, Used, Moves, Ticked}
+use Rattle.store.specs.Promise.{a_visit, Used, Moves, Ticked}
 use Rattle.store.proofs.Regions.{Only, below, above, constants_same, globals_same, code_same, captures_same, around_same, below_256}
 use Rattle.store.proofs.Runs.{promised}
 use Rattle.store.proofs.Steady.{Clear, sound_clear, kept_clear, clear_edges, clear_blocks, fine_words, taken_by}

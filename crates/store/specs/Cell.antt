@@ -1,5 +1,5 @@
 -- The pending instruction's cell: what the functions of src/cell.rt promise. Where it stands and what it holds is in Layout.
-use Rattle.std.specs.Prelude.{◌≡◌, ℕ, ◌<◌, List, set, slice_set}
+use Rattle.std.specs.Prelude.{◌≡◌, ℕ, ◌<◌, List, slice_set}
 use Rattle.store.specs.Layout.{cell, mark_cell, unpacked}
 use Rattle.meaning.specs.declared.Instruction.{Instruction}
 

@@ -1,5 +1,5 @@
 -- The work area's words as halves, two to a word: half k is the low half of word k / 2 where k is even, else the high half.
-use Rattle.std.specs.Prelude.{ℕ, ◌+◌, ◌*◌, ◌/◌, ◌%◌, cond, List, set, ◌==◌, slice_index, slice_set}
+use Rattle.std.specs.Prelude.{ℕ, ◌+◌, ◌*◌, ◌/◌, ◌%◌, cond, List, ◌==◌, slice_index, slice_set}
 
 -- the number that half k holds, from 0 to 65,535
 unfoldable pub half : List ℕ → ℕ → ℕ

@@ -1,4 +1,6 @@
 // Module 3 of document 01: registers, blocks, locals, captures, globals and constants in the lent work area. specs/Layout.antt has its table.
+#![tactic(auto)]
+
 mod block;
 mod capture;
 mod cell;
@@ -32,7 +34,7 @@ pub use steps::{advance, prototype_more, refuse, settle};
 
 // Where the lowering stands: the outcome so far (accepted with the bytes of the finished prototypes), how many instructions are pending,
 // constants, globals and finished prototypes there are, and the register of the last result.
-#[derive(Drop)]
+#[derive(Clone, Copy)]
 pub struct Step {
     pub outcome: meaning::Outcome,
     pub pc: usize,
@@ -43,7 +45,7 @@ pub struct Step {
 }
 
 // What is lexical: the number of nodes, which fixes the layout; of functions around the current one; of open blocks; of the current function's open loops; the mode of the call; and whether the marks have four bytes.
-#[derive(Drop)]
+#[derive(Clone, Copy)]
 pub struct Scope {
     pub nodes: usize,
     pub depth: usize,
@@ -54,7 +56,7 @@ pub struct Scope {
 }
 
 // What a search gives: a register or an index, nothing, or a capture that does not fit.
-#[derive(Drop)]
+#[derive(Clone, Copy)]
 pub enum Found {
     At(u32),
     Nothing,
@@ -62,14 +64,14 @@ pub enum Found {
 }
 
 // A step with what it found.
-#[derive(Drop)]
+#[derive(Clone, Copy)]
 pub struct Lookup {
     pub step: Step,
     pub found: Found,
 }
 
 // A step with the scope inside.
-#[derive(Drop)]
+#[derive(Clone, Copy)]
 pub struct Entered {
     pub step: Step,
     pub scope: Scope,

@@ -1,7 +1,7 @@
 -- A payload of fixed length is told by its form: the loop over its words (`Fitting`) is followed over a first word, any words and the expressions at its
 -- end, each of which says that the rest is as the rows say. That each start's form is its rows' is one test, computed over both tables.
 use mathlib.Core.Path.{◌≡◌, refl, sym, ap, subst, ◌∙◌}
-use mathlib.Core.Bool.{Bool, true, false, not, ◌&&◌, cond}
+use mathlib.Core.Bool.{Bool, true, false, ◌&&◌, cond}
 use mathlib.Core.Logic.{◌⊎◌, inl, inr, ⊎_elim}
 use mathlib.Core.List.{List, [], ◌∷◌, ◌++◌}
 use Prim.Native.Nat.{ℕ, zero, suc, ◌+◌, ◌-◌, ◌*◌, ◌/◌, ◌<◌, ◌≤◌}
@@ -9,11 +9,11 @@ use native.Mathlib.Omega.{arith}
 use lib.ListN.{length, get_or, drop, replicate, length-drop}
 use lib.Seq.{drop-drop, get_or-drop}
 use lib.Dec.{leb, ltb, eqb}
-use borrow.Author.Tests.{ltb-true, ltb-false, lt-ltb, le-leb, lt-leb, leb-true, not-true, eqb-true, eqb-false, eq-eqb, ne_eqb}
+use borrow.Author.Tests.{ltb-true, lt-ltb, le-leb, leb-true, not-true, eqb-true, eqb-false, eq-eqb, ne_eqb}
 use Rattle.meaning.specs.Fields.{word_at}
 use Rattle.meaning.specs.Grammar.{any, expr, bounds, bound, inside, names, lawful}
 use Rattle.meaning.proofs.Lists.{tail_part, and_left, and_right, false_true, all_to, all_below}
-use Rattle.tree.specs.Rows.{row_list, first_rows, row_at, kind_in, next_in, flow_in, ends_in, next_left, next_row, fits_row}
+use Rattle.tree.specs.Rows.{row_list, first_rows, row_at, kind_in, next_in, flow_in, next_left, next_row, fits_row}
 use Rattle.tree.specs.Starts.{start_list, first_in, size_in, children_in, low_in, high_in, like, led, reaches, lead, says, formed, Start}
 use Rattle.tree.specs.Scratch.{tags_in, note_word, note_row}
 use Rattle.tree.proofs.Payloads.{Fitting, fitting_start, fitting_more, fitting_stop, fitting_end}
@@ -38,13 +38,13 @@ any_inside w h = simp (le-leb 0 w (omega arith), le-leb w 65535 (omega arith), n
 module _ (l₀ : List ℕ) (i first : ℕ) (p : List ℕ) where
   -- what is answered and left of the scratch in the end
   abbrev pub Told : Bool → List ℕ → Type 0
-  Told r l' = (r ≡ fits_row (lawful (tags_in l₀) i) first 0 p) × (l' ≡ note_row (lawful (tags_in l₀) i) l₀ i first 0 p)
+  Told r l' = record { fits : r ≡ fits_row (lawful (tags_in l₀) i) first 0 p; noted : l' ≡ note_row (lawful (tags_in l₀) i) l₀ i first 0 p }
 
   module _ (l q : List ℕ) (r : ℕ) (v : Fitting l₀ i first p l q r 0) where
     -- the end
     at_end : like r [] ≡ true → length q ≡ 0 → Told true l
     unfolding like
-    at_end e h = let d = fitting_end l₀ i first p l q r 0 v (row_at r) refl h in (sym e ∙ d.0, d.1)
+    at_end e h = let d = fitting_end l₀ i first p l q r 0 v (row_at r) refl h in record { fits = sym e ∙ d.fits; noted = d.noted }
 
     module _ (k : ℕ) (ks : List ℕ) (e : like r (k ∷ ks) ≡ true) (two : 2 ≤ length q) where
       kind_is : kind_in (row_at r) ≡ k

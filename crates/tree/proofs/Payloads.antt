@@ -75,17 +75,17 @@ fitting_start l₀ i first p h = record { low = h; size = refl; tags = refl; fit
 module _ (l₀ : List ℕ) (i first : ℕ) (p l q : List ℕ) (at left : ℕ) (v : Fitting l₀ i first p l q at left) where
   -- what is answered and left of the scratch in the end
   abbrev Done : Bool → List ℕ → Type 0
-  Done r l' = (r ≡ fits_row (lawful (tags_in l₀) i) first 0 p) × (l' ≡ note_row (lawful (tags_in l₀) i) l₀ i first 0 p)
+  Done r l' = record { fits : r ≡ fits_row (lawful (tags_in l₀) i) first 0 p; noted : l' ≡ note_row (lawful (tags_in l₀) i) l₀ i first 0 p }
 
   pub fitting_end : (row : ℕ) → row ≡ row_at at → length q ≡ 0 → Done (ends_in row) l
   fitting_end row er h =
       let e = row_end (lawful (tags_in l₀) i) l i at left q h in
-      (ap ends_in er ∙ e.0 ∙ sym v.fit, e.1 ∙ sym v.notes)
+      record { fits = ap ends_in er ∙ e.0 ∙ sym v.fit; noted = e.1 ∙ sym v.notes }
 
   pub fitting_odd : length q ≡ 1 → Done false l
   fitting_odd h =
       let e = row_odd (lawful (tags_in l₀) i) l i at left q h in
-      (e.0 ∙ sym v.fit, e.1 ∙ sym v.notes)
+      record { fits = e.0 ∙ sym v.fit; noted = e.1 ∙ sym v.notes }
 
   -- a word w at a row, found lawful or not
   module _ (two : 2 ≤ length q) (w row : ℕ) (ew : w ≡ word_at q 0) (er : row ≡ row_at at) (l' : List ℕ) where
@@ -93,10 +93,10 @@ module _ (l₀ : List ℕ) (i first : ℕ) (p l q : List ℕ) (at left : ℕ) (v
     is r e = sym (e ∙ rw (v.tags, ew, er))
 
     pub fitting_stop : false ≡ lawful (tags_in l) i (kind_in row) w → l' ≡ l → Done false l'
-    fitting_stop e f = (
-      sym (v.fit ∙ fits_two (lawful (tags_in l₀) i) l i at left q two ∙ simp (is false e)),
-      f ∙ sym (v.notes ∙ note_two (lawful (tags_in l₀) i) l i at left q two ∙ simp (is false e)),
-    )
+    fitting_stop e f = record {
+      fits = sym (v.fit ∙ fits_two (lawful (tags_in l₀) i) l i at left q two ∙ simp (is false e));
+      noted = f ∙ sym (v.notes ∙ note_two (lawful (tags_in l₀) i) l i at left q two ∙ simp (is false e));
+    }
 
     pub fitting_more : (at' left' : ℕ) → true ≡ lawful (tags_in l) i (kind_in row) w → l' ≡ note_word l i (kind_in row) w
         → left' ≡ next_left row left w → at' ≡ next_row row left' → Fitting l₀ i first p l' (from 2 q) at' left'

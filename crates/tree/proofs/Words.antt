@@ -51,20 +51,20 @@ note_word_length l i kind w = go (names kind w)
 module _ (l : List ℕ) (i kind w : ℕ) where
   -- what is answered and left of the scratch
   abbrev Admitted : Bool → List ℕ → Type 0
-  Admitted r l' = (r ≡ lawful (tags_in l) i kind w) × (l' ≡ cond r (note_word l i kind w) l)
+  Admitted r l' = record { lawful : r ≡ lawful (tags_in l) i kind w; noted : l' ≡ cond r (note_word l i kind w) l }
 
   module _ (child : names kind w ≡ true) where
     pub child_right : (l' : List ℕ) → w < i → true ≡ inside kind (get_or l w 0 % 256) → l' ≡ note l i w → Admitted true l'
     unfolding lawful note_word
-    child_right l' h e f = (simp (child, lt-ltb w i h, tag_at l w, ← e), simp child f)
+    child_right l' h e f = record { lawful = simp (child, lt-ltb w i h, tag_at l w, ← e); noted = simp child f }
 
     pub child_wrong : w < i → false ≡ inside kind (get_or l w 0 % 256) → Admitted false l
     unfolding lawful
-    child_wrong h e = (simp (child, lt-ltb w i h, tag_at l w, ← e), refl)
+    child_wrong h e = record { lawful = simp (child, lt-ltb w i h, tag_at l w, ← e); noted = refl }
 
     pub child_above : i ≤ w → Admitted false l
     unfolding lawful
-    child_above h = (simp (child, le-ltb w i h), refl)
+    child_above h = record { lawful = simp (child, le-ltb w i h); noted = refl }
 
   module _ (none : names kind w ≡ false) where
     kept : (r : Bool) → l ≡ cond r (note_word l i kind w) l
@@ -74,11 +74,11 @@ module _ (l : List ℕ) (i kind w : ℕ) where
 
     pub word_lawful : (r : Bool) → kind < 6 → r ≡ inside kind w → Admitted r l
     unfolding lawful
-    word_lawful r h e = (simp (none, lt-ltb kind 6 h) e, kept r)
+    word_lawful r h e = record { lawful = simp (none, lt-ltb kind 6 h) e; noted = kept r }
 
     pub child_absent : 6 ≤ kind → Admitted true l
     unfolding lawful
-    child_absent h = (simp (none, le-ltb kind 6 h), kept true)
+    child_absent h = record { lawful = simp (none, le-ltb kind 6 h); noted = kept true }
 
 -- ---- words below n alone have changed
 
@@ -126,7 +126,7 @@ module _ (ts : List ℕ) (i : ℕ) where
   unfolding note_row
   row_beyond l r left [] = beyond_refl i l
   row_beyond l r left (a ∷ []) = beyond_refl i l
-  row_beyond l r left (a ∷ b ∷ p) = go (lawful ts i (kind_in (row_at r)) (a * 256 + b)) refl (row_beyond _ _ _ p)
+  row_beyond l r left (a ∷ b ∷ p) = go (lawful ts i (kind_in (row_at r)) (a * 256 + b)) refl (row_beyond l' _ _ p)
     where
       l' : List ℕ
       l' = note_word l i (kind_in (row_at r)) (a * 256 + b)

@@ -1,4 +1,6 @@
 // Tree files: fields, shapes, owners, and refusals 1 to 6 (01, "Tree file" and "Outcome", and 02, E5); then 21 and 27 (02, E2 and E11).
+#![tactic(auto)]
+
 mod owners;
 mod retired;
 mod rows;

@@ -247,7 +247,7 @@ pub(crate) fn wide32(x: u32) -> usize
 }
 
 // A place in a payload: its row, and how many groups of a counted run are left to come.
-#[derive(Drop)]
+#[derive(Clone, Copy)]
 pub(crate) struct Place {
     pub(crate) at: usize,
     pub(crate) left: usize,

@@ -190,7 +190,7 @@ fn note_offset(scratch: &mut [u32], notes: usize, i: usize, at: usize)
 
 // What a walk over the fields finds: how many whole ones there are, the last one's tag, how many bytes stand after them, and the lowest one with a
 // wrong shape, or as many as were judged.
-#[derive(Drop)]
+#[derive(Clone, Copy)]
 pub(crate) struct Walked {
     pub(crate) count: usize,
     pub(crate) last: u8,

@@ -1,6 +1,8 @@
 // Runs the check on the cases of standard input, a line each: a label, a colon and a blank, the tree in hexadecimal, a comma and a blank, and the
 // words of the work area; in another mode than 0 a semicolon, a blank and the mode. Then on trees too large to write down, in mode 0. A line is written
 // for each: the label and the answer.
+#![tactic(auto)]
+
 ghost use Rattle.std.specs.Prelude.{◌<◌, ◌≤◌, length};
 
 fn main() {

@@ -26,6 +26,8 @@ down_pos (negsuc k) = pow_pos (suc k)
 -- it is k
 small_is : (x : Float) (k : ℕ) → k < 256 → HasValue x false k 1 → small_value x ≡ some k
 unfolding small_value to_unsigned eq
+small_is nan k h v = elim v [ ]
+small_is (inf _) k h v = elim v [ ]
 small_is (fin true m e) k h v = absurd (true≢false v.0)
 small_is (fin false m e) k h v =
     let p : m * up e ≡ k * down e = omega (arith, v.1) in
@@ -36,6 +38,8 @@ small_is (fin false m e) k h v =
 -- a / c is not k
 unequal : (x : Float) (k a c : ℕ) → HasValue x false a c → (a ≡ k * c → ⊥) → eq x (fin false k (pos 0)) ≡ false
 unfolding eq
+unequal nan k a c v nk = elim v [ ]
+unequal (inf _) k a c v nk = elim v [ ]
 unequal (fin true m e) k a c v nk = absurd (true≢false v.0)
 unequal (fin false m e) k a c v nk =
     rw (ne_eqb (m * up e * 1) (k * 1 * down e) λ r.
@@ -49,6 +53,8 @@ small_not x a c v nk = rw (unequal x (to_unsigned 8 x) a c v (nk (to_unsigned 8 
 -- below 0
 negative_not : (x : Float) (a c : ℕ) → 0 < a → HasValue x true a c → small_value x ≡ none
 unfolding small_value to_unsigned eq
+negative_not nan a c h v = elim v [ ]
+negative_not (inf _) a c h v = elim v [ ]
 negative_not (fin false m e) a c h v = absurd (true≢false (sym v.0))
 negative_not (fin true m e) a c h v =
     rw (ne_eqb (m * up e * 1) (0 * 1 * down e) λ r. let p : m * up e ≡ 0 = omega arith in nothing (ap (λ z. z * c) p))
@@ -111,6 +117,8 @@ module _ (x t : ℕ) (small-field : x < 2046) where
   number_is k u h p e = small_is _ k h (rescaled (of_fields binary64 false (suc x) t) (q * 2 ^ x) P k (pow_pos 1074) (ap (λ z. k * z) p ∙ sym (mul_assoc k u (2 ^ x)) ∙ ap (λ z. z * 2 ^ x) (sym e)) (exact false x t small-field))
     where
       rescaled : (y : Float) (a c k : ℕ) → 0 < c → k * c ≡ a → HasValue y false a c → HasValue y false k 1
+      rescaled nan a c k h r v = elim v [ ]
+      rescaled (inf _) a c k h r v = elim v [ ]
       rescaled (fin s m e) a c k h r v =
           (v.0, eq_of_mul-eq-mul_right c h (m * up e * 1) (k * down e) (ap (λ z. z * c) (mul-one (m * up e)) ∙ v.1 ∙ ap (λ z. z * down e) (sym r) ∙ mul_right_comm k c (down e)))
 

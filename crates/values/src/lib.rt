@@ -1,4 +1,6 @@
 // What the cases of the shared enums are worth: literals read and tested; outcomes told as numbers.
+#![tactic(auto)]
+
 mod answer;
 mod literal;
 

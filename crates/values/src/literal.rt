@@ -8,7 +8,7 @@ ghost use Rattle.values.specs.Literals.{number_of, literal_of, constant_at, smal
 use meaning::Literal;
 
 // What the test for Addi finds.
-#[derive(Drop)]
+#[derive(Clone, Copy)]
 pub enum Immediate {
     Is(u8),
     Not,

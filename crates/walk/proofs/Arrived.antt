@@ -16,29 +16,25 @@ use Rattle.meaning.specs.Steps.{inst_at}
 use Rattle.meaning.specs.Safety.{Holds}
 use Rattle.meaning.specs.Images.{Image, image_of, inst_size}
 use Rattle.meaning.specs.Rules.{all, inside, leads}
-use Rattle.meaning.specs.Reader.{Read, refused, taken, broken, read_as, read_outcome}
+use Rattle.meaning.specs.Reader.{Read, broken, read_as}
 use Rattle.meaning.specs.Answer.{cause_number}
 use Rattle.meaning.specs.Paths.{start, Path, path, visits}
 use Rattle.meaning.specs.Walker.{Walking, stopped, walked, code_of, fair, rises, Asked, with_room, walk_in, walk_read, ending_number, walk_answer, lent_bytes}
 use Rattle.meaning.specs.declared.Cause.{Cause}
 use Rattle.meaning.specs.declared.Cause.TheVariants.{Prototype, Decision, Order, Visits}
 use Rattle.meaning.specs.declared.Instruction.{Instruction}
-use Rattle.meaning.specs.declared.Outcome.TheVariants.{Accepted, Refused}
+use Rattle.meaning.specs.declared.Outcome.TheVariants.{Accepted}
 use Rattle.meaning.specs.declared.WalkAnswer.{WalkAnswer}
 use Rattle.meaning.proofs.Lists.{lt_or_le, lowest_all}
 use Rattle.meaning.proofs.Images.Back.{taken_is}
 use Rattle.meaning.proofs.Images.Lawful.{lawful_stays}
 use Rattle.meaning.proofs.Images.Walks.{each}
-use Rattle.reader.specs.Laid.{code_in, proto_in, Located, Ordered}
+use Rattle.reader.specs.Laid.{code_in, proto_in, Located}
 use Rattle.reader.proofs.Scanned.{inst_size_small}
 use Rattle.reader.proofs.Marking.{code_length}
-use Rattle.reader.proofs.Answered.{outcome_of, accepted_taken, accepted_ordered}
+use Rattle.reader.proofs.Answered.{outcome_of, accepted_taken}
 use Rattle.walk.specs.declared.route.Walked.{Walked}
 use Rattle.walk.specs.Route.{Walkable, Decisions, Rising, Told}
-
-pub all_zero : (l : List ℕ) → ((j : ℕ) → j < length l → get_or l j 0 ≡ 0) → l ≡ replicate (length l) 0
-all_zero [] h = refl
-all_zero (x ∷ l) h = ap₂ (λ (a : ℕ) (b : List ℕ). a ∷ b) (h 0 (omega arith)) (all_zero l (λ j k. h (suc j) (omega arith)))
 
 -- decisions that are fair
 pub all_fair : (ds : List ℕ) → length ds ≤ lowest (fair ds) (length ds) → Decisions ds
@@ -167,14 +163,7 @@ module _ (im : Image) (tag q : ℕ) (r : List ℕ) (l : Located im tag q r) wher
 
 -- ---- the reader's outcome
 
-refused_of : (n : ℕ) (r : Read) (q : ℕ) (a : Asked) (c : Cause) (place : ℕ) → Refused c place ≡ read_outcome n r → walk_read r q a ≡ stopped c place
-refused_of n (refused d p) q a c place e = let x : c ≡ d = cc in let y : place ≡ p = cc in rw (x, y) refl
-refused_of n (taken im) q a c place e = absurd (let z : ◌≡◌ {A = ℕ} 0 1 = cc in omega arith)
-
 module _ (tag : ℕ) (s : List ℕ) (q : ℕ) (a : Asked) where
-  pub read_refused : (c : Cause) (place : ℕ) → outcome_of tag s ≡ Refused c place → walk_read (read_as tag s) q a ≡ stopped c place
-  read_refused c place e = refused_of (length (fields s)) (read_as tag s) q a c place (sym e)
-
   -- an accepted image: all facts hold, and the walk is that of its value
   pub read_taken : (m : ℕ) → outcome_of tag s ≡ Accepted m → (broken (image_of tag (fields s)) ≡ none) × (walk_in (image_of tag (fields s)) q a ≡ walk_read (read_as tag s) q a)
   read_taken m e =

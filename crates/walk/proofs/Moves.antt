@@ -1,8 +1,8 @@
 -- A turn of the code is the definition's move: one law says what is asked before a step and where it leads, in the code's numbers; two others say what
 -- that makes of the path.
 use mathlib.Core.Path.{◌≡◌, refl, sym, ap, ap₂, ◌∙◌}
-use mathlib.Core.Bool.{Bool, true, false, not, ◌&&◌, ◌||◌, cond}
-use mathlib.Core.List.{List, [], ◌∷◌}
+use mathlib.Core.Bool.{Bool, true, false, not, ◌&&◌, cond}
+use mathlib.Core.List.{List, ◌∷◌}
 use Prim.Native.Nat.{ℕ, zero, suc, ◌+◌, ◌-◌, ◌<◌, ◌≤◌}
 use native.Mathlib.Numerals.{add-one}
 use native.Mathlib.Omega.{arith}
@@ -13,7 +13,7 @@ use borrow.Author.Tests.{eqb-true, eq-eqb, ne_eqb, ltb-true, ltb-false, lt-ltb}
 use Rattle.meaning.specs.Opcode.{bx}
 use Rattle.meaning.specs.State.{among}
 use Rattle.meaning.specs.Steps.{target, inst_at}
-use Rattle.meaning.specs.Paths.{Point, Path, onto, Move, ends, fails, goes, landing, decide, register, without_last, strike, ordinary, move, stop, step_from, path}
+use Rattle.meaning.specs.Paths.{Point, onto, Move, ends, fails, goes, landing, decide, register, without_last, strike, ordinary, move, stop, step_from, path}
 use Rattle.meaning.specs.declared.Instruction.{Instruction}
 use Rattle.meaning.specs.declared.Ending.{Ending}
 use Rattle.meaning.specs.declared.Ending.TheVariants.{AtReturn, NoDecision, NoBudget, Failed, Handlers}

@@ -15,7 +15,7 @@ use Rattle.meaning.specs.Fields.{word_at}
 use Rattle.meaning.specs.Opcode.{bx}
 use Rattle.meaning.specs.State.{among}
 use Rattle.meaning.specs.Steps.{inst_at}
-use Rattle.meaning.specs.Paths.{Point, start, Path, steps_of, Move, goes, move, stop, step_from, path, visited, visits_from, visits}
+use Rattle.meaning.specs.Paths.{Point, start, Path, steps_of, stop, step_from, path, visited, visits_from, visits}
 use Rattle.meaning.specs.declared.Instruction.{Instruction}
 use Rattle.meaning.specs.declared.Ending.{Ending}
 use Rattle.meaning.specs.declared.Ending.TheVariants.{Failed, Handlers}

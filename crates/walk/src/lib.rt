@@ -1,4 +1,6 @@
 // The walk of a prototype by recorded decisions and failures (document 02, E4 and E8): which instructions a run visited, and how it ended.
+#![tactic(auto)]
+
 mod lent;
 mod route;
 mod turn;

@@ -11,7 +11,7 @@ use fields::word;
 use meaning::Ending;
 
 // The steps taken, the index where it stood, and how it ended.
-#[derive(Drop)]
+#[derive(Clone, Copy)]
 pub(crate) struct Walked {
     pub steps: u64,
     pub stood: usize,

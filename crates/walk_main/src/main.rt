@@ -3,6 +3,8 @@
 // the image is what follows. On standard output one line, number, place, steps, index and ending; with the word `visited` behind the numbers, and where
 // nothing was refused, a second line with a 0 or a 1 for each instruction of the prototype. Wrong words, or an input that no room holds: nothing is
 // written. There is no heap, so every room is an array on the stack.
+#![tactic(auto)]
+
 mod words;
 
 ghost use Rattle.std.specs.Prelude.{◌*◌, ◌≤◌, length};
@@ -10,8 +12,8 @@ ghost use Rattle.std.specs.Prelude.{◌*◌, ◌≤◌, length};
 use meaning::{Outcome, WalkAnswer};
 use words::{Asked, Said};
 
-fn main() {
-    let said = words::heard();
+fn main(rt: HostRuntime) {
+    let said = words::heard(&rt);
     let Said::Walk(asked) = said else {
         return;
     };
@@ -35,6 +37,7 @@ fn small(room: &mut [u8], asked: Asked) {
 
 // The compiler takes 2 GiB of locals in a function at most. An image that is taken has 268,445,952 bytes at most, so there is room for more than
 // 1,870,000,000 bytes of decisions and strikes.
+#[inline(never)]
 fn large(read: &[u8], turns: usize, asked: Asked) {
     if programs::never() && 0 < turns {
         large(read, turns - 1, asked);
@@ -78,6 +81,7 @@ fn few(decisions: &[u8], strikes: &[u8], image: &[u8], asked: Asked) {
 }
 
 // 16,777,216 strikes at most.
+#[inline(never)]
 fn many(decisions: &[u8], strikes: &[u8], image: &[u8], asked: Asked, turns: usize) {
     if programs::never() && 0 < turns {
         many(decisions, strikes, image, asked, turns - 1);

@@ -1,8 +1,9 @@
 // What the program is asked, by its arguments.
 use programs::Spelled;
+use std::env::{Env, FillError};
 
 // A walk of a prototype, `budget` steps at most, with so many decisions and strikes; and whether the lent bytes are to be told.
-#[derive(Drop)]
+#[derive(Clone, Copy)]
 pub(crate) struct Asked {
     pub prototype: u64,
     pub budget: u64,
@@ -11,29 +12,28 @@ pub(crate) struct Asked {
     pub visited: bool,
 }
 
-#[derive(Drop)]
+#[derive(Clone, Copy)]
 pub(crate) enum Said {
     Walk(Asked),
     Wrong,
 }
 
 // Four numbers, and perhaps the word `visited`.
-pub(crate) fn heard() -> Said {
-    let count = os::arg_count();
-    let Spelled::Number(prototype) = number(1) else {
+pub(crate) fn heard(rt: &impl Env) -> Said {
+    let Spelled::Number(prototype) = number(rt, 1) else {
         return Said::Wrong;
     };
-    let Spelled::Number(budget) = number(2) else {
+    let Spelled::Number(budget) = number(rt, 2) else {
         return Said::Wrong;
     };
-    let Spelled::Number(decisions) = number(3) else {
+    let Spelled::Number(decisions) = number(rt, 3) else {
         return Said::Wrong;
     };
-    let Spelled::Number(strikes) = number(4) else {
+    let Spelled::Number(strikes) = number(rt, 4) else {
         return Said::Wrong;
     };
-    let visited = is_visited(5);
-    if (count == 5) | ((count == 6) & visited) {
+    let visited = is_visited(rt, 5);
+    if !is_there(rt, 5) | (visited & !is_there(rt, 6)) {
         return Said::Walk(Asked {
             prototype: prototype,
             budget: budget,
@@ -46,9 +46,11 @@ pub(crate) fn heard() -> Said {
 }
 
 // The argument is that word.
-fn is_visited(k: usize) -> bool {
+fn is_visited(rt: &impl Env, k: usize) -> bool {
     let mut word = [0u8; 7];
-    let n = os::arg(k, &mut word);
+    let Ok(n) = rt.arg(k, &mut word) else {
+        return false;
+    };
     if n != 7 {
         return false;
     }
@@ -62,11 +64,19 @@ fn is_visited(k: usize) -> bool {
 }
 
 // An argument in decimal. Twenty digits hold every number of 64 bits.
-fn number(k: usize) -> Spelled {
+fn number(rt: &impl Env, k: usize) -> Spelled {
     let mut word = [0u8; 20];
-    let n = os::arg(k, &mut word);
-    if os::errno() != 0 {
+    let Ok(n) = rt.arg(k, &mut word) else {
         return Spelled::Wrong;
-    }
+    };
     programs::decimal(&word[..n])
+}
+
+// Whether there is an argument of that number.
+fn is_there(rt: &impl Env, k: usize) -> bool {
+    let mut word = [0u8; 1];
+    match rt.arg(k, &mut word) {
+        Err(FillError::NotPresent) => false,
+        _ => true,
+    }
 }

@@ -1,5 +1,7 @@
 // The parts of an image (document 01, "Image file"), each written at its place in bytes that are lent: a word, a header, a capture, an instruction,
 // a constant. They take values, so whoever has one can write it; who calls has seen that it fits.
+#![tactic(auto)]
+
 ghost use Rattle.std.specs.Prelude.{◌+◌, ◌/◌, ◌≤◌, [], ◌∷◌, ◌++◌, length};
 ghost use Rattle.meaning.specs.Images.{inst_size};
 ghost use Rattle.meaning.specs.Image.{word, field, capture_bytes, inst_bytes, number_bytes, constant_bytes};
@@ -9,7 +11,7 @@ ghost use Rattle.writers.specs.Spliced.{Spliced};
 use meaning::Instruction;
 
 // What a prototype's header says: its name, and how many there are of each.
-#[derive(Drop)]
+#[derive(Clone, Copy)]
 pub struct Header {
     pub name: u32,
     pub params: u32,
@@ -19,14 +21,14 @@ pub struct Header {
 }
 
 // Where it is local `index` is a register of the function around, else one of its captures.
-#[derive(Drop)]
+#[derive(Clone, Copy)]
 pub struct Capture {
     pub local: bool,
     pub index: u8,
 }
 
 // A constant as it stands in an image: a number by its 64 bits, NaN or not.
-#[derive(Drop)]
+#[derive(Clone, Copy)]
 pub enum Constant {
     Number(u64),
     Text(u32),

@@ -1,9 +1,11 @@
 // The calls that C and Rust link, in one archive: exports alone. Each asks the crate that does the work and writes the numbers of its answer.
+#![tactic(auto)]
+
 ghost use Rattle.std.specs.Prelude.{◌≡◌, length, take};
 ghost use Rattle.meaning.specs.Fields.{fields};
 ghost use Rattle.meaning.specs.Check.{checked};
 ghost use Rattle.meaning.specs.Reader.{image_tag, read_image, read_outcome};
-ghost use Rattle.meaning.specs.Answer.{finished, answer as answer-to, reply, output, work_area};
+ghost use Rattle.meaning.specs.Answer.{finished, answer as answer_to, reply, output, work_area};
 ghost use Rattle.meaning.specs.Walker.{walk_image, walk_answer, lent_bytes};
 ghost use Rattle.meaning.specs.Mend.{mend_as, mend_answer, mend_output, mend_list};
 ghost use Rattle.yengrazul.specs.Told.{told, told_reply, walk_told, mend_told};
@@ -33,7 +35,7 @@ pub extern "C" fn yengrazul_lower(
 // `tree::check`: number, place, and as length the number of nodes.
 #[unsafe(no_mangle)]
 pub extern "C" fn yengrazul_check(tree: &[u8], work_len: usize, mode: u64, answer: &mut [u64; 3])
-    ensures { answer.new ≡ told (answer-to (checked mode tree.now work_len)) }
+    ensures { answer.new ≡ told (answer_to (checked mode tree.now work_len)) }
 {
     let checked = values::answer_of(tree::check(tree, work_len, mode));
     *answer = [checked.number, checked.place, checked.length];
@@ -42,7 +44,7 @@ pub extern "C" fn yengrazul_check(tree: &[u8], work_len: usize, mode: u64, answe
 // `reader::read`: number and place.
 #[unsafe(no_mangle)]
 pub extern "C" fn yengrazul_read(image: &[u8], answer: &mut [u64; 2])
-    ensures { answer.new ≡ take 2 (told (answer-to (read_outcome (length (fields image.now)) (read_image image.now)))) }
+    ensures { answer.new ≡ take 2 (told (answer_to (read_outcome (length (fields image.now)) (read_image image.now)))) }
 {
     let read = values::answer_of(reader::read(image));
     *answer = [read.number, read.place];

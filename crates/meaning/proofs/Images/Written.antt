@@ -49,14 +49,14 @@ module _ (f : Field) (r : List ℕ) (h : length f.payload < 65536) where
   count_is : word_at s 1 ≡ length f.payload
   count_is = word_is (length f.payload) h
 
-  whole_is : whole s ≡ true
+  pub whole_is : whole s ≡ true
   unfolding whole
   whole_is = le-leb (span s) (length s) (omega (arith, count_is, length-append f.payload r))
 
-  front_is : front s ≡ f
+  pub front_is : front s ≡ f
   front_is = ap (λ (p : List ℕ). (let x : Field = record { tag = f.tag; payload = p } in x)) (take_at f.payload r (word_at s 1) (sym count_is))
 
-  rest_is : rest s ≡ r
+  pub rest_is : rest s ≡ r
   rest_is = ap (λ (n : ℕ). drop (3 + n) s) count_is ∙ drop_more
     where
       drop_more : drop (3 + length f.payload) s ≡ r

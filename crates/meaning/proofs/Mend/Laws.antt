@@ -7,7 +7,7 @@ use native.Mathlib.Omega.{arith}
 use lib.ListN.{length, get_or, length-map}
 use lib.Dec.{eqb}
 use borrow.Author.Tests.{eqb-true, ne_eqb}
-use Rattle.meaning.specs.Opcode.{opcodes_written, inst, bx, no_mark, Jmp, Call, Return, JMP-CONTINUE, JMP-BREAK}
+use Rattle.meaning.specs.Opcode.{opcodes_written, inst, bx, no_mark, Jmp, Call, Return, jmp_continue, jmp_break}
 use Rattle.meaning.specs.Constant.{Constant}
 use Rattle.meaning.specs.State.{Proto, among}
 use Rattle.meaning.specs.Steps.{inst_at, target}
@@ -56,11 +56,11 @@ lawful_kept ks earlier p i x e =
     go (eqb x.opcode Jmp) refl (and_left _ _ e1) (and_left _ _ e2)
   where
     go : (b : Bool) → eqb x.opcode Jmp ≡ b → all (inside (length p.code)) (leads i x) ≡ true → if_opcode x Jmp (eqb x.a 0) ≡ true
-        → (b && ((eqb x.a JMP-CONTINUE || eqb x.a JMP-BREAK) || not (inside (length p.code) (target i (bx x))))) ≡ false
+        → (b && ((eqb x.a jmp_continue || eqb x.a jmp_break) || not (inside (length p.code) (target i (bx x))))) ≡ false
     go false j stay z = refl
     go true j stay z =
         let a : x.a ≡ 0 = eqb-true x.a 0 (rw j at z) in
-        rw (ne_eqb x.a JMP-CONTINUE (λ q. omega arith), ne_eqb x.a JMP-BREAK (λ q. omega arith), and_left (inside (length p.code) (target i (bx x))) _ (rw j at stay)) refl
+        rw (ne_eqb x.a jmp_continue (λ q. omega arith), ne_eqb x.a jmp_break (λ q. omega arith), and_left (inside (length p.code) (target i (bx x))) _ (rw j at stay)) refl
 
 -- ---- code
 

@@ -9,7 +9,7 @@ use lib.Dec.{eqb}
 use lib.IntN.{pos}
 use lib.Ieee.{Float, fin, eq, to_unsigned}
 use lib.Ieee.Casts.{to_unsigned-lt}
-use Rattle.meaning.specs.Opcode.{no_mark, plus, JMP-BREAK, JMP-CONTINUE}
+use Rattle.meaning.specs.Opcode.{no_mark, plus, jmp_break, jmp_continue}
 use Rattle.meaning.specs.Constant.{number, text, other, small_value, small}
 use Rattle.meaning.specs.Syntax.{Expr, literal, variable, unary, binary, logical, call, function, Exprs, no_expr, and_expr, Stmt, expression, let_only, let_as, block, while, classic_for, for_in, break, continue, return_none, return, if, try, define, class, Stmts, no_stmt, and_stmt, Elifs, no_elif, and_elif, Fun, fun, Funs, no_fun, and_fun, small_operand, small_if}
 use Rattle.meaning.specs.State.{State, done, ◌>>=◌, add_prototype}
@@ -77,8 +77,8 @@ module _ (Marks : ℕ → Type 0) (absent : Marks no_mark) (mode : ℕ) where
     stmt_fits (while node mark e b) h = while_fits Marks absent node mark h.0 (expr_fits e h.1) (stmt_fits b h.2)
     stmt_fits (classic_for node mark i c n b) h = for_fits Marks absent mode node mark h.0 (stmts_fit i h.1) (expr_fits c h.2) (expr_fits n h.3) (stmt_fits b h.4)
     stmt_fits (for_in node mark e b xs) h = for_in_fits Marks absent mode node mark xs h.0 (expr_fits e h.1) (stmt_fits b h.2)
-    stmt_fits (break node mark) h = jump_fits Marks absent node JMP-BREAK mark h (omega arith)
-    stmt_fits (continue node mark) h = jump_fits Marks absent node JMP-CONTINUE mark h (omega arith)
+    stmt_fits (break node mark) h = jump_fits Marks absent node jmp_break mark h (omega arith)
+    stmt_fits (continue node mark) h = jump_fits Marks absent node jmp_continue mark h (omega arith)
     stmt_fits (return_none node mark) h = return_none_fits Marks absent mark h
     stmt_fits (return node mark e) h = return_fits Marks absent node mark h.0 (expr_fits e h.1)
     stmt_fits (if node mark e ss es ts) h = if_fits Marks absent node mark h.0 (expr_fits e h.1) (stmts_fit ss h.2) (elifs_fit es h.3) (stmts_fit ts h.4)

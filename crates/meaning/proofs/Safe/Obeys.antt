@@ -41,7 +41,7 @@ looped v = record { registers = v.registers; captures = v.captures; loops = v.lo
 
 -- what an instruction needs beyond its registers, by opcode
 pub data Kind : Type 0 where
-  jump test handler constant_of name_of capture_of closure-of calls plain never : Kind
+  jump test handler constant_of name_of capture_of closure_of calls plain never : Kind
 
 abbrev pub kinds : List (List ℕ × Kind)
 kinds =
@@ -51,7 +51,7 @@ kinds =
     ∷ (Test ∷ [], test)
     ∷ (Call ∷ [], calls)
     ∷ (GetUpval ∷ [], capture_of)
-    ∷ (Closure ∷ [], closure-of)
+    ∷ (Closure ∷ [], closure_of)
     ∷ (RegisterTryCatch ∷ [], handler)
     ∷ (opcodes_written, plain)
     ∷ []
@@ -89,7 +89,7 @@ ObeysAs handler v b e x = bx x ≤ e + 1
 ObeysAs constant_of v b e x = Holds Any v.constants (bx x)
 ObeysAs name_of v b e x = Holds IsText v.constants (bx x)
 ObeysAs capture_of v b e x = x.b < v.captures
-ObeysAs closure-of v b e x = Holds (Creates v.registers v.captures) v.prototypes (bx x)
+ObeysAs closure_of v b e x = Holds (Creates v.registers v.captures) v.prototypes (bx x)
 ObeysAs calls v b e x = (0 < x.b) × (0 < x.c)
 ObeysAs plain v b e x = Unit {0}
 ObeysAs never v b e x = ⊥
@@ -201,7 +201,7 @@ fine_as_more handler v w b e b' e' x g hb he h = omega arith
 fine_as_more constant_of v w b e b' e' x g hb he h = holds_grown Any (bx x) g.constants h
 fine_as_more name_of v w b e b' e' x g hb he h = holds_grown IsText (bx x) g.constants h
 fine_as_more capture_of v w b e b' e' x g hb he h = le_trans h g.captures
-fine_as_more closure-of v w b e b' e' x g hb he h =
+fine_as_more closure_of v w b e b' e' x g hb he h =
     holds_grown _ (bx x) g.prototypes (holds_as _ _ v.prototypes (bx x) (λ q. fits_more _ _ _ _ q.captures g.registers g.captures) h)
 fine_as_more calls v w b e b' e' x g hb he h = h
 fine_as_more plain v w b e b' e' x g hb he h = tt

@@ -16,7 +16,7 @@ use Rattle.meaning.specs.State.{Chunk}
 use Rattle.meaning.specs.Chunk.{each_at, jump_by, continue_offset, continue_goal, patch_jump, patch_loop, open_loop, body_place, loop_code, branch_code, patch_end, patch_ends, patch_first, try_code}
 use Rattle.meaning.specs.declared.Instruction.{Instruction}
 use Rattle.meaning.proofs.Lists.{and_left}
-use Rattle.meaning.proofs.Safe.Obeys.{Kind, jump, test, handler, constant_of, name_of, capture_of, closure-of, calls, plain, never, View, looped, Obeys, ObeysAs, Sane, Lands, lands, continues, breaks, kind, obeys_at, shift, in_a_loop, join_at, join, join_after}
+use Rattle.meaning.proofs.Safe.Obeys.{Kind, jump, test, handler, constant_of, name_of, capture_of, closure_of, calls, plain, never, View, looped, Obeys, ObeysAs, Sane, Lands, lands, continues, breaks, kind, obeys_at, shift, in_a_loop, join_at, join, join_after}
 
 -- ---- offsets
 
@@ -61,7 +61,7 @@ out_as handler v b e x h k l = l
 out_as constant_of v b e x h k l = l
 out_as name_of v b e x h k l = l
 out_as capture_of v b e x h k l = l
-out_as closure-of v b e x h k l = l
+out_as closure_of v b e x h k l = l
 out_as calls v b e x h k l = l
 out_as plain v b e x h k l = l
 out_as never v b e x h k l = l

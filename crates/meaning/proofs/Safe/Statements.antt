@@ -7,7 +7,7 @@ use native.Mathlib.Omega.{arith}
 use lib.Dec.{eqb}
 use lib.ListN.{length-append}
 use borrow.Author.Tests.{eqb-false}
-use Rattle.meaning.specs.Opcode.{inst, inst_bx, no_mark, LoadK, Jmp, Lt, Return, Class, ClassMeth, ClassStMeth, Addi, Length, SetGlobal, JMP-BREAK, JMP-CONTINUE}
+use Rattle.meaning.specs.Opcode.{inst, inst_bx, no_mark, LoadK, Jmp, Lt, Return, Class, ClassMeth, ClassStMeth, Addi, Length, SetGlobal, jmp_break, jmp_continue}
 use Rattle.meaning.specs.declared.Token.{Token}
 use Rattle.meaning.specs.Syntax.{Super, no_super, super}
 use Rattle.meaning.specs.State.{State, Chunk, M, is_global_var, is_global_context}
@@ -128,11 +128,11 @@ stray_good node kind mark h s σ =
     let ne = eqb-false l 0 y in let l-is = e.0 in let same = g.loops in
     by_pure _ τ (record { code = ((tt, h _ _ _ (omega (arith, ne, l-is, same))), tt); result = omega arith })
 
-pub break_good : (node mark : ℕ) → Always (visit_jump node JMP-BREAK mark) Loose
-break_good node mark = stray_good node JMP-BREAK mark (λ l b e h. breaks refl h)
+pub break_good : (node mark : ℕ) → Always (visit_jump node jmp_break mark) Loose
+break_good node mark = stray_good node jmp_break mark (λ l b e h. breaks refl h)
 
-pub continue_good : (node mark : ℕ) → Always (visit_jump node JMP-CONTINUE mark) Loose
-continue_good node mark = stray_good node JMP-CONTINUE mark (λ l b e h. continues refl h)
+pub continue_good : (node mark : ℕ) → Always (visit_jump node jmp_continue mark) Loose
+continue_good node mark = stray_good node jmp_continue mark (λ l b e h. continues refl h)
 
 pub return_good : (node mark : ℕ) {x : M Chunk} → Always x Good → Always (visit_return node mark x) Loose
 unfolding visit_return

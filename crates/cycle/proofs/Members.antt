@@ -1,0 +1,26 @@
+-- The members of the cycle: for each, what its calls ask and what it promises, from plain facts.
+pub mod Addi
+pub mod Arguments
+pub mod Binary
+pub mod Block
+pub mod Body
+pub mod Both
+pub mod Call
+pub mod Class
+pub mod Elifs
+pub mod ExprStmt
+pub mod FnStmt
+pub mod ForIn
+pub mod ForLoop
+pub mod Function
+pub mod IfStmt
+pub mod LetStmt
+pub mod Logical
+pub mod Methods
+pub mod Minus
+pub mod ReturnStmt
+pub mod Row
+pub mod Statement
+pub mod TryCatch
+pub mod Unary
+pub mod WhileLoop

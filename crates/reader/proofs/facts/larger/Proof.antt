@@ -1,6 +1,0 @@
-use native.Mathlib.Omega.{arith}
-use Rattle.reader.proofs.facts.larger.Statement.{statement}
-use Rattle.reader.proofs.facts.larger.Tie as tie
-
-pub larger_spec : {M : Type 1} → statement M
-larger_spec = tie.close (tie.spec (λ c. omega arith) (λ c. omega arith))

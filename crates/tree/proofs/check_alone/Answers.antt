@@ -1,0 +1,7 @@
+-- Either scratch has a word for each field that a file of this length may have, or 32,768.
+use native.Mathlib.Omega.{arith}
+use Rattle.tree.proofs.Answers.{room_enough}
+use Rattle.tree.proofs.check_alone.Goals as goal
+
+pub check_with-requires : goal.check_with-requires
+check_with-requires c = room_enough _ 4096 (omega (arith, c.if-tree-le4096.true))

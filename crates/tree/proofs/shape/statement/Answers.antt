@@ -1,0 +1,14 @@
+-- The bounds of statements, and that every word names one, are computed.
+use mathlib.Core.Path.{refl}
+use Rattle.meaning.specs.Grammar.{names, bound, bounds}
+use Rattle.tree.proofs.shape.statement.Goals as goal
+
+pub child-requires : goal.child-requires
+unfolding names bound bounds
+child-requires c = let pre = c.requires in (pre.0, pre.1, refl, refl, refl, refl)
+
+pub shape_of-scratch : goal.shape_of-scratch
+shape_of-scratch c = c.child.auto.scratch
+
+pub returns : goal.returns
+returns c = c.child.ensures

@@ -1,8 +1,0 @@
-use borrow.Author.Rules.{rules}
-use mathlib.Core.Path.{refl}
-use native.Mathlib.Omega.{arith}
-use Rattle.walk.proofs.turn.counted.Statement.{statement}
-use Rattle.walk.proofs.turn.counted.Tie as tie
-
-pub counted_spec : {M : Type 1} → statement M
-counted_spec = tie.close (tie.spec (λ c. omega (arith, c.before.requires c.if1.true)) (λ c. rw c.if1.true refl) (λ c. search rules))

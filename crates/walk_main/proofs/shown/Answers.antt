@@ -1,0 +1,11 @@
+-- An image that is accepted is in order, at its own tag.
+use borrow.Author.Rules.{rules}
+use mathlib.Core.Path.{◌≡◌, sym, ap, ◌∙◌}
+use Prim.Native.Nat.{ℕ}
+use native.Mathlib.Omega.{arith}
+use Rattle.reader.proofs.Answered.{outcome_of, accepted_ordered}
+use Rattle.walk_main.proofs.shown.Goals as goal
+
+pub prototype-part-requires : goal.prototype-part-requires
+prototype-part-requires c = let t = c.image_tag.ensures in
+    accepted_ordered _ _ _ (ap (λ (tag : ℕ). outcome_of tag c.args.image.now) t.0 ∙ sym c.read.ensures ∙ c.in-Accepted.is) t.1
