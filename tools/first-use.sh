@@ -20,21 +20,20 @@ pause() { sleep 0.2 2>/dev/null || sleep 1; }
 
 # Whether a file of target/ stands there and no text is newer; a program has its stamp too, or it was not seen to run.
 is_made() { # FILE
-    [ -s "$root/target/$1" ] && [ -z "$(find "$root/crates" "$root/crates.txt" -newer "$root/target/$1" -print 2>/dev/null | head -n 1)" ] || return 1
+    [ -s "$root/target/$1" ] && [ -z "$(find "$root/crates" "$root/crates.txt" -name out -prune -o \( -type f -o -path "$root/crates/*/*" \) -newer "$root/target/$1" -print 2>/dev/null | head -n 1)" ] || return 1
     case $1 in bin/*) [ -f "$root/target/stamp/${1#bin/}" ] ;; esac
 }
 
-# A file of target/, made by rt with these words if it is not there. Two at once wait for each other.
-made() { # FILE CRATE WORDS..
+# A file of target/, made by tools/prove.sh of a crate if it is not there. Two at once wait for each other.
+made() { # FILE CRATE
     file=$1 crate=$2
-    shift 2
     ! is_made "$file" || return 0
     command -v rt >/dev/null 2>&1 || die "rt is missing: install the Rattle kit and put its bin/ on PATH"
     take_lock
     if ! is_made "$file"; then
         # without the program its stamp says nothing
         case $file in bin/*) [ -e "$root/target/$file" ] || rm -f -- "$root/target/stamp/$crate" ;; esac
-        run_rt "$@" && touch -c -- "$root/target/$file" && is_made "$file" ||
+        run_rt && touch -c -- "$root/target/$file" && is_made "$file" ||
             die "$file is not proved or not built: $(grep -m 1 -e 'NOT PROVED' -e FAILED "$log" || tail -n 1 "$log"); $log has the rest"
         say "proved and built after $(($(date +%s) - began)) s"
     fi
@@ -79,7 +78,7 @@ drop_lock() {
 }
 
 # ---- rt, and what it says boiled down
-run_rt() { # WORDS..
+run_rt() {
     log=$root/target/first-use.log ended=$root/target/first-use.ended started=$root/target/first-use.started
     rm -f -- "$ended"
     : >"$log"
@@ -89,8 +88,8 @@ run_rt() { # WORDS..
     say "proving and building $file, once: $total crates, which takes minutes"
     own_group=''
     command -v setsid >/dev/null 2>&1 && own_group=setsid
-    $own_group sh -c 'cd -- "$1" && log=$2 ended=$3 && shift 3 && { rt "$@" >"$log" 2>&1 </dev/null; echo $? >"$ended"; }' \
-        sh "$root" "$log" "$ended" "$@" &
+    $own_group sh -c 'cd -- "$1" && { sh tools/prove.sh "$4" >"$2" 2>&1 </dev/null; echo $? >"$3"; }' \
+        sh "$root" "$log" "$ended" "$crate" &
     job=$!
     while [ ! -s "$ended" ] && kill -s 0 "$job" 2>/dev/null; do
         progress
@@ -114,7 +113,7 @@ reached() {
             print name
         }
         { sub(/#.*/, ""); at = index($0, ":") }
-        at { name = substr($0, 1, at - 1); gsub(/[ \t]/, "", name); needs[name] = substr($0, at + 1) }
+        at { split(substr($0, 1, at - 1), words, " "); needs[words[1]] = substr($0, at + 1) }
         END { visit(wanted) }' "$root/crates.txt"
 }
 

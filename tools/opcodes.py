@@ -14,7 +14,7 @@ def table():
     with open(TABLE, encoding="utf-8") as file:
         text = file.read()
     numbers = {name: int(number) for name, number in re.findall(r"^([A-Z]\w*) = (\d+)$", text, re.M)}
-    rows = re.findall(r"^    (is|not)-written (\w+)(?: of-(\w+))? ∷$", text, re.M)
+    rows = re.findall(r"^    (is|not)_written (\w+)(?: of_(\w+))? ∷$", text, re.M)
     return [Row(numbers[name], name, registers or "a", said == "is") for said, name, registers in rows]
 
 

@@ -5,7 +5,7 @@ find_program() { # NAME
     program=$root/libexec/$1 # in an installed package
     if [ ! -x "$program" ]; then
         program=$root/target/bin/$1
-        made "bin/$1" "$1" check "$1"
+        made "bin/$1" "$1"
     fi
     # programs are for x86-64; on another processor the kit's emulator runs them, as rt does
     emulator=''

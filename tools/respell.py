@@ -19,6 +19,9 @@ WORD = re.compile(r"[A-Za-z_◌][A-Za-z0-9_'◌-]*")
 # where the plain rule would give a name that another one has
 SPECIAL = {"is-nan": "nan_above", "add-zero": "give_zero", "Demand3-01": "Demand3Of01", "Demand3-over": "Demand3Over", "Step-01": "StepOf01",
            "So-far": "SoFar", "W-as": "WalkedAs", "Chain-from": "ChainFrom"}
+# what no line declares alone
+OTHERS = {"JMP-BREAK": "jmp_break", "JMP-CONTINUE": "jmp_continue", "of-a": "of_a", "of-ab": "of_ab", "of-abc": "of_abc", "of-call": "of_call",
+          "of-return": "of_return", "closure-of": "closure_of", "is-here": "is_here"}
 
 
 def texts(root):
@@ -40,7 +43,7 @@ def is_own(root, module):
 
 def names(root):
     """The names to respell, each with its new spelling."""
-    found = {}
+    found = dict(OTHERS)
     for path in texts(root):
         if path.endswith(".antt"):
             for it in SIGNATURE.finditer(read(path)):
