@@ -1,4 +1,4 @@
-//! Links libyengrazul.a: `tools/prove.sh yengrazul` writes it to the project's target/staticlib; YENGRAZUL_LIB may name another folder.
+//! Links libyengrazul.a: `tools/prove.sh yengrazul_c` writes it to the project's target/staticlib; YENGRAZUL_LIB may name another folder.
 use std::path::PathBuf;
 
 fn main() {
@@ -14,6 +14,6 @@ fn main() {
     println!("cargo::rustc-link-search=native={}", folder.display());
     println!("cargo::rustc-link-lib=static=yengrazul");
     if !archive.exists() {
-        println!("cargo::error={} is missing: run `tools/prove.sh yengrazul`", archive.display());
+        println!("cargo::error={} is missing: run `tools/prove.sh yengrazul_c`", archive.display());
     }
 }

@@ -1,6 +1,6 @@
 /*
  * Lowers a tree file to an image file; docs/FORMATS.md says what both hold. Link target/staticlib/libyengrazul.a, which
- * `tools/prove.sh yengrazul` writes (x86-64, Linux), or what `pkg-config --libs yengrazul` says of an installed package.
+ * `tools/prove.sh yengrazul_c` writes (x86-64, Linux), or what `pkg-config --libs yengrazul` says of an installed package.
  */
 #ifndef YENGRAZUL_H
 #define YENGRAZUL_H

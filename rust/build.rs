@@ -1,4 +1,4 @@
-//! Links libyengrazul.a: `tools/prove.sh yengrazul` writes it to target/staticlib of the project; YENGRAZUL_LIB may name another folder.
+//! Links libyengrazul.a: `tools/prove.sh yengrazul_c` writes it to target/staticlib of the project; YENGRAZUL_LIB may name another folder.
 use std::path::PathBuf;
 
 fn main() {
@@ -15,7 +15,7 @@ fn main() {
     println!("cargo::rustc-link-lib=static=yengrazul");
     if !archive.exists() {
         println!(
-            "cargo::error={} is missing: run `tools/prove.sh yengrazul` in the project, or set YENGRAZUL_LIB to its folder",
+            "cargo::error={} is missing: run `tools/prove.sh yengrazul_c` in the project, or set YENGRAZUL_LIB to its folder",
             archive.display()
         );
     }

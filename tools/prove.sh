@@ -1,6 +1,6 @@
 #!/bin/sh
 # Proves a crate and those that it uses, lowest first, and puts what is built of it into target/, which the commands and the tests read:
-#     tools/prove.sh NAME..     target/bin/NAME with target/stamp/NAME of a program, target/staticlib/libNAME.a of a static library
+#     tools/prove.sh NAME..     target/bin/NAME with target/stamp/NAME of a program, target/staticlib/libNAME.a of a static library NAME_c
 # Called at the top of the project. A line for each crate on standard output; what rt says of it is in target/log. Ends with 1 where one is not proved.
 set -u
 mkdir -p target/log target/bin target/stamp target/staticlib || exit 1
@@ -57,7 +57,7 @@ for name in "$@"; do
         echo "rt: $crate proved ($took s)"
     done
     if is_static "$name"; then
-        kept "crates/$name/out/lib$name.a" "target/staticlib/lib$name.a" || exit 1
+        kept "crates/$name/out/lib$name.a" "target/staticlib/lib${name%_c}.a" || exit 1
     else
         kept "crates/$name/out/$name" "target/bin/$name" && echo "$name" >"target/stamp/$name" || exit 1
     fi

@@ -27,7 +27,7 @@
 //!
 //! What tree and image files hold: `docs/FORMATS.md` of the project.
 //!
-//! To build it, `tools/prove.sh yengrazul` must have written `libyengrazul.a` to `target/staticlib` of the project;
+//! To build it, `tools/prove.sh yengrazul_c` must have written `libyengrazul.a` to `target/staticlib` of the project;
 //! `YENGRAZUL_LIB` may name another folder that holds it, as `lib/yengrazul` of an installed package.
 #![deny(missing_docs, unsafe_op_in_unsafe_fn)]
 

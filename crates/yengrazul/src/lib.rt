@@ -1,4 +1,4 @@
-// The calls that C and Rust link, in one archive: exports alone. Each asks the crate that does the work and writes the numbers of its answer.
+// The calls that C and Rust link (yengrazul_c exports them). Each asks the crate that does the work and writes the numbers of its answer.
 #![tactic(auto)]
 
 ghost use Rattle.std.specs.Prelude.{◌≡◌, length, take};
@@ -11,8 +11,7 @@ ghost use Rattle.meaning.specs.Mend.{mend_as, mend_answer, mend_output, mend_lis
 ghost use Rattle.yengrazul.specs.Told.{told, told_reply, walk_told, mend_told};
 
 // `lower`: number, place, length and visits.
-#[unsafe(no_mangle)]
-pub extern "C" fn yengrazul_lower(
+pub fn yengrazul_lower(
     tree: &[u8],
     work: &mut [u32],
     out: &mut [u8],
@@ -33,8 +32,7 @@ pub extern "C" fn yengrazul_lower(
 }
 
 // `tree::check`: number, place, and as length the number of nodes.
-#[unsafe(no_mangle)]
-pub extern "C" fn yengrazul_check(tree: &[u8], work_len: usize, mode: u64, answer: &mut [u64; 3])
+pub fn yengrazul_check(tree: &[u8], work_len: usize, mode: u64, answer: &mut [u64; 3])
     ensures { answer.new ≡ told (answer_to (checked mode tree.now work_len)) }
 {
     let checked = values::answer_of(tree::check(tree, work_len, mode));
@@ -42,8 +40,7 @@ pub extern "C" fn yengrazul_check(tree: &[u8], work_len: usize, mode: u64, answe
 }
 
 // `reader::read`: number and place.
-#[unsafe(no_mangle)]
-pub extern "C" fn yengrazul_read(image: &[u8], answer: &mut [u64; 2])
+pub fn yengrazul_read(image: &[u8], answer: &mut [u64; 2])
     ensures { answer.new ≡ take 2 (told (answer_to (read_outcome (length (fields image.now)) (read_image image.now)))) }
 {
     let read = values::answer_of(reader::read(image));
@@ -51,8 +48,7 @@ pub extern "C" fn yengrazul_read(image: &[u8], answer: &mut [u64; 2])
 }
 
 // `walk`: number, place, steps, index and ending.
-#[unsafe(no_mangle)]
-pub extern "C" fn yengrazul_walk(
+pub fn yengrazul_walk(
     image: &[u8],
     prototype: u64,
     decisions: &[u8],
@@ -75,13 +71,7 @@ pub extern "C" fn yengrazul_walk(
 }
 
 // `mend::mend`: number, place, length of the image, entries in the list.
-#[unsafe(no_mangle)]
-pub extern "C" fn yengrazul_mend(
-    image: &[u8],
-    out: &mut [u8],
-    list: &mut [u8],
-    answer: &mut [u64; 4],
-)
+pub fn yengrazul_mend(image: &[u8], out: &mut [u8], list: &mut [u8], answer: &mut [u64; 4])
     ensures answered { answer.new ≡ mend_told (mend_answer (mend_as (image_tag image.now) image.now (length out.old) (length list.old))) }
     ensures written { out.new ≡ mend_output (length out.old) (mend_as (image_tag image.now) image.now (length out.old) (length list.old)) }
     ensures listed { list.new ≡ mend_list (length list.old) (mend_as (image_tag image.now) image.now (length out.old) (length list.old)) }
