@@ -1,5 +1,5 @@
-# The proved programs behind bin/lower and bin/list, which read this: where one stands, and how it is run. It always ends with 0, since a program of
-# Rattle has no other status: the command gives the status by what was written.
+# The proved programs behind bin/lower and bin/list, which read this: where one stands, and how it is run. It ends with 0, and with 1 where there is
+# not enough memory: the command gives the status by what was written.
 
 find_program() { # NAME
     program=$root/libexec/$1 # in an installed package
@@ -21,7 +21,7 @@ find_program() { # NAME
 # The program on standard input, what it writes on descriptor 3, what it says on standard error in $said.
 run_program() { # WORDS..
     said=$(
-        free_stack
+        without_words
         if [ -n "$copy" ]; then
             { tee -- "$copy" || rm -f -- "$copy"; } | program_itself "$@" 2>&1 >&3 3>&-
         else
@@ -32,10 +32,9 @@ run_program() { # WORDS..
     ended=$?
 }
 
-# Its rooms are arrays on the stack, so the stack may grow as far as the system lets it.
-free_stack() {
-    exec 2>/dev/null # the shell's own words on a program that is ended by a signal
-    ulimit -s unlimited || ulimit -s "$(ulimit -H -s)"
+# The shell's own words on a program that is ended by a signal are not shown, nor the program's where they are not read.
+without_words() {
+    exec 2>/dev/null
 }
 
 program_itself() { # WORDS..

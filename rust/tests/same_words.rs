@@ -26,8 +26,8 @@ fn of_the_header() {
 fn of_the_command_line() {
     let words = text_of("crates/lower_main/src/words.rt");
     let words = quoted(&words);
-    let frame = format!(" whole fields: {}", Cause::Frame.text());
-    assert!(words.contains(&"refused 1 Frame after ") && words.contains(&frame.as_str()), "{frame}");
+    let frame = format!("refused 1 Frame after {{place}} whole fields: {}", Cause::Frame.text());
+    assert!(words.contains(&frame.as_str()), "{frame}");
     let mode = Refusal { cause: Cause::Mode, node: 0 }.to_string();
     assert!(words.contains(&mode.as_str()), "{mode}");
     // name and text of the others, by their numbers; 19 and 20 are refusals of images, which this program never gives

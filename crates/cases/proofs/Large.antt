@@ -15,7 +15,8 @@ use Rattle.meaning.specs.Image.{word, field}
 use Rattle.meaning.specs.Answer.{finished, finished_after, outcome, answer}
 use Rattle.meaning.specs.declared.Answer.{Answer}
 use Rattle.meaning.specs.declared.Cause.TheVariants.{Many}
-use Rattle.meaning.specs.declared.Outcome.TheVariants.{Accepted, Refused}
+use Rattle.std.specs.Prelude.{Ok, Err}
+use Rattle.meaning.specs.Outcome.{refusal}
 use Rattle.meaning.proofs.Computing.{computing}
 use Rattle.meaning.proofs.Starred.{case, given, due, bytes, Case}
 
@@ -64,7 +65,7 @@ twelve n = bytes (literals n 0 (one ∷ node 0x18 (9 ∷ (2 * n) ∷ []) ∷ nod
 
 -- number, place and length, the file having passed the checks with n nodes
 abbrev after_checks : (n : ℕ) → List ℕ → Answer
-after_checks n tree = answer (outcome (finished_after 0 (Accepted n) tree 6000))
+after_checks n tree = answer (outcome (finished_after 0 (Ok n) tree 6000))
 
 abbrev told : (number place length : ℕ) → Answer
 told number place length = record { number = number; place = place; length = length }
@@ -226,7 +227,7 @@ consumed zero (suc n) h = absurd (omega arith)
 consumed (suc f) zero h = refl
 consumed (suc f) (suc n) h = rw (le-leb 3 (length (blocks (suc n))) (omega arith)) (consumed f n (omega arith))
 
-pub many : (mode n work : ℕ) → mode ≤ 1 → 32768 < n → checked mode (blocks n) work ≡ Refused Many 32768
+pub many : (mode n work : ℕ) → mode ≤ 1 → 32768 < n → checked mode (blocks n) work ≡ Err (refusal Many 32768)
 unfolding checked checked_tree framed fields left
 many mode n work known h =
     rw (le-leb mode 1 known, counted (length (blocks n)) n (fuel_enough n), consumed (length (blocks n)) n (fuel_enough n), lt-ltb 0 n (omega arith), lt-ltb 32768 n h)

@@ -21,8 +21,8 @@ use Rattle.meaning.specs.State.{State, Proto, refuse, if_then, add_prototype}
 use Rattle.meaning.specs.declared.Cause.{Cause}
 use Rattle.meaning.specs.declared.Cause.TheVariants.{Long, Prototypes}
 use Rattle.meaning.specs.declared.Instruction.{Instruction}
-use Rattle.meaning.specs.declared.Outcome.{Outcome}
-use Rattle.meaning.specs.declared.Outcome.TheVariants.{Accepted, Refused}
+use Rattle.std.specs.Prelude.{Ok, Err}
+use Rattle.meaning.specs.Outcome.{Outcome, refusal}
 use Rattle.forward.specs.Forward.{Config, config, Run, stopped, bind, on, fwd_by}
 use Rattle.image.specs.Output.{Placed, proto_of}
 use Rattle.code.specs.Cuts.{adding, Adds}
@@ -48,15 +48,15 @@ module _ (f : ℕ → Instruction) (first k node params r : ℕ) (t : State) whe
   too_many h e = rw (size, le-ltb 32767 (k + 1) (omega arith), eq-eqb (length t.prototypes) 256 e)
 
 -- what is written while nothing is refused
-pub was_written : {x : ℕ} (p : Scope) (o : List ℕ) (s : Step) (ps : List Proto) → outcome_of s ≡ Accepted x → Image p o s ps → Written (code_tag p) o x (functions_of s) ps
+pub was_written : {x : ℕ} (p : Scope) (o : List ℕ) (s : Step) (ps : List Proto) → outcome_of s ≡ Ok x → Image p o s ps → Written (code_tag p) o x (functions_of s) ps
 was_written {x} p o s ps e i = by (outcome_of s) e i
   where
-    by : (y : Outcome) → y ≡ Accepted x → image_by (code_tag p) y o (functions_of s) ps → Written (code_tag p) o x (functions_of s) ps
+    by : (y : Outcome) → y ≡ Ok x → image_by (code_tag p) y o (functions_of s) ps → Written (code_tag p) o x (functions_of s) ps
     by y k h = rw k at h
 
 -- ---- the step, where a prototype is added
 
-module _ {w : List ℕ} {p : Scope} {s : Step} {x : ℕ} (first node params : ℕ) (fine : Fine w p s) (on : outcome_of s ≡ Accepted x) (le : first ≤ pc_of s) where
+module _ {w : List ℕ} {p : Scope} {s : Step} {x : ℕ} (first node params : ℕ) (fine : Fine w p s) (on : outcome_of s ≡ Ok x) (le : first ≤ pc_of s) where
   abbrev count : ℕ
   count = pc_of s - first
 
@@ -131,15 +131,15 @@ module _ {w : List ℕ} {p : Scope} {s : Step} {x : ℕ} (first node params : �
         result = omega (arith, fine.functions);
       }
 
-pub written_few : {w : List ℕ} {p : Scope} (s : Step) {x : ℕ} → Fine w p s → outcome_of s ≡ Accepted x → x ≤ 370000 * functions_of s
+pub written_few : {w : List ℕ} {p : Scope} (s : Step) {x : ℕ} → Fine w p s → outcome_of s ≡ Ok x → x ≤ 370000 * functions_of s
 written_few s {x} fine e = by (outcome_of s) e fine.written
   where
-    by : (y : Outcome) → y ≡ Accepted x → written_by y ≤ 370000 * functions_of s → x ≤ 370000 * functions_of s
+    by : (y : Outcome) → y ≡ Ok x → written_by y ≤ 370000 * functions_of s → x ≤ 370000 * functions_of s
     by y k h = rw k at h
 
 -- ---- the promise, in each case
 
-pub adds_absorbed : {w o : List ℕ} {p : Scope} {s : Step} {cause : Cause} {place : ℕ} (first node params : ℕ) → Fine w p s → outcome_of s ≡ Refused cause place → Adds first w o p s o s node params
+pub adds_absorbed : {w o : List ℕ} {p : Scope} {s : Step} {cause : Cause} {place : ℕ} (first node params : ℕ) → Fine w p s → outcome_of s ≡ Err (refusal cause place) → Adds first w o p s o s node params
 adds_absorbed {w} {o} {p} {s} {cause} {place} first node params fine off =
     record {
       fine = fine;
@@ -153,7 +153,7 @@ adds_absorbed {w} {o} {p} {s} {cause} {place} first node params fine off =
       does = λ ps i. record { protos = ps; image = i; runs = stays w w p p s s (adding first node params) cause place off off ps };
     }
 
-module _ {w o : List ℕ} {p : Scope} {s : Step} {x : ℕ} (first node params : ℕ) (fine : Fine w p s) (on : outcome_of s ≡ Accepted x) (le : first ≤ pc_of s) where
+module _ {w o : List ℕ} {p : Scope} {s : Step} {x : ℕ} (first node params : ℕ) (fine : Fine w p s) (on : outcome_of s ≡ Ok x) (le : first ≤ pc_of s) where
   adds_refused : (cause : Cause) → ((ps : List Proto) → Image p o s ps → run w p (refused_step s cause node) ps ≡ bind (run w p s ps) (adding first node params)) → Adds first w o p s o (refused_step s cause node) node params
   adds_refused cause runs =
       let m = refused_moves {w = w} {p = p} s cause node nothing fine on in

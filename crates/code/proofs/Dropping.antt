@@ -11,8 +11,8 @@ use Rattle.store.specs.Layout.{inst_at}
 use Rattle.store.specs.Store.{top_of, outcome_of, pc_of, constants_of, globals_of, functions_of, result_of, state_of, config_of, run, Image, goes_on, Fine}
 use Rattle.store.proofs.Tables.{tab_take}
 use Rattle.meaning.specs.State.{Proto}
-use Rattle.meaning.specs.declared.Outcome.{Outcome}
-use Rattle.meaning.specs.declared.Outcome.TheVariants.{Accepted, Refused}
+use Rattle.std.specs.Prelude.{Ok, Err}
+use Rattle.meaning.specs.Outcome.{Outcome}
 use Rattle.forward.specs.Forward.{bind, sure, roll_back}
 use Rattle.code.specs.Cuts.{rolled_by, rolled_step}
 
@@ -27,11 +27,11 @@ module _ (s : Step) (first : ℕ) where
 
   runs_by : (o : Outcome) (w : List ℕ) (p : Scope) (ps : List Proto) → first ≤ pc_of s → run w p (rolled_by o (stepped o) first) ps ≡ bind (run w p (stepped o) ps) (sure (roll_back first))
   unfolding run config_of state_of bind roll_back
-  runs_by (Accepted x) w p ps le = rw (cut_tab (inst_at w (top_of p)) first (pc_of s) le)
-  runs_by (Refused k n) w p ps le = refl
+  runs_by (Ok x) w p ps le = rw (cut_tab (inst_at w (top_of p)) first (pc_of s) le)
+  runs_by (Err why) w p ps le = refl
 
   fine_by : (o : Outcome) (w : List ℕ) (p : Scope) → first ≤ pc_of s → Fine w p (stepped o) → Fine w p (rolled_by o (stepped o) first)
-  fine_by (Accepted x) w p le fine =
+  fine_by (Ok x) w p le fine =
       record {
         sound = fine.sound;
         nested = fine.nested;
@@ -42,27 +42,27 @@ module _ (s : Step) (first : ℕ) where
         written = fine.written;
         result = omega arith;
       }
-  fine_by (Refused k n) w p le fine = fine
+  fine_by (Err why) w p le fine = fine
 
   outcome_by : (o : Outcome) → (rolled_by o (stepped o) first).outcome ≡ o
-  outcome_by (Accepted x) = refl
-  outcome_by (Refused k n) = refl
+  outcome_by (Ok x) = refl
+  outcome_by (Err why) = refl
 
   code_by : (o : Outcome) → goes_on o → (rolled_by o (stepped o) first).pc ≡ first
-  code_by (Accepted x) g = refl
-  code_by (Refused k n) g = absurd g
+  code_by (Ok x) g = refl
+  code_by (Err why) g = absurd g
 
   least_by : (o : Outcome) → first ≤ pc_of s → first ≤ (rolled_by o (stepped o) first).pc
-  least_by (Accepted x) le = omega arith
-  least_by (Refused k n) le = le
+  least_by (Ok x) le = omega arith
+  least_by (Err why) le = le
 
   pools_by : (o : Outcome) → ((rolled_by o (stepped o) first).constants ≡ constants_of s) × ((rolled_by o (stepped o) first).globals ≡ globals_of s)
-  pools_by (Accepted x) = (refl, refl)
-  pools_by (Refused k n) = (refl, refl)
+  pools_by (Ok x) = (refl, refl)
+  pools_by (Err why) = (refl, refl)
 
   image_by_case : (x : Outcome) (p : Scope) (o : List ℕ) (ps : List Proto) → Image p o (stepped x) ps → Image p o (rolled_by x (stepped x) first) ps
-  image_by_case (Accepted x) p o ps i = i
-  image_by_case (Refused k n) p o ps i = i
+  image_by_case (Ok x) p o ps i = i
+  image_by_case (Err why) p o ps i = i
 
   -- no word changes, so that this holds of any
   pub rolled_runs : (w : List ℕ) (p : Scope) (ps : List Proto) → first ≤ pc_of s → run w p (rolled_step s first) ps ≡ bind (run w p s ps) (sure (roll_back first))

@@ -13,7 +13,7 @@ use Rattle.store.proofs.Tables.{tab_ext, tab_length, tab_front, tab_add, tab_tak
 use Rattle.meaning.specs.Opcode.{is_end_jump}
 use Rattle.meaning.specs.Chunk.{each_at, jump_by, patch_first}
 use Rattle.meaning.specs.declared.Instruction.{Instruction}
-use Rattle.code.specs.Words.{Turns, Recoded, mended}
+use Rattle.code.specs.Words.{Turns, TurnsEach, Recoded, mended}
 
 -- ---- lists
 
@@ -37,38 +37,39 @@ mended_tab f g h first m a b =
     rw (tab_take h first m, tab_drop h first m)
     (tab_add g first m ∙ ap₂ (λ x y. x ++ y) (tab_ext g h first a) (tab_ext _ _ m b ∙ sym (each_tab f (λ j. h (first + j)) m)))
 
--- ---- a scan that turns every instruction of a region
+-- ---- a scan that turns every instruction of a region: by f, as each step of it is
 
-pub record Scanning (w w' : List ℕ) (top first i : ℕ) (f : ℕ → Instruction → Instruction) : Type 0 where
-  pub same : length w' ≡ length w
-  pub other : (j : ℕ) → (top - 2 * i ≤ j → top - 2 * first ≤ j) → get_or w' j 0 ≡ get_or w j 0
-  pub turned : (k : ℕ) → first ≤ k → k < i → inst_at w' top k ≡ f (k - first) (inst_at w top k)
-
-module _ {w w' : List ℕ} {top first : ℕ} {f : ℕ → Instruction → Instruction} (g : List Instruction → List Instruction) where
+module _ {step : ℕ → ℕ → ℕ → Type 0} {w w' : List ℕ} {top first : ℕ} {f : ℕ → Instruction → Instruction} (g : List Instruction → List Instruction) where
   -- the region has m instructions
-  scan_done : (m : ℕ) → Scanning w w' top first (first + m) f → 2 * (first + m) ≤ top → ((l : List Instruction) → length l ≡ m → g l ≡ each_at f 0 l) → Recoded w top (first + m) (first + m) (mended g first) w'
-  scan_done m scan fits is =
+  scan_done : (m : ℕ) → TurnsEach step w top first (first + m) w' → ((x i y : ℕ) → i < m → step x i y → Turns x (f i) y) → 2 * (first + m) ≤ top → ((l : List Instruction) → length l ≡ m → g l ≡ each_at f 0 l)
+      → Recoded w top (first + m) (first + m) (mended g first) w'
+  scan_done m scan turns fits is =
       record {
         same = scan.same;
-        other = λ j h. scan.other j (λ k. let t = h k in omega arith);
+        other = λ j h. scan.other j (λ k a b e. past j (h (omega arith)) (omega arith));
         code = mended_tab f (inst_at w' top) (inst_at w top) first m before after ∙ ap (λ l. take first (tab (inst_at w top) (first + m)) ++ l) (sym (is _ size));
       }
     where
       size : length (drop first (tab (inst_at w top) (first + m))) ≡ m
       size = ap length (tab_drop (inst_at w top) first m) ∙ tab_length _ m
 
+      past : (j : ℕ) → top ≤ j → j < top → ⊥
+      past j a b = omega arith
+
       before : (j : ℕ) → j < first → inst_at w' top j ≡ inst_at w top j
-      before j h = ap₂ unpacked (scan.other (cell top j) (λ k. omega arith)) (scan.other (mark_cell top j) (λ k. omega arith))
+      before j h = ap₂ unpacked (scan.other (cell top j) (λ k a b. omega arith)) (scan.other (mark_cell top j) (λ k a b. omega arith))
 
       after : (j : ℕ) → j < m → inst_at w' top (first + j) ≡ f j (inst_at w top (first + j))
       after j h =
           let e : first + j - first ≡ j = omega arith in
-          scan.turned (first + j) (omega arith) (omega arith) ∙ ap (λ k. f k (inst_at w top (first + j))) e
+          ap (unpacked (get_or w' (cell top (first + j)) 0)) (scan.other (mark_cell top (first + j)) (λ k a b. omega arith))
+          ∙ (turns _ j _ h (rw e at (scan.each (first + j) (omega arith) (omega arith)))).is _
 
-  pub scan_ends : {i : ℕ} (end : ℕ) → Scanning w w' top first i f → i ≡ end → first ≤ end → 2 * end ≤ top → ((l : List Instruction) → length l ≡ end - first → g l ≡ each_at f 0 l) → Recoded w top end end (mended g first) w'
-  scan_ends {i} end scan e le fits is =
+  pub scan_ends : (end : ℕ) → TurnsEach step w top first end w' → ((x i y : ℕ) → i < end - first → step x i y → Turns x (f i) y) → first ≤ end → 2 * end ≤ top → ((l : List Instruction) → length l ≡ end - first → g l ≡ each_at f 0 l)
+      → Recoded w top end end (mended g first) w'
+  scan_ends end scan turns le fits is =
       let m : first + (end - first) ≡ end = omega arith in
-      subst (λ k. Recoded w top k k (mended g first) w') m (scan_done (end - first) (subst (λ k. Scanning w w' top first k f) (e ∙ sym m) scan) (omega arith) is)
+      subst (λ k. Recoded w top k k (mended g first) w') m (scan_done (end - first) (subst (λ k. TurnsEach step w top first k w') (sym m) scan) turns (omega arith) is)
 
 -- ---- a scan for the first jump to the end
 

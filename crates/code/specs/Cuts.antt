@@ -1,13 +1,12 @@
 -- Pending code that is cut off.
-use Rattle.std.specs.Prelude.{ℕ, ◌<◌, ◌≤◌, ◌≡◌, List, length, drop}
+use Rattle.std.specs.Prelude.{ℕ, ◌<◌, ◌≤◌, ◌≡◌, List, length, drop, Ok, Err}
 use Rattle.store.specs.declared.Step.{Step}
 use Rattle.store.specs.declared.Scope.{Scope}
 use Rattle.store.specs.Layout.{edge}
 use Rattle.store.specs.Store.{nodes_of, block_of, outcome_of, pc_of, constants_of, globals_of, result_of, run, advanced, goes_on, while_going, inner, Image, Fine, Kept}
 use Rattle.store.specs.Promise.{Cost, Used, After}
 use Rattle.meaning.specs.State.{Proto, add_prototype}
-use Rattle.meaning.specs.declared.Outcome.{Outcome}
-use Rattle.meaning.specs.declared.Outcome.TheVariants.{Accepted, Refused}
+use Rattle.meaning.specs.Outcome.{Outcome}
 use Rattle.forward.specs.Forward.{Config, Run, bind, fwd_number, cut, end_program}
 
 -- the code back to a length
@@ -16,8 +15,8 @@ cut_step s first = advanced s first (result_of s)
 
 -- binary_literal at Minus, the dropped pass: a refused step stays
 abbrev pub rolled_by : Outcome → Step → ℕ → Step
-rolled_by (Accepted written) s first = advanced s first 0
-rolled_by (Refused cause node) s first = s
+rolled_by (Ok written) s first = advanced s first 0
+rolled_by (Err why) s first = s
 
 -- the same by the step's own outcome
 abbrev pub rolled_step : Step → ℕ → Step

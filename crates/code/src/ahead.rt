@@ -4,10 +4,9 @@ ghost use Rattle.forward.specs.Forward.{sure, test_and_jump};
 ghost use Rattle.store.specs.Store.{outcome_of, result_of, Fine, while_going};
 ghost use Rattle.store.specs.Promise.{uses, Space, Leaf};
 
-use crate::JMP;
+use crate::{JMP, emit};
 use instruction::OpCode;
-use meaning::Outcome;
-use store::{Scope, Step, pack, write_cell};
+use store::{Scope, Step};
 
 const TEST: u32 = OpCode::Test as u32;
 
@@ -16,13 +15,7 @@ pub fn test_and_jump(work: &mut [u32], step: Step, scope: Scope, flag: u32, mark
     requires { Fine work.old scope step × Space work.old scope step 0 4 0 × while_going (outcome_of step) ((result_of step < 256) × (flag < 256)) }
     ensures { Leaf work.old scope step work.new scope result (uses 4 0 0) (sure (test_and_jump flag mark)) }
 {
-    let o = step.outcome;
-    let Outcome::Accepted(_) = o else {
-        return step;
-    };
-    let pc = step.pc;
     let result = step.result;
-    write_cell(work, scope, pc, pack(TEST, result, result, flag), mark);
-    write_cell(work, scope, pc + 1, JMP, mark);
-    store::advance(step, pc + 2, result)
+    let tested = emit(work, step, scope, TEST, result, result, flag, mark);
+    emit(work, tested, scope, JMP, 0, 0, 0, mark)
 }

@@ -7,8 +7,9 @@ ghost use Rattle.store.specs.Promise.{uses, Space, Leaf};
 ghost use Rattle.store.specs.Cell.{Bytes};
 ghost use Rattle.code.specs.Cuts.{rolled_step};
 
-use meaning::Outcome;
 use store::{Scope, Step, pack, write_cell};
+
+// stays: three public functions beside `put`, each one call of it or of `put_bx`; one type of operands would be made at every call only to be taken apart here.
 
 // One instruction more, and the result.
 pub fn put(
@@ -25,13 +26,12 @@ pub fn put(
     requires { Fine work.old scope step × Space work.old scope step 0 2 0 × while_going (outcome_of step) (Bytes op a b c) × while_going (outcome_of step) (res < 1024) }
     ensures { Leaf work.old scope step work.new scope result (uses 2 0 0) (sure (put res (inst op a b c mark))) }
 {
-    let o = step.outcome;
-    let Outcome::Accepted(_) = o else {
+    let Ok(_) = step.outcome else {
         return step;
     };
     let pc = step.pc;
     write_cell(work, scope, pc, pack(op, a, b, c), mark);
-    store::advance(step, pc + 1, res)
+    step.advance(pc + 1, res)
 }
 
 // The same with a 16-bit number.
@@ -49,9 +49,17 @@ pub fn put_bx(
     ensures { Leaf work.old scope step work.new scope result (uses 2 0 0) (sure (put res (inst_bx op a n mark))) }
 {
     let h = instruction::forward(n as usize);
-    let b = h.b as u32;
-    let c = h.c as u32;
-    put(work, step, scope, op, a, b, c, mark, res)
+    put(
+        work,
+        step,
+        scope,
+        op,
+        a,
+        u32::from(h.b),
+        u32::from(h.c),
+        mark,
+        res,
+    )
 }
 
 // One instruction more; the result stays.
@@ -91,9 +99,8 @@ pub fn emit_bx(
 pub fn roll_back(step: Step, first: usize) -> Step
     ensures { result ≡ rolled_step step first }
 {
-    let o = step.outcome;
-    let Outcome::Accepted(_) = o else {
+    let Ok(_) = step.outcome else {
         return step;
     };
-    store::advance(step, first, 0)
+    step.advance(first, 0)
 }

@@ -1,10 +1,10 @@
 // Scans over pending code that set its jumps, as the source has them.
-ghost use Rattle.std.specs.Prelude.{◌*◌, ◌≤◌, length};
+ghost use Rattle.std.specs.Prelude.{ℕ, ◌*◌, ◌-◌, ◌^◌, ◌<◌, ◌≤◌, length};
 ghost use Rattle.meaning.specs.Chunk.{continue_offset, patch_jump, patch_loop, patch_end, patch_ends, patch_first};
 ghost use Rattle.meaning.specs.Opcode.{inst_bx, Jmp};
 ghost use Rattle.store.specs.Store.{nodes_of, top_of};
 ghost use Rattle.store.specs.Cell.{Packs};
-ghost use Rattle.code.specs.Words.{Turns, Recoded, mended, patch_by, patched};
+ghost use Rattle.code.specs.Words.{Turns, TurnsEach, Stretch, Recoded, mended};
 
 use crate::JMP;
 use store::{Scope, jump_back, pack_bx, set_word, word_at};
@@ -50,58 +50,51 @@ fn patch_end(x: u32, size: usize, i: usize) -> u32
     x
 }
 
-// Instruction i of the `size` of a loop or of an if.
-fn patch(x: u32, looped: bool, goal: usize, size: usize, i: usize) -> u32
-    requires { i ≤ size }
-    ensures { Turns x (patch_by looped goal size i) result }
+// Each instruction from `first` up to `end` anew: `turn` gives its word, from the word that is there and its place behind `first`.
+fn patch_each<F: Fn(u32, usize) -> u32>(
+    work: &mut [u32],
+    scope: Scope,
+    first: usize,
+    end: usize,
+    turn: F,
+)
+    requires room { Stretch work.old scope first end }
+    requires callable { (x i : ℕ) → x < 2 ^ 32 → i < end - first → F.pre turn x i }
+    ensures { TurnsEach (λ x i y. F.post turn x i y) work.old (top_of scope) first end work.new }
 {
-    if looped {
-        return patch_jump(x, goal, size, i);
-    }
-    patch_end(x, size, i)
-}
-
-// The jumps of a loop, or of an if, whose code stands from `first` up to `end`.
-fn patch_each(work: &mut [u32], scope: Scope, first: usize, end: usize, looped: bool, goal: usize)
-    requires { (top_of scope ≤ length work.old) × (2 * end ≤ top_of scope) × (first ≤ end) × (nodes_of scope ≤ 32768) }
-    ensures { Recoded work.old (top_of scope) end end (mended (patched looped goal) first) work.new }
-{
-    let size = end - first;
-    let mut i = first;
-    while i < end {
-        let word = patch(word_at(work, scope, i), looped, goal, size, i - first);
+    for i in first..end {
+        let word = turn(word_at(work, scope, i), i - first);
         set_word(work, scope, i, word);
-        i += 1;
     }
 }
 
 // The continues and breaks of a loop; continues go to its instruction `goal`.
 pub fn patch_loop(work: &mut [u32], scope: Scope, first: usize, end: usize, goal: usize)
-    requires { (top_of scope ≤ length work.old) × (2 * end ≤ top_of scope) × (first ≤ end) × (nodes_of scope ≤ 32768) }
+    requires { Stretch work.old scope first end }
     ensures { Recoded work.old (top_of scope) end end (mended (patch_loop goal) first) work.new }
 {
-    patch_each(work, scope, first, end, true, goal);
+    let size = end - first;
+    patch_each(work, scope, first, end, |x, i| patch_jump(x, goal, size, i));
 }
 
 // The jumps to the end of an if.
 pub fn patch_ends(work: &mut [u32], scope: Scope, first: usize, end: usize)
-    requires { (top_of scope ≤ length work.old) × (2 * end ≤ top_of scope) × (first ≤ end) × (nodes_of scope ≤ 32768) }
+    requires { Stretch work.old scope first end }
     ensures { Recoded work.old (top_of scope) end end (mended patch_ends first) work.new }
 {
-    patch_each(work, scope, first, end, false, 0);
+    let size = end - first;
+    patch_each(work, scope, first, end, |x, i| patch_end(x, size, i));
 }
 
 // The first jump to the end of a try.
 pub fn patch_first(work: &mut [u32], scope: Scope, first: usize, end: usize, offset: usize)
-    requires { (top_of scope ≤ length work.old) × (2 * end ≤ top_of scope) × (first ≤ end) × (nodes_of scope ≤ 32768) }
+    requires { Stretch work.old scope first end }
     ensures { Recoded work.old (top_of scope) end end (mended (patch_first offset) first) work.new }
 {
-    let mut i = first;
-    while i < end {
+    for i in first..end {
         if word_at(work, scope, i) == JMP {
             set_word(work, scope, i, pack_bx(JMP, 0, offset));
             return;
         }
-        i += 1;
     }
 }

@@ -6,9 +6,10 @@ ghost use Rattle.store.specs.Promise.{nothing};
 ghost use Rattle.store.specs.Opening.{Leavable};
 ghost use Rattle.code.specs.Cuts.{Adds, Ends, EndsProgram};
 
-use meaning::{Cause, Outcome};
+use meaning::Cause;
 use store::{Scope, Step};
 
+// stays: `wide` is Scope's number, and the tag the byte that image and writers take.
 // The tag of the image's instructions, by the width of the marks.
 fn code_tag(scope: Scope) -> u8
     ensures { result ≡ code_tag scope }
@@ -29,16 +30,15 @@ fn add_prototype(
     requires { Fine work.now scope step × while_going (outcome_of step) (first ≤ pc_of step) × (params < 65536) }
     ensures { Adds first work.now out.old scope step out.new result node params }
 {
-    let o = step.outcome;
-    let Outcome::Accepted(written) = o else {
+    let Ok(written) = step.outcome else {
         return step;
     };
     let count = step.pc - first;
     if 32766 < count {
-        return store::refuse(step, Cause::Long, node);
+        return step.refuse(Cause::Long, node);
     }
     if step.functions == 256 {
-        return store::refuse(step, Cause::Prototypes, node);
+        return step.refuse(Cause::Prototypes, node);
     }
     let end = image::place_prototype(
         work,
@@ -51,7 +51,7 @@ fn add_prototype(
         count,
         params as u32,
     );
-    store::prototype_more(step, first, end)
+    step.prototype_more(first, end)
 }
 
 // fn leave_function of a function inside `scope`: its prototype, its code cut off, its locals popped.
@@ -67,7 +67,7 @@ pub fn leave_function(
     requires { Fine work.old (inner scope) step × Leavable work.old scope × while_going (outcome_of step) (first ≤ pc_of step) × (params < 65536) }
     ensures { Ends first work.old out.old scope step work.new out.new result nothing (leave_function first node params) × (result_of result < 256) }
 {
-    let inside = store::inner(scope);
+    let inside = scope.inner();
     let next = add_prototype(work, out, step, inside, first, node, params);
     store::leave_block(work, scope);
     next

@@ -15,8 +15,8 @@ use Rattle.meaning.specs.Weight.{size_expr, size_stmt, size_stmts}
 use Rattle.meaning.specs.State.{Proto, Chunk, M, leave_block}
 use Rattle.meaning.specs.declared.Cause.{Cause}
 use Rattle.meaning.specs.declared.Instruction.{Instruction}
-use Rattle.meaning.specs.declared.Outcome.{Outcome}
-use Rattle.meaning.specs.declared.Outcome.TheVariants.{Accepted, Refused}
+use Rattle.std.specs.Prelude.{Ok, Err}
+use Rattle.meaning.specs.Outcome.{Outcome, refusal}
 use Rattle.nodes.specs.Offsets.{Readable}
 use Rattle.nodes.specs.Nodes.{Node, Width}
 use Rattle.forward.specs.Forward.{Config, Run, going, bind, sure, fwd, fwd_unit}
@@ -154,8 +154,8 @@ small s h = promised (outcome_of s) λ g. h
 
 -- a result is below 1,024
 limit_few : (o : Outcome) (v : ℕ) → v < result_limit o → v < 1024
-limit_few (Accepted x) v h = h
-limit_few (Refused k n) v h = omega arith
+limit_few (Ok x) v h = h
+limit_few (Err why) v h = omega arith
 
 pub few_results : {w : List ℕ} {p : Scope} {s : Step} → Fine w p s → result_of s < 1024
 few_results {s = s} h = limit_few (outcome_of s) (result_of s) h.result
@@ -268,7 +268,7 @@ pub recounted : {w o w' o' : List ℕ} {p : Scope} {s r : Step} {x y v v' : ℕ}
 recounted e d = rw (sym e) d
 
 -- a refused step stays
-pub refused_stays : {w o : List ℕ} {p : Scope} {s : Step} (u : Cost) (op : Config → Run) {k : Cause} {n : ℕ} → Fine w p s → outcome_of s ≡ Refused k n → Lowers w o p s w o s u op
+pub refused_stays : {w o : List ℕ} {p : Scope} {s : Step} (u : Cost) (op : Config → Run) {k : Cause} {n : ℕ} → Fine w p s → outcome_of s ≡ Err (refusal k n) → Lowers w o p s w o s u op
 refused_stays {w} {o} {p} {s} u op h e = record { does = leaf_does (leaf_absorbed u op h e) o; small = none_due (result_of s < 255) e }
 
 -- a node without children, as a member: nothing is visited under it

@@ -1,6 +1,7 @@
 // Module 4 of document 01: statements and expressions are lowered by functions that call each other; the node's number falls at each call.
 // A function is the straight line of its calls. Each passes a refused step on; the two dispatchers return it at once, and count a visit of any other;
 // the loops count those of elifs and methods.
+// stays: each member's six parameters; a struct of them has two loans, and each contract would say of both that they are the same (code/src/lib.rt).
 #![tactic(auto)]
 
 mod operators;
@@ -12,9 +13,9 @@ ghost use Rattle.cycle.specs.Cycle.{GivenExpr, GivenStmt, AskExpr, AskStmt, AskF
 ghost use Rattle.store.specs.Store.{depth_of};
 
 use crate::operators::{binary_opcode, immediate, or_flag, unary_opcode};
+use code::{ADDI, MOVE, SET_GLOBAL};
 use instruction::OpCode;
-use meaning::{NO_MARK, Outcome};
-use nodes::ABSENT;
+use meaning::NO_MARK;
 use store::{Scope, Step};
 
 // Operators, as 01 numbers them, that have an immediate form.
@@ -22,16 +23,11 @@ const PLUS: u32 = 1;
 
 const MINUS: u32 = 8;
 
-const MOVE: u32 = OpCode::Move as u32;
-
 const CLASS_METH: u32 = OpCode::ClassMeth as u32;
 
 const CLASS_ST_METH: u32 = OpCode::ClassStMeth as u32;
 
-const ADDI: u32 = OpCode::Addi as u32;
-
-const SET_GLOBAL: u32 = OpCode::SetGlobal as u32;
-
+// stays: enter_function takes the name's number and promises of each below 65536 (`Enters`); 65535 is document 01's for none.
 const NO_NAME: usize = 65535;
 
 // ---- rows of children
@@ -54,11 +50,9 @@ pub fn row(
 {
     let payload = nodes::payload_of(tree, work, node);
     let mut last = step;
-    let mut k = from;
-    while k < to {
+    for k in from..to {
         let child = nodes::child(payload, k + skew);
         last = statement(tree, work, out, last, scope, child);
-        k += 1;
     }
     last
 }
@@ -134,7 +128,7 @@ fn for_loop(
     );
     let condition = expression(tree, work, out, first, scope, x.condition);
     let tested = code::test_and_jump(work, condition, scope, 0, x.mark);
-    let body = statement(tree, work, out, tested, store::looped(scope), x.body);
+    let body = statement(tree, work, out, tested, scope.looped(), x.body);
     let last = expression(tree, work, out, body, scope, x.increment);
     routines::end_loop(
         work,
@@ -178,7 +172,7 @@ fn for_in(
         counter.result,
         x.mark,
     );
-    let body = statement(tree, work, out, head, store::looped(scope), x.body);
+    let body = statement(tree, work, out, head, scope.looped(), x.body);
     routines::end_for_in(
         work,
         body,
@@ -204,12 +198,12 @@ fn let_stmt(
     ensures { UnderStmt tree.now node work.old out.old scope step work.new out.new result }
 {
     let x = nodes::let_of(tree, work, node, scope.wide);
-    if x.value == ABSENT {
+    let Some(child) = x.value else {
         return routines::let_only(tree, work, step, scope, node);
-    }
+    };
     if store::is_global_context(scope) {
         let name = routines::new_global(work, step, scope, node, x.token);
-        let value = expression(tree, work, out, name, scope, x.value);
+        let value = expression(tree, work, out, name, scope, child);
         return code::emit_bx(
             work,
             value,
@@ -220,7 +214,7 @@ fn let_stmt(
             x.token.mark,
         );
     }
-    let value = expression(tree, work, out, step, scope, x.value);
+    let value = expression(tree, work, out, step, scope, child);
     store::allocate_register(work, value, scope, x.token.name, value.result);
     value
 }
@@ -242,7 +236,7 @@ fn block(
     let inside = store::enter_block(work, scope);
     let last = row(tree, work, out, step, inside, node, 0, n, 0);
     store::leave_block(work, scope);
-    store::settle(last, 0)
+    last.settle(0)
 }
 
 // fn visit_while_stmt
@@ -261,7 +255,7 @@ fn while_loop(
     let x = nodes::while_of(tree, work, node, scope.wide);
     let condition = expression(tree, work, out, step, scope, x.condition);
     let tested = code::test_and_jump(work, condition, scope, 0, x.mark);
-    let body = statement(tree, work, out, tested, store::looped(scope), x.body);
+    let body = statement(tree, work, out, tested, scope.looped(), x.body);
     routines::end_loop(
         work,
         body,
@@ -289,10 +283,10 @@ fn return_stmt(
     ensures { UnderStmt tree.now node work.old out.old scope step work.new out.new result }
 {
     let x = nodes::return_of(tree, work, node, scope.wide);
-    if x.value == ABSENT {
+    let Some(child) = x.value else {
         return routines::return_none(tree, work, step, scope, node);
-    }
-    let value = expression(tree, work, out, step, scope, x.value);
+    };
+    let value = expression(tree, work, out, step, scope, child);
     routines::end_return(work, value, scope, node, x.mark)
 }
 
@@ -348,8 +342,7 @@ fn elifs(
 {
     let payload = nodes::payload_of(tree, work, node);
     let mut last = step;
-    let mut k = from;
-    while k < to {
+    for k in from..to {
         let child = nodes::child(payload, k + skew);
         let x = nodes::elif_of(tree, work, child);
         let condition = expression(tree, work, out, last, scope, x.condition);
@@ -357,9 +350,8 @@ fn elifs(
         let then = row(tree, work, out, tested, scope, child, 1, x.end, 0);
         last = routines::end_branch(work, then, scope, condition.pc, NO_MARK);
         store::visit(work);
-        k += 1;
     }
-    store::settle(last, 0)
+    last.settle(0)
 }
 
 // fn visit_fn_stmt
@@ -479,8 +471,7 @@ fn methods(
 {
     let payload = nodes::payload_of(tree, work, node);
     let mut last = step;
-    let mut k = from;
-    while k < to {
+    for k in from..to {
         let child = nodes::child(payload, k + skew);
         let x = nodes::define_of(tree, work, child, scope.wide);
         let method = fn_stmt(tree, work, out, last, scope, child);
@@ -496,9 +487,8 @@ fn methods(
             x.token.name,
         );
         store::visit(work);
-        k += 1;
     }
-    store::settle(last, 0)
+    last.settle(0)
 }
 
 // ---- impl ExprVisitor for Compiler
@@ -583,12 +573,10 @@ fn binary(
     ensures { UnderExpr tree.now node work.old out.old scope step work.new out.new result }
 {
     let x = nodes::binary_of(tree, work, node, scope.wide);
-    let k = immediate(tree, work, scope, x.op, PLUS, x.right);
-    if k < 256 {
+    if let Some(k) = immediate(tree, work, scope, x.op, PLUS, x.right) {
         return addi(tree, work, out, step, scope, node, k);
     }
-    let j = immediate(tree, work, scope, x.op, MINUS, x.left);
-    if j < 256 {
+    if immediate(tree, work, scope, x.op, MINUS, x.left).is_some() {
         return minus(tree, work, out, step, scope, node);
     }
     both(tree, work, out, step, scope, node)
@@ -603,15 +591,24 @@ fn addi(
     step: Step,
     scope: Scope,
     node: usize,
-    k: u32,
+    k: u8,
 ) -> Step
-    requires { GivenExpr tree.now work.old scope step node × (tag_of (fields tree.now) node ≡ 0x06) × (k < 256) }
+    requires { GivenExpr tree.now work.old scope step node × (tag_of (fields tree.now) node ≡ 0x06) }
     ensures { LowersAddi tree.now node k work.old out.old scope step work.new out.new result }
 {
     let x = nodes::binary_of(tree, work, node, scope.wide);
     let left = expression(tree, work, out, step, scope, x.left);
     let last = store::next_register(work, left, scope, node);
-    code::emit(work, last, scope, ADDI, last.result, left.result, k, x.mark)
+    code::emit(
+        work,
+        last,
+        scope,
+        ADDI,
+        last.result,
+        left.result,
+        u32::from(k),
+        x.mark,
+    )
 }
 
 // fn binary_literal at Minus: the right side is lowered and dropped, then all is lowered
@@ -701,16 +698,13 @@ fn arguments(
     let payload = nodes::payload_of(tree, work, node);
     let n = nodes::count_of(tree, work, node, wide);
     let mut last = step;
-    let mut to = register;
-    let mut k: usize = 2;
-    while k < n {
+    for k in 2..n {
         let child = nodes::child(payload, k + wide);
         let argument = expression(tree, work, out, last, scope, child);
+        let to = register + (k - 2) as u32;
         last = code::emit(work, argument, scope, MOVE, to, argument.result, 0, NO_MARK);
-        to += 1;
-        k += 1;
     }
-    store::settle(last, 0)
+    last.settle(0)
 }
 
 // fn visit_logical_expr
@@ -761,6 +755,7 @@ fn unary(
 }
 
 // impl StmtAcceptor for Stmt
+// stays: the tags are document 01's bytes, and each contract here names its own (`tag_of .. ≡ 0x10`); an enum between would say them twice.
 #[cycle(visit)]
 fn statement(
     tree: &[u8],
@@ -773,8 +768,7 @@ fn statement(
     requires { AskStmt tree.now work.old scope step node }
     ensures { LowersStmt tree.now node work.old out.old scope step work.new out.new result }
 {
-    let o = step.outcome;
-    let Outcome::Accepted(_) = o else {
+    let Ok(_) = step.outcome else {
         return step;
     };
     let tag = nodes::tag_of(tree, work, node);
@@ -808,8 +802,7 @@ fn expression(
     requires { AskExpr tree.now work.old scope step node }
     ensures { LowersExpr tree.now node work.old out.old scope step work.new out.new result }
 {
-    let o = step.outcome;
-    let Outcome::Accepted(_) = o else {
+    let Ok(_) = step.outcome else {
         return step;
     };
     let tag = nodes::tag_of(tree, work, node);

@@ -5,8 +5,9 @@ ghost use Rattle.meaning.specs.At.{expr_at};
 ghost use Rattle.meaning.specs.Syntax.{small_if};
 ghost use Rattle.meaning.specs.Opcode.{unary_opcode, binary_opcode, or};
 ghost use Rattle.meaning.specs.Expressions.{or_flag};
-ghost use Rattle.routines.specs.Node.{Lawful, small_of};
+ghost use Rattle.routines.specs.Node.{Lawful};
 ghost use Rattle.store.specs.Store.{nodes_of};
+ghost use Rattle.values.specs.Literals.{small_as};
 
 use instruction::OpCode;
 use store::Scope;
@@ -39,6 +40,7 @@ const NOT: u32 = OpCode::Not as u32;
 
 const NEG: u32 = OpCode::Neg as u32;
 
+// stays: operators by number: the definition's `unary_opcode` and `binary_opcode` answer for any, 0 for one that is none.
 // Token::Not, Token::Minus
 pub(crate) fn unary_opcode(op: u32) -> u32
     ensures { (result ≡ unary_opcode op) × (result < 256) }
@@ -78,7 +80,8 @@ pub(crate) fn or_flag(op: u32) -> u32
     if op == 1 { 1 } else { 0 }
 }
 
-// The small number that the operand of operator `op` is, where that is the operator `asked` with an immediate form; else 256.
+// The small number that the operand of operator `op` is, where that is the operator `asked` with an immediate form.
+#[tactic(auto, unfolding(meaning::specs::Syntax::small_if))]
 pub(crate) fn immediate(
     tree: &[u8],
     work: &[u32],
@@ -86,13 +89,13 @@ pub(crate) fn immediate(
     op: u32,
     asked: u32,
     child: usize,
-) -> u32
+) -> Option<u8>
     requires { Lawful tree.now work.now (nodes_of scope) × (child < nodes_of scope) × (nodes_of scope ≤ 32768) }
-    ensures { small_if (eqb op asked) (expr_at (fields tree.now) child) ≡ small_of result }
+    ensures { result ≡ small_as (small_if (eqb op asked) (expr_at (fields tree.now) child)) }
 {
     if op == asked {
         routines::small_operand(tree, work, scope, child)
     } else {
-        256
+        None
     }
 }

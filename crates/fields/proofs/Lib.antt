@@ -1,2 +1,3 @@
--- What the contracts leave open: nothing.
+-- What a walk leaves; what the contracts leave open: nothing.
+pub mod Walks
 pub mod Determined

@@ -10,7 +10,8 @@ use Rattle.meaning.specs.Image.{proto_bytes, constant_bytes, image}
 use Rattle.meaning.specs.Answer.{stopped, fitted}
 use Rattle.meaning.specs.declared.Cause.{Cause}
 use Rattle.meaning.specs.declared.Cause.TheVariants.{Room}
-use Rattle.meaning.specs.declared.Outcome.TheVariants.{Accepted, Refused}
+use Rattle.std.specs.Prelude.{Ok, Err}
+use Rattle.meaning.specs.Outcome.{refusal}
 use Rattle.store.specs.declared.Step.{Step}
 use Rattle.store.specs.declared.Scope.{Scope}
 use Rattle.store.specs.Table.{tab}
@@ -22,10 +23,10 @@ use Rattle.image.specs.Finish.{ended, Ending, Finishable, Finishes}
 use Rattle.writers.proofs.Splicing.{spliced_take, spliced_length}
 
 -- a refusal stays
-ending_stopped : (o : List ℕ) (c : Cause) (k : ℕ) → Ending (stopped c k) o (Refused c k)
+ending_stopped : (o : List ℕ) (c : Cause) (k : ℕ) → Ending (stopped c k) o (Err (refusal c k))
 ending_stopped o c k = record { told = refl; fits = omega arith; front = refl }
 
-pub ends_refused : (w o : List ℕ) (s : Step) (last : ℕ) {c : Cause} {k : ℕ} → outcome_of s ≡ Refused c k → Finishes w o s last o (outcome_of s)
+pub ends_refused : (w o : List ℕ) (s : Step) (last : ℕ) {c : Cause} {k : ℕ} → outcome_of s ≡ Err (refusal c k) → Finishes w o s last o (outcome_of s)
 ends_refused w o s last {c} {k} e = record { same = refl; ends = λ p ps i. rw (run_stopped w p s ps c k e, e) (ending_stopped o c k) }
 
 -- the constants' bytes
@@ -33,13 +34,13 @@ abbrev pub pool : List ℕ → Step → List ℕ
 pool w s = constant_bytes (tab (constant_at w) (constants_of s))
 
 -- what a list of bytes ends with that does not fit, and with one that does
-no_room : (o : List ℕ) (last : ℕ) (bytes : List ℕ) → length o < length bytes → Ending (fitted (length o) last bytes) o (Refused Room last)
+no_room : (o : List ℕ) (last : ℕ) (bytes : List ℕ) → length o < length bytes → Ending (fitted (length o) last bytes) o (Err (refusal Room last))
 no_room o last bytes h = rw (lt-ltb (length o) (length bytes) h) (ending_stopped o Room last)
 
-with_room : (room : ℕ) (o : List ℕ) (last end : ℕ) (bytes : List ℕ) → room ≡ length o → end ≡ length bytes → end ≤ length o → take end o ≡ bytes → Ending (fitted room last bytes) o (Accepted end)
-with_room room o last end bytes r e h f = rw (le-ltb room (length bytes) (omega arith)) (record { told = ap Accepted e; fits = h; front = f })
+with_room : (room : ℕ) (o : List ℕ) (last end : ℕ) (bytes : List ℕ) → room ≡ length o → end ≡ length bytes → end ≤ length o → take end o ≡ bytes → Ending (fitted room last bytes) o (Ok end)
+with_room room o last end bytes r e h f = rw (le-ltb room (length bytes) (omega arith)) (record { told = ap Ok e; fits = h; front = f })
 
-module _ (w o : List ℕ) (s : Step) (last : ℕ) {written : ℕ} (e : outcome_of s ≡ Accepted written) where
+module _ (w o : List ℕ) (s : Step) (last : ℕ) {written : ℕ} (e : outcome_of s ≡ Ok written) where
   -- the image: the prototypes, then the constants
   abbrev bytes : Scope → List Proto → List ℕ
   bytes p ps = proto_bytes (code_tag p) ps ++ pool w s
@@ -58,10 +59,10 @@ module _ (w o : List ℕ) (s : Step) (last : ℕ) {written : ℕ} (e : outcome_o
   size : (p : Scope) (ps : List Proto) → Image p o s ps → length (bytes p ps) ≡ written + length (pool w s)
   size p ps i = omega (arith, length-append (proto_bytes (code_tag p) ps) (pool w s), (held p ps i).sized)
 
-  pub ends_full : length o < written + length (pool w s) → Finishes w o s last o (Refused Room last)
+  pub ends_full : length o < written + length (pool w s) → Finishes w o s last o (Err (refusal Room last))
   ends_full h = record { same = refl; ends = λ p ps i. rw (ended_is p ps) (no_room o last (bytes p ps) (omega (arith, size p ps i))) }
 
-  pub ends_whole : {o' : List ℕ} {end : ℕ} → end ≡ written + length (pool w s) → Spliced o written (pool w s) o' → Finishes w o s last o' (Accepted end)
+  pub ends_whole : {o' : List ℕ} {end : ℕ} → end ≡ written + length (pool w s) → Spliced o written (pool w s) o' → Finishes w o s last o' (Ok end)
   ends_whole {o'} {end} n x =
       let l = spliced_length x in
       record {

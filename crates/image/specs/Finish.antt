@@ -1,10 +1,9 @@
 -- The end of a call, once the main function is left: refused, or the image of the state, for which there is room or not.
-use Rattle.std.specs.Prelude.{ℕ, ◌<◌, ◌≤◌, ◌≡◌, Bool, List, [], length, take}
+use Rattle.std.specs.Prelude.{ℕ, ◌<◌, ◌≤◌, ◌≡◌, Bool, List, [], length, take, Ok, Err}
 use Rattle.meaning.specs.State.{Proto}
 use Rattle.meaning.specs.Image.{image}
 use Rattle.meaning.specs.Answer.{Finished, imaged, stopped, fitted, outcome}
-use Rattle.meaning.specs.declared.Outcome.{Outcome}
-use Rattle.meaning.specs.declared.Outcome.TheVariants.{Accepted, Refused}
+use Rattle.meaning.specs.Outcome.{Outcome}
 use Rattle.store.specs.declared.Step.{Step}
 use Rattle.store.specs.declared.Scope.{Scope}
 use Rattle.store.specs.Store.{outcome_of, constants_of, run, is_wide, written_by, Image}
@@ -22,8 +21,8 @@ image_of (stopped cause node) = []
 
 -- an outcome's length
 abbrev pub length_of : Outcome → ℕ
-length_of (Accepted n) = n
-length_of (Refused cause node) = 0
+length_of (Ok n) = n
+length_of (Err why) = 0
 
 -- the outcome r of what a call ends with, and the output o, at whose front the image stands
 pub record Ending (x : Finished) (o : List ℕ) (r : Outcome) : Type 0 where

@@ -1,25 +1,19 @@
 -- The signed reading. Below 32,768 a number reads as itself; from there on, being 65,536 less some k + 1, it reads as -(k + 1).
 -- So what is stored for an offset is read back as that offset: `inverse`, one law over every offset of 16 bits, -32,768 to 32,767.
 -- A function of at most 32,767 instructions holds no other. `target_read`: where demand 3's steps send a Jmp is where this reading does.
-use Rattle.std.proofs.Common.{◌≡◌, ℕ, zero, suc, ◌+◌, ◌-◌, ◌/◌, ◌%◌, ◌<◌, ◌≤◌, Bool, true, false, ltb, ℤ, pos, negsuc, ◌+ℤ◌, ◌-ℤ◌, neg_ℤ, sym, refl, ◌∙◌, arith, to_z-of_z, w16, w32, SFits, to_z, of_z, ltb-false, ltb-true, le-ltb, lt-ltb, le-leb}
+use Rattle.std.proofs.Common.{◌≡◌, ℕ, zero, suc, ◌+◌, ◌-◌, ◌%◌, ◌<◌, ◌≤◌, Bool, true, false, ltb, ℤ, pos, negsuc, ◌+ℤ◌, neg_ℤ, refl, arith, ltb-false, ltb-true, le-ltb, lt-ltb, le-leb}
 use mathlib.Core.Option.{Option, none, some}
 use lib.Signed.{mag}
 use borrow.Author.Tests.{lt-leb}
-use mir.Facts.{to_z_pos}
 use Rattle.meaning.specs.Opcode.{inst_bx, bx, back}
 use Rattle.meaning.specs.Steps.{target}
-use Rattle.instruction.specs.Offset.{signed, sbx, stored, halves_of}
+use Rattle.instruction.specs.Offset.{signed, sbx, stored}
 
--- ---- what `reading` and `sbx` ask
+-- ---- the reading on either side of 32,768
 
 unsuc : (n : ℕ) → 1 ≤ n → (k : ℕ) × (n ≡ suc k)
 unsuc zero h = absurd (omega arith)
 unsuc (suc k) h = (k, refl)
-
-negated : (k : ℕ) → pos 0 -ℤ pos (suc k) ≡ negsuc k
-negated k =
-    let e : suc k - 1 ≡ k = omega arith in
-    simp (lt-ltb 0 (suc k) (omega arith), e)
 
 pub reads_low : (n : ℕ) → n < 32768 → signed n ≡ pos n
 reads_low n h = rw (lt-ltb n 32768 h)
@@ -30,34 +24,6 @@ reads_high n k h e = rw (le-ltb n 32768 h, e)
 module _ (n : ℕ) (h : 32768 ≤ n) (f : n < 65536) where
   below : (k : ℕ) × (65536 - n ≡ suc k)
   below = unsuc (65536 - n) (omega arith)
-
-  difference : pos 0 -ℤ to_z w32 (65536 - n) ≡ negsuc below.0
-  difference = rw (to_z_pos w32 {n = 65536 - n} (omega arith), below.1) (negated below.0)
-
-  pub negation_fits : SFits w32 (pos 0 -ℤ to_z w32 (65536 - n))
-  negation_fits = rw difference (record { sfits = omega (arith, below.1) })
-
-  pub negation_reads : to_z w32 (of_z w32 (pos 0 -ℤ to_z w32 (65536 - n))) ≡ signed n
-  negation_reads = to_z-of_z negation_fits ∙ difference ∙ sym (reads_high n below.0 h below.1)
-
--- the reading fits the 16 bits that it came from
-fits_by : (n : ℕ) → n < 65536 → (low : Bool) → ltb n 32768 ≡ low → SFits w16 (signed n)
-fits_by n f true e = rw (reads_low n (ltb-true n 32768 e)) (record { sfits = ltb-true n 32768 e })
-fits_by n f false e =
-    let h = ltb-false n 32768 e in
-    rw (reads_high n (below n h f).0 h (below n h f).1) (record { sfits = omega (arith, (below n h f).1) })
-
-pub reading_fits : (n : ℕ) → n < 65536 → SFits w16 (signed n)
-reading_fits n f = fits_by n f (ltb n 32768) refl
-
--- ---- what `forward` and `backward` ask
-
--- the two bytes of a number are those of its last 16 bits
-pub last_halves : (n : ℕ) → halves_of (n % 65536) ≡ halves_of n
-last_halves n =
-    let high : n % 65536 / 256 % 256 ≡ n / 256 % 256 = omega arith in
-    let low : n % 65536 % 256 ≡ n % 256 = omega arith in
-    rw (high, low)
 
 -- ---- the law
 

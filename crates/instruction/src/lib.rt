@@ -1,8 +1,8 @@
 // The port of src/instruction.rs: opcodes, what an instruction's b and c hold, and the 16-bit offset of a jump. `imm` is left out.
 #![tactic(auto)]
 
-ghost use Rattle.std.specs.Prelude.{◌≡◌, map};
-ghost use Rattle.meaning.specs.Opcode.{opcode_table, opcode_of, bx, back, is_continue, is_break};
+ghost use Rattle.std.specs.Prelude.{◌≡◌, ◌&&◌, map, eqb};
+ghost use Rattle.meaning.specs.Opcode.{opcode_table, opcode_of, Jmp, bx, back, is_continue, is_break};
 ghost use Rattle.instruction.specs.Offset.{signed, sbx, halves_of};
 
 use meaning::Instruction;
@@ -63,6 +63,7 @@ pub enum OpCode {
     GetExcept,
 }
 
+// stays: each name stands here once more: `numbers` promises `opcode_table` row for row, and no method lists an enum's cases.
 // The number of every opcode, in their order: that `as u8` gives the numbers of the one table, row for row.
 pub fn numbers() -> [u8; 51]
     ensures { result ≡ map opcode_of opcode_table }
@@ -123,6 +124,7 @@ pub fn numbers() -> [u8; 51]
 }
 
 // The marks of an unfinished jump: its a, which no finished jump uses.
+// stays: bytes and no enum: `a` of an instruction is a number in the definition (`jmp_continue`, `jmp_break`).
 pub const JMP_CONTINUE: u8 = 1;
 
 pub const JMP_BREAK: u8 = 2;
@@ -131,39 +133,35 @@ pub const JMP_BREAK: u8 = 2;
 pub fn bx(x: Instruction) -> u16
     ensures { result ≡ bx x }
 {
-    (x.b as u16) * 256 + (x.c as u16)
-}
-
-// A 16-bit number read as a signed one. It goes through i32: a cast to i16 that changes the number is no cast here.
-fn reading(n: u16) -> i32
-    ensures { result ≡ signed n }
-{
-    if n < 32768 {
-        n as i32
-    } else {
-        -((65536 - (n as u32)) as i32)
-    }
+    u16::from_be_bytes([x.b, x.c])
 }
 
 // fn sbx: the same number read as a signed one.
 pub fn sbx(x: Instruction) -> i16
     ensures { result ≡ sbx x }
 {
-    reading(bx(x)) as i16
+    bx(x).cast_signed()
+}
+
+// An unfinished jump with this mark.
+fn is_jump(x: Instruction, mark: u8) -> bool
+    ensures { result ≡ (eqb x.opcode Jmp && eqb x.a mark) }
+{
+    x.opcode == OpCode::Jmp as u8 && x.a == mark
 }
 
 // fn is_continue.
 pub fn is_continue(x: Instruction) -> bool
     ensures { result ≡ is_continue x }
 {
-    x.opcode == OpCode::Jmp as u8 && x.a == JMP_CONTINUE
+    is_jump(x, JMP_CONTINUE)
 }
 
 // fn is_break.
 pub fn is_break(x: Instruction) -> bool
     ensures { result ≡ is_break x }
 {
-    x.opcode == OpCode::Jmp as u8 && x.a == JMP_BREAK
+    is_jump(x, JMP_BREAK)
 }
 
 // A 16-bit number as an instruction holds it, high byte first.
@@ -173,12 +171,12 @@ pub struct Halves {
     pub c: u8,
 }
 
-fn halved(n: u16) -> Halves
-    ensures { result ≡ halves_of n }
-{
-    Halves {
-        b: (n / 256) as u8,
-        c: (n % 256) as u8,
+impl From<u16> for Halves {
+    fn from(n: u16) -> Halves
+        ensures { result ≡ halves_of n }
+    {
+        let [b, c] = n.to_be_bytes();
+        Halves { b, c }
     }
 }
 
@@ -186,12 +184,12 @@ fn halved(n: u16) -> Halves
 pub fn forward(n: usize) -> Halves
     ensures { result ≡ halves_of n }
 {
-    halved((n % 65536) as u16)
+    Halves::from((n % 65536) as u16)
 }
 
 // A jump backward over n instructions: 65,536 minus n.
 pub fn backward(n: usize) -> Halves
     ensures { result ≡ halves_of (back n) }
 {
-    halved(std::num::wrapping_sub_u16(0, (n % 65536) as u16))
+    Halves::from(0u16.wrapping_sub((n % 65536) as u16))
 }

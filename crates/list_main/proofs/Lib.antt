@@ -1,3 +1,3 @@
--- What the program needs of a number's digits and of an image in order.
+-- What the program needs of an image in order; of how many digits a number has.
 pub mod Digits
 pub mod Taken

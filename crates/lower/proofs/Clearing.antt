@@ -1,4 +1,5 @@
--- Words and bytes are cleared from a place on, one a turn: after the turns up to i the front is as it was, then there are zeros, then what is left.
+-- A list cleared from a place on, one element a turn: after the turns up to i the front is as it was, then there are zeros, then what is left. The
+-- areas of a call are cleared by the library's `fill`, whose contract says the same of all turns at once.
 use mathlib.Core.Path.{◌≡◌, sym, ap, ◌∙◌}
 use mathlib.Core.List.{List, [], ◌∷◌, ◌++◌, append_assoc}
 use Prim.Native.Nat.{ℕ, suc, ◌+◌, ◌-◌, ◌<◌, ◌≤◌}

@@ -10,7 +10,7 @@ use Rattle.meaning.specs.Check.{checked}
 use Rattle.meaning.specs.At.{extra, file_words, Behind, count_of, stmts_at}
 use Rattle.meaning.specs.Weight.{size_stmts}
 use Rattle.meaning.specs.Read.{read_program}
-use Rattle.meaning.specs.declared.Outcome.TheVariants.{Accepted}
+use Rattle.std.specs.Prelude.{Ok}
 use Rattle.meaning.proofs.Accepted.{accepted}
 use Rattle.meaning.proofs.Weights.{accepted_size}
 use Rattle.meaning.proofs.Unfold.{last_items}
@@ -27,12 +27,12 @@ use Rattle.lower.specs.Open.{Opened}
 use Rattle.cycle.specs.Cycle.{AskRow}
 
 -- the check has noted the offsets of a tree that it has accepted, at the end of the work area
-pub check_offsets : (mode : ℕ) (t w : List ℕ) (n : ℕ) → checked mode t (length w) ≡ Accepted n → (w' : List ℕ) → w' ≡ scratch_after mode t w → length w' ≡ length w → Offsets t w'
+pub check_offsets : (mode : ℕ) (t w : List ℕ) (n : ℕ) → checked mode t (length w) ≡ Ok n → (w' : List ℕ) → w' ≡ scratch_after mode t w → length w' ≡ length w → Offsets t w'
 check_offsets mode t w n e w' el size =
     let a = accepted mode t (length w) n e in
     record { inside = omega (arith, a.room); each = λ i h. accepted_offsets mode t w n e w' el size i (omega (arith, a.nodes)) }
 
-module _ (mode : ℕ) (t : List ℕ) (work n : ℕ) (e : checked mode t work ≡ Accepted n) where
+module _ (mode : ℕ) (t : List ℕ) (work n : ℕ) (e : checked mode t work ≡ Ok n) where
   -- the store is begun beside them, and they stay
   pub opened : {w w' : List ℕ} → length w ≡ work → Offsets t w → Begun w n w' → Opened t n w'
   opened size o b =

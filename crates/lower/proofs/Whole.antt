@@ -17,8 +17,8 @@ use Rattle.meaning.specs.Visits.{visits_stmts, visits_program}
 use Rattle.meaning.proofs.Imaged.{finished_lowered}
 use Rattle.meaning.proofs.VisitsMost.{program_exact}
 use Rattle.meaning.specs.declared.Cause.{Cause}
-use Rattle.meaning.specs.declared.Outcome.{Outcome}
-use Rattle.meaning.specs.declared.Outcome.TheVariants.{Accepted, Refused}
+use Rattle.std.specs.Prelude.{Ok, Err}
+use Rattle.meaning.specs.Outcome.{Outcome, refusal}
 use Rattle.forward.specs.Forward.{config, going, bind, on, fwd_row, end_program}
 use Rattle.forward.proofs.Chains.{program_chain}
 use Rattle.store.specs.declared.Step.{Step}
@@ -48,7 +48,7 @@ unfolding on
 ended_on wide room last (refused c k) = refl
 ended_on wide room last (done i t) = refl
 
-module _ (mode : ℕ) (t : List ℕ) (work n : ℕ) (e : checked mode t work ≡ Accepted n) where
+module _ (mode : ℕ) (t : List ℕ) (work n : ℕ) (e : checked mode t work ≡ Ok n) where
   finished_is : (room : ℕ) → finished mode t work room ≡ lowered (wide_marks (fields t)) room (n - 1) (lower_program mode (n - 1) (read_program (fields t)))
   unfolding finished
   finished_is room = ap (λ x. finished_after mode x t room) e
@@ -85,9 +85,9 @@ module _ (mode : ℕ) (t : List ℕ) (work n : ℕ) (e : checked mode t work ≡
     -- a refused row ends in a refusal
     row_going : {bytes : List ℕ} → finished mode t work (length o) ≡ imaged bytes → (x : Outcome) → outcome_of s1 ≡ x → goes_on x
     unfolding bind
-    row_going f (Accepted k) q = tt
-    row_going f (Refused c k) q =
-        absurd (no_image (sym (ap (ended wide (length o2) (n - 1)) (a2.runs ∙ ap (λ r. bind r (end_program (n - 1))) (run_stopped w' (main_scope mode v n) s1 a1.protos c k q))) ∙ reached ∙ f))
+    row_going f (Ok k) q = tt
+    row_going f (Err why) q =
+        absurd (no_image (sym (ap (ended wide (length o2) (n - 1)) (a2.runs ∙ ap (λ r. bind r (end_program (n - 1))) (run_stopped w' (main_scope mode v n) s1 a1.protos why.cause why.place q))) ∙ reached ∙ f))
 
     -- THE COUNT: what the words hold is the definition's, and does not wrap
     exact : {bytes : List ℕ} → finished mode t work (length o) ≡ imaged bytes → visited w' ≡ visits_program (read_program (fields t))
@@ -111,6 +111,6 @@ module _ (mode : ℕ) (t : List ℕ) (work n : ℕ) (e : checked mode t work ≡
         (z, counted_by (finished mode t work (length o)) r refl z.told)
 
 -- a refusal of the check
-pub not_begun : (mode : ℕ) (t o : List ℕ) (work room : ℕ) (r : Outcome) {c : Cause} {k : ℕ} → r ≡ checked mode t work → r ≡ Refused c k → Ending (finished mode t work room) o r
+pub not_begun : (mode : ℕ) (t o : List ℕ) (work room : ℕ) (r : Outcome) {c : Cause} {k : ℕ} → r ≡ checked mode t work → r ≡ Err (refusal c k) → Ending (finished mode t work room) o r
 unfolding finished
 not_begun mode t o work room r {c} {k} e f = subst (λ x. Ending (finished_after mode x t room) o r) (sym f ∙ e) (record { told = f; fits = rw f (omega arith); front = rw f refl })

@@ -1,5 +1,5 @@
 -- What the lowering starts from.
-use Rattle.std.specs.Prelude.{ℕ, ◌+◌, ◌*◌, ◌≡◌, List, []}
+use Rattle.std.specs.Prelude.{ℕ, ◌≡◌, List, []}
 use Rattle.meaning.specs.Lower.{start}
 use Rattle.nodes.specs.Offsets.{Offsets}
 use Rattle.forward.specs.Forward.{config, going}

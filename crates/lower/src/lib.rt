@@ -1,61 +1,43 @@
 // The public call: a tree is checked, lowered and written as an image; afterwards the work area is zero, and so is the output behind the image.
 #![tactic(auto)]
 
-ghost use Rattle.std.specs.Prelude.{◌≡◌, ◌++◌, ◌-◌, ◌≤◌, length, take, replicate};
+ghost use Rattle.std.specs.Prelude.{◌≡◌, ◌++◌, ◌-◌, ◌≤◌, length, take, replicate, Ok};
 ghost use Rattle.meaning.specs.Fields.{fields};
 ghost use Rattle.meaning.specs.Grammar.{wide_marks};
 ghost use Rattle.meaning.specs.At.{extra};
 ghost use Rattle.meaning.specs.Check.{checked};
-ghost use Rattle.meaning.specs.declared.Outcome.TheVariants.{Accepted};
 ghost use Rattle.meaning.specs.Answer.{finished, reply, output, work_area};
 ghost use Rattle.nodes.specs.Offsets.{Offsets, Readable};
 ghost use Rattle.image.specs.Finish.{Ending};
 ghost use Rattle.lower.specs.Told.{counted, Counted, Countable};
 
-use meaning::{Outcome, Reply};
+use meaning::{Refusal, Reply};
+use store::Scope;
 
-// Every word is zero.
-fn clear_words(work: &mut [u32])
-    ensures { work.new ≡ work_area (length work.old) }
-{
-    let mut i: usize = 0;
-    while i < work.len() {
-        work[i] = 0;
-        i += 1;
-    }
-}
-
-// The bytes from a place on are zero.
-fn clear_bytes(out: &mut [u8], from: usize)
-    requires { from ≤ length out.old }
-    ensures { out.new ≡ take from out.old ++ replicate (length out.old - from) 0 }
-{
-    let mut i = from;
-    while i < out.len() {
-        out[i] = 0;
-        i += 1;
-    }
-}
+// stays: tree, work area and output are lent one by one by C's call, and the crates below take them so.
 
 // 1 where the last node says that marks have four bytes, else 0.
 fn width_of(tree: &[u8], work: &[u32], n: usize) -> usize
     requires { Readable tree.now work.now (n - 1) × (n ≡ length (fields tree.now)) × (1 ≤ n) }
     ensures { result ≡ extra (wide_marks (fields tree.now)) }
 {
-    if nodes::tag_of(tree, work, n - 1) == 0x3E {
-        return 1;
-    }
-    0
+    usize::from(nodes::tag_of(tree, work, n - 1) == 0x3E)
 }
 
 // The main function's statements, its prototype, the constants: of a tree that the check has accepted, and whose offsets it has noted.
-fn lower_checked(tree: &[u8], work: &mut [u32], out: &mut [u8], n: usize, mode: u64) -> Outcome
-    requires { (checked mode tree.now (length work.old) ≡ Accepted n) × Offsets tree.now work.old }
+fn lower_checked(
+    tree: &[u8],
+    work: &mut [u32],
+    out: &mut [u8],
+    n: usize,
+    mode: u64,
+) -> Result<usize, Refusal>
+    requires { (checked mode tree.now (length work.old) ≡ Ok n) × Offsets tree.now work.old }
     ensures { Ending (finished mode tree.now (length work.old) (length out.old)) out.new result × Counted tree.now work.new result }
 {
     let first = store::begin(work, n);
     let wide = width_of(tree, work, n);
-    let main = store::main_scope(mode as usize, wide, n);
+    let main = Scope::main(mode as usize, wide, n);
     let last = n - 1;
     let count = nodes::count_of(tree, work, last, 0);
     let rowed = cycle::row(tree, work, out, first, main, last, 0, count, 0);
@@ -64,23 +46,20 @@ fn lower_checked(tree: &[u8], work: &mut [u32], out: &mut [u8], n: usize, mode: 
 }
 
 // The outcome, with the image at the front of the output, and the visits counted. The words and the bytes behind the image are left as they were used.
-fn lowered(tree: &[u8], work: &mut [u32], out: &mut [u8], mode: u64) -> Outcome
+fn lowered(tree: &[u8], work: &mut [u32], out: &mut [u8], mode: u64) -> Result<usize, Refusal>
     ensures { Ending (finished mode tree.now (length work.old) (length out.old)) out.new result × Counted tree.now work.new result }
 {
     let words = work.len();
-    let judged = tree::check_in(tree, work, words, mode);
-    let Outcome::Accepted(n) = judged else {
-        return judged;
-    };
+    let n = tree::check_in(tree, work, words, mode)?;
     lower_checked(tree, work, out, n, mode)
 }
 
 // The visits that were counted for an outcome: 0 where it is a refusal.
-fn visits_of(work: &[u32], outcome: Outcome) -> u64
+fn visits_of(work: &[u32], outcome: Result<usize, Refusal>) -> u64
     requires { Countable work.now outcome }
     ensures { result ≡ counted work.now outcome }
 {
-    let Outcome::Accepted(_) = outcome else {
+    let Ok(_) = outcome else {
         return 0;
     };
     store::visits(work) as u64
@@ -95,8 +74,9 @@ pub fn lower(tree: &[u8], work: &mut [u32], out: &mut [u8], mode: u64) -> Reply
     let outcome = lowered(tree, work, out, mode);
     let answer = values::answer_of(outcome);
     let visits = visits_of(work, outcome);
-    clear_words(work);
-    clear_bytes(out, answer.length as usize);
+    work.fill(0);
+    out[answer.length as usize..].fill(0);
+    // stays: Reply is a record of the definition (meaning/specs/Answer), and has the numbers of C's answer one by one.
     Reply {
         number: answer.number,
         place: answer.place,

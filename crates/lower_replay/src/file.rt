@@ -1,6 +1,12 @@
 // The file of answers: its numbers, its cases, and the trees that it packs. Places stop at the end of the buffer, and bytes behind it are 0.
 ghost use Rattle.std.specs.Prelude.{◌<◌, ◌≤◌};
 
+// As much of the file is read.
+pub(crate) const FILE_ROOM: usize = 1000000;
+
+// The longest tree.
+pub(crate) const TREE_ROOM: usize = 229372;
+
 // What a case says, and where its tree's parts, its image and the next case start.
 #[derive(Clone, Copy)]
 pub struct Case {
@@ -18,86 +24,64 @@ pub struct Case {
     pub next: usize,
 }
 
-// So many bytes on, or the end.
-fn within(end: usize, at: usize, n: usize) -> usize
-    ensures { result ≤ end }
-{
-    if end < at {
-        return end;
-    }
-    if end - at < n {
-        return end;
-    }
-    at + n
-}
-
-// In the buffer.
+// So many bytes on in the file, or its end.
 pub(crate) fn forth(at: usize, n: usize) -> usize
     ensures { result ≤ 1000000 }
 {
-    within(1000000, at, n)
+    at.saturating_add(n).min(FILE_ROOM)
 }
 
-pub(crate) fn byte(text: &[u8; 1000000], at: usize) -> u8 {
-    if at < 1000000 { text[at] } else { 0 }
-}
-
-pub(crate) fn as_size(x: u8) -> usize
-    ensures { result < 256 }
-{
-    x as usize
+pub(crate) fn byte(text: &[u8], at: usize) -> u8 {
+    text.get(at).copied().unwrap_or(0)
 }
 
 // Two bytes, the high one first.
-pub(crate) fn short(text: &[u8; 1000000], at: usize) -> usize
+pub(crate) fn short(text: &[u8], at: usize) -> usize
     ensures { result < 65536 }
 {
-    as_size(byte(text, at)) * 256 + as_size(byte(text, forth(at, 1)))
+    usize::from(byte(text, at)) * 256 + usize::from(byte(text, forth(at, 1)))
 }
 
 // Four bytes.
-pub(crate) fn long(text: &[u8; 1000000], at: usize) -> usize
+pub(crate) fn long(text: &[u8], at: usize) -> usize
     ensures { result < 4294967296 }
 {
     short(text, at) * 65536 + short(text, forth(at, 2))
 }
 
 // Eight bytes.
-fn whole(text: &[u8; 1000000], at: usize) -> u64 {
+fn whole(text: &[u8], at: usize) -> u64 {
     (long(text, at) as u64) * 4294967296 + long(text, forth(at, 4)) as u64
 }
 
 // Where a part's steps start: after its count, its pattern's length and its pattern.
-fn steps_of(text: &[u8; 1000000], part: usize) -> usize {
+fn steps_of(text: &[u8], part: usize) -> usize {
     forth(forth(part, 6), short(text, forth(part, 4)))
 }
 
 // Where the part ends.
-fn after_part(text: &[u8; 1000000], part: usize) -> usize {
+fn after_part(text: &[u8], part: usize) -> usize {
     let steps = steps_of(text, part);
     forth(forth(steps, 2), 4 * short(text, steps))
 }
 
 // Where the parts of a tree end.
-fn after_parts(text: &[u8; 1000000], at: usize) -> usize {
-    let count = short(text, at);
+fn after_parts(text: &[u8], at: usize) -> usize {
     let mut part = forth(at, 2);
-    let mut k: usize = 0;
-    while k < count {
+    for _ in 0..short(text, at) {
         part = after_part(text, part);
-        k += 1;
     }
     part
 }
 
-pub(crate) fn case_at(text: &[u8; 1000000], at: usize) -> Case {
+pub(crate) fn case_at(text: &[u8], at: usize) -> Case {
     let parts = forth(at, 8);
     let numbers = after_parts(text, parts);
     let shown = long(text, forth(numbers, 28));
     let image = forth(numbers, 32);
     Case {
         mode: whole(text, at),
-        parts: parts,
+        parts,
         tree: long(text, numbers),
         work: long(text, forth(numbers, 4)),
         room: long(text, forth(numbers, 8)),
@@ -105,37 +89,30 @@ pub(crate) fn case_at(text: &[u8; 1000000], at: usize) -> Case {
         place: long(text, forth(numbers, 16)),
         length: long(text, forth(numbers, 20)),
         checksum: long(text, forth(numbers, 24)),
-        shown: shown,
-        image: image,
+        shown,
+        image,
         next: forth(image, shown),
     }
 }
 
 // ---- trees
+// stays: a buffer with a length beside, filled again for each case: a word that grows at its end reads the byte that an earlier case left behind it.
 
 // So many bytes on in a tree, or its end.
-fn onward(at: usize, n: usize) -> usize
-    ensures { result ≤ 229372 }
-{
-    within(229372, at, n)
+fn onward(at: usize, n: usize) -> usize {
+    at.saturating_add(n).min(TREE_ROOM)
 }
 
 fn put(tree: &mut [u8], at: usize, b: u8) {
-    if at < tree.len() {
-        tree[at] = b;
+    if let Some(place) = tree.get_mut(at) {
+        *place = b;
     }
 }
 
-fn get(tree: &[u8], at: usize) -> u8 {
-    if at < tree.len() { tree[at] } else { 0 }
-}
-
 // A pattern's bytes.
-fn copy(text: &[u8; 1000000], from: usize, size: usize, tree: &mut [u8], to: usize) {
-    let mut i: usize = 0;
-    while i < size {
+fn copy(text: &[u8], from: usize, size: usize, tree: &mut [u8], to: usize) {
+    for i in 0..size {
         put(tree, onward(to, i), byte(text, forth(from, i)));
-        i += 1;
     }
 }
 
@@ -147,24 +124,20 @@ fn grown(old: usize, j: usize, by: usize) -> usize
 }
 
 // The growing words of a pattern that was copied, in repetition j.
-fn grow(text: &[u8; 1000000], steps: usize, tree: &mut [u8], from: usize, j: usize) {
-    let count = short(text, steps);
-    let mut i: usize = 0;
-    while i < count {
+fn grow(text: &[u8], steps: usize, tree: &mut [u8], from: usize, j: usize) {
+    for i in 0..short(text, steps) {
         let step = forth(steps, 2 + 4 * i);
         let high = onward(from, short(text, step));
         let low = onward(high, 1);
-        let old = as_size(get(tree, high)) * 256 + as_size(get(tree, low));
+        let old = usize::from(byte(tree, high)) * 256 + usize::from(byte(tree, low));
         let new = grown(old, j, short(text, forth(step, 2)));
         put(tree, high, (new / 256) as u8);
         put(tree, low, (new % 256) as u8);
-        i += 1;
     }
 }
 
 // A part, behind the bytes before it; where it ends. An empty pattern is not repeated.
-fn expand(text: &[u8; 1000000], part: usize, tree: &mut [u8], from: usize) -> usize {
-    let times = long(text, part);
+fn expand(text: &[u8], part: usize, tree: &mut [u8], from: usize) -> usize {
     let size = short(text, forth(part, 4));
     if size == 0 {
         return from;
@@ -172,26 +145,24 @@ fn expand(text: &[u8; 1000000], part: usize, tree: &mut [u8], from: usize) -> us
     let pattern = forth(part, 6);
     let steps = steps_of(text, part);
     let mut end = from;
-    let mut j: usize = 0;
-    while j < times && end < 229372 {
+    for j in 0..long(text, part) {
+        if TREE_ROOM <= end {
+            break;
+        }
         copy(text, pattern, size, tree, end);
         grow(text, steps, tree, end, j);
         end = onward(end, size);
-        j += 1;
     }
     end
 }
 
 // The tree whose parts stand at a place; its length.
-pub(crate) fn build(text: &[u8; 1000000], at: usize, tree: &mut [u8]) -> usize {
-    let count = short(text, at);
+pub(crate) fn build(text: &[u8], at: usize, tree: &mut [u8]) -> usize {
     let mut part = forth(at, 2);
-    let mut end: usize = 0;
-    let mut k: usize = 0;
-    while k < count {
+    let mut end = 0;
+    for _ in 0..short(text, at) {
         end = expand(text, part, tree, end);
         part = after_part(text, part);
-        k += 1;
     }
     end
 }

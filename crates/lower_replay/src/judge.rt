@@ -1,147 +1,131 @@
 // One call, on noise, and what is due of it.
+ghost use Rattle.std.specs.Prelude.{◌<◌};
+
 use crate::file;
 use crate::file::Case;
 use meaning::Reply;
+use std::fmt;
 
-// Noise that another number gives anew.
-fn next(x: u32) -> u32 {
-    let y = ((x as u64) * 1664525 + 1013904223) % 4294967296;
-    y as u32
+// What of a case differs.
+#[derive(Clone, Copy, PartialEq, Eq)]
+pub(crate) enum Difference {
+    Sizes,
+    Number,
+    Place,
+    Length,
+    Image,
+    Checksum,
+    Work,
+    Output,
 }
 
-fn noise_words(work: &mut [u32], seed: u32) {
-    let mut x = seed;
-    let mut i: usize = 0;
-    while i < work.len() {
-        x = next(x);
-        work[i] = x;
-        i += 1;
+impl fmt::Display for Difference {
+    fn fmt<W: fmt::Write>(&self, f: &mut fmt::Formatter<W>) -> fmt::Result {
+        f.write_str(match *self {
+            Difference::Sizes => "the sizes of its tree and buffers",
+            Difference::Number => "the number",
+            Difference::Place => "the place",
+            Difference::Length => "the length",
+            Difference::Image => "the image",
+            Difference::Checksum => "the image's checksum",
+            Difference::Work => "the work area, which is not all zero",
+            Difference::Output => "the output, which is not zero behind the image",
+        })
     }
 }
 
-fn noise_bytes(out: &mut [u8], seed: u32) {
-    let mut x = seed;
-    let mut i: usize = 0;
-    while i < out.len() {
-        x = next(x);
-        out[i] = (x / 16777216) as u8;
-        i += 1;
-    }
-}
+// Numbers that a seed begins.
+#[derive(Drop)]
+struct Noise(u32);
 
-fn all_zero(work: &[u32]) -> bool {
-    let mut i: usize = 0;
-    while i < work.len() {
-        if work[i] != 0 {
-            return false;
-        }
-        i += 1;
-    }
-    true
-}
+impl Iterator for Noise {
+    type Item = u32;
 
-// The bytes from a place on are zero.
-fn zero_behind(out: &[u8], from: usize) -> bool {
-    let mut i = from;
-    while i < out.len() {
-        if out[i] != 0 {
-            return false;
-        }
-        i += 1;
+    fn next(&mut self) -> Option<u32> {
+        self.0 = self.0.wrapping_mul(1664525).wrapping_add(1013904223);
+        Some(self.0)
     }
-    true
 }
 
 // The bytes that the file shows.
-fn same_image(text: &[u8; 1000000], image: usize, shown: usize, out: &[u8]) -> bool {
-    if out.len() < shown {
-        return false;
+fn same_image(text: &[u8], image: usize, shown: usize, out: &[u8]) -> bool {
+    match out.get(..shown) {
+        Some(front) => front
+            .iter()
+            .enumerate()
+            .all(|(i, b)| *b == file::byte(text, file::forth(image, i))),
+        None => false,
     }
-    let mut i: usize = 0;
-    while i < shown {
-        if out[i] != file::byte(text, file::forth(image, i)) {
-            return false;
-        }
-        i += 1;
-    }
-    true
 }
 
 // Adler-32 of the first bytes.
 fn checksum(out: &[u8], count: usize) -> usize {
-    let mut a: usize = 1;
-    let mut b: usize = 0;
-    let mut i: usize = 0;
-    while i < count && i < out.len() {
-        a = (a + file::as_size(out[i])) % 65521;
+    let mut a = 1;
+    let mut b = 0;
+    for x in out.get(..count).unwrap_or(out) {
+        a = (a + usize::from(*x)) % 65521;
         b = (b + a) % 65521;
-        i += 1;
     }
     b * 65536 + a
 }
 
-// What differs: 0 nothing, else its number among `name`'s words.
-fn judge(text: &[u8; 1000000], c: Case, got: Reply, work: &[u32], out: &[u8]) -> u8 {
+fn judge(text: &[u8], c: Case, got: Reply, work: &[u32], out: &[u8]) -> Result<(), Difference> {
     if got.number != c.number as u64 {
-        return 2;
+        return Err(Difference::Number);
     }
     if got.place != c.place as u64 {
-        return 3;
+        return Err(Difference::Place);
     }
     if got.length != c.length as u64 {
-        return 4;
+        return Err(Difference::Length);
     }
     if !same_image(text, c.image, c.shown, out) {
-        return 5;
+        return Err(Difference::Image);
     }
     if checksum(out, c.length) != c.checksum {
-        return 6;
+        return Err(Difference::Checksum);
     }
-    if !all_zero(work) {
-        return 7;
+    if work.iter().any(|x| *x != 0) {
+        return Err(Difference::Work);
     }
-    if !zero_behind(out, c.length) {
-        return 8;
+    if out.iter().skip(c.length).any(|x| *x != 0) {
+        return Err(Difference::Output);
     }
-    0
+    Ok(())
 }
 
 // The call on slices of the sizes that the case says.
-fn call(text: &[u8; 1000000], c: Case, tree: &[u8], work: &mut [u32], out: &mut [u8]) -> u8 {
-    noise_words(work, (c.checksum % 4294967296) as u32);
-    noise_bytes(out, (c.tree % 4294967296) as u32);
+fn call(
+    text: &[u8],
+    c: Case,
+    tree: &[u8],
+    work: &mut [u32],
+    out: &mut [u8],
+) -> Result<(), Difference> {
+    for (word, x) in work.iter_mut().zip(Noise((c.checksum % 4294967296) as u32)) {
+        *word = x;
+    }
+    for (byte, x) in out.iter_mut().zip(Noise((c.tree % 4294967296) as u32)) {
+        *byte = (x / 16777216) as u8;
+    }
     let got = lower::lower(tree, work, out, c.mode);
     judge(text, c, got, work, out)
 }
 
-// The same with buffers that are large enough; 1 where a size is not as the case says.
+// The same with buffers that are large enough.
 pub(crate) fn ask(
-    text: &[u8; 1000000],
+    text: &[u8],
     c: Case,
     tree: &mut [u8],
     work: &mut [u32],
     out: &mut [u8],
-) -> u8 {
+) -> Result<(), Difference> {
     let length = file::build(text, c.parts, tree);
-    let words = c.work;
-    let room = c.room;
     if length != c.tree {
-        return 1;
+        return Err(Difference::Sizes);
     }
-    if tree.len() < length {
-        return 1;
-    }
-    if work.len() < words {
-        return 1;
-    }
-    if out.len() < room {
-        return 1;
-    }
-    call(
-        text,
-        c,
-        &tree[0..length],
-        &mut work[0..words],
-        &mut out[0..room],
-    )
+    let tree = tree.get(..length).ok_or(Difference::Sizes)?;
+    let work = work.get_mut(..c.work).ok_or(Difference::Sizes)?;
+    let out = out.get_mut(..c.room).ok_or(Difference::Sizes)?;
+    call(text, c, tree, work, out)
 }

@@ -5,82 +5,74 @@
 mod file;
 mod judge;
 
-fn main() {
-    let mut text = [0u8; 1000000];
-    let n = io::read_full(0, &mut text);
-    replay(&text, n);
-}
+use judge::Difference;
+use std::alloc::{AllocError, Global};
 
-// One more case that agreed.
-fn tally(agreed: &mut [u64; 22], number: usize) {
-    if number < 22 {
-        agreed[number] = agreed[number] % 4294967296 + 1;
-    }
+// Words of the work area, and bytes of the output.
+const WORK: usize = 536576;
+
+const ROOM: usize = 294998;
+
+fn main(rt: HostRuntime) -> Result<(), AllocError> {
+    let text = programs::read_front(rt.alloc(), rt.reader(), file::FILE_ROOM)?;
+    let lines = replay(rt.alloc(), text.as_slice())?;
+    // What cannot be written is missed.
+    let _ = rt.print(lines);
+    Ok(())
 }
 
 // Where the next case is read; nowhere where the sizes are wrong.
-fn onto(next: usize, kind: u8) -> usize {
-    if kind == 1 { 1000000 } else { next }
+fn onto(next: usize, judged: Result<(), Difference>) -> usize {
+    match judged {
+        Err(Difference::Sizes) => file::FILE_ROOM,
+        _ => next,
+    }
 }
 
-fn replay(text: &[u8; 1000000], end: usize) {
-    let mut work = [0u32; 536576];
-    let mut out = [0u8; 294998];
-    let mut tree = [0u8; 229372];
+fn replay(alloc: Global, text: &[u8]) -> Result<String, AllocError> {
+    let mut work = vec![in alloc; 0u32; WORK]?;
+    let mut out = vec![in alloc; 0u8; ROOM]?;
+    let mut tree = vec![in alloc; 0u8; file::TREE_ROOM]?;
+    let mut lines = String::new(alloc);
     let mut agreed = [0u64; 22];
     let count = file::long(text, 0);
-    let mut at: usize = 16;
-    let mut k: usize = 0;
-    let mut differences: usize = 0;
-    while k < count && at < end {
-        let c = file::case_at(text, at);
-        let kind = judge::ask(text, c, &mut tree, &mut work, &mut out);
-        if kind == 0 {
-            tally(&mut agreed, c.number);
-        } else {
-            name(differences, k, kind);
-            differences += 1;
+    let mut at = 16;
+    let mut cases = 0;
+    let mut differences = 0u64;
+    for k in 0..count {
+        if text.len() <= at {
+            break;
         }
-        at = onto(c.next, kind);
-        k += 1;
+        let c = file::case_at(text, at);
+        let judged = judge::ask(
+            text,
+            c,
+            tree.as_mut_slice(),
+            work.as_mut_slice(),
+            out.as_mut_slice(),
+        );
+        match judged {
+            Ok(()) => {
+                if let Some(n) = agreed.get_mut(c.number) {
+                    *n = n.saturating_add(1);
+                }
+            }
+            Err(difference) => {
+                if differences == 0 {
+                    writeln!(lines, "case {k} differs: {difference}")?;
+                }
+                differences = differences.saturating_add(1);
+            }
+        }
+        at = onto(c.next, judged);
+        cases = k + 1;
     }
-    if k != count || at != end {
-        io::write_all(1, b"the file does not end with its last case\n");
+    if cases != count || at != text.len() {
+        lines.push_str("the file does not end with its last case\n")?;
     }
-    report(&agreed, k, differences);
-}
-
-// The first case that differs.
-fn name(before: usize, k: usize, kind: u8) {
-    if before != 0 {
-        return;
+    for (number, n) in agreed.iter().enumerate() {
+        writeln!(lines, "{number}: {n}")?;
     }
-    io::write_all(1, b"case ");
-    io::print_decimal(1, k as u64);
-    io::write_all(1, b" differs: ");
-    match kind {
-        1 => io::write_all(1, b"the sizes of its tree and buffers\n"),
-        2 => io::write_all(1, b"the number\n"),
-        3 => io::write_all(1, b"the place\n"),
-        4 => io::write_all(1, b"the length\n"),
-        5 => io::write_all(1, b"the image\n"),
-        6 => io::write_all(1, b"the image's checksum\n"),
-        7 => io::write_all(1, b"the work area, which is not all zero\n"),
-        _ => io::write_all(1, b"the output, which is not zero behind the image\n"),
-    };
-}
-
-fn report(agreed: &[u64; 22], count: usize, differences: usize) {
-    let mut number: usize = 0;
-    while number < 22 {
-        io::print_decimal(1, number as u64);
-        io::write_all(1, b": ");
-        io::print_decimal(1, agreed[number]);
-        io::write_all(1, b"\n");
-        number += 1;
-    }
-    io::print_decimal(1, count as u64);
-    io::write_all(1, b" cases, ");
-    io::print_decimal(1, differences as u64);
-    io::write_all(1, b" differences\n");
+    writeln!(lines, "{cases} cases, {differences} differences")?;
+    Ok(lines)
 }

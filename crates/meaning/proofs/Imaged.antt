@@ -18,8 +18,8 @@ use Rattle.meaning.specs.Answer.{cause_number, Finished, imaged, stopped, lowere
 use Rattle.meaning.specs.Safety.{Lowered}
 use Rattle.meaning.specs.declared.Cause.{Cause}
 use Rattle.meaning.specs.declared.Cause.TheVariants.{Frame, Many, Shape, Tree, Depth, Work, Registers, Captures, Undefined, Redefined, Stray, Empty, Returned, Constants, Prototypes, Nesting, Long, Room, ImageFrame, ImageRule, Mode, Prototype, Decision, Order, ListRoom, Retired, Visits}
-use Rattle.meaning.specs.declared.Outcome.{Outcome}
-use Rattle.meaning.specs.declared.Outcome.TheVariants.{Accepted, Refused}
+use Rattle.std.specs.Prelude.{Ok, Err}
+use Rattle.meaning.specs.Outcome.{Outcome}
 
 -- ---- the number
 
@@ -76,14 +76,14 @@ fitted_bytes false last xs bytes e = sym (ap bytes_of e)
 
 -- for each way in which the checks and then the lowering may end
 module _ (mode : ℕ) (tree : List ℕ) (work room : ℕ) (bytes : List ℕ) where
-  after_lowering : (n : ℕ) → checked mode tree work ≡ Accepted n → (r : Res ℕ) → lower_program mode (n - 1) (read_program (fields tree)) ≡ r → lowered (wide_marks (fields tree)) room (n - 1) r ≡ imaged bytes → Lowered mode tree work bytes
+  after_lowering : (n : ℕ) → checked mode tree work ≡ Ok n → (r : Res ℕ) → lower_program mode (n - 1) (read_program (fields tree)) ≡ r → lowered (wide_marks (fields tree)) room (n - 1) r ≡ imaged bytes → Lowered mode tree work bytes
   after_lowering n a (refused c place) l e = absurd (stopped_not e)
   after_lowering n a (done i t) l e =
       record { nodes = n; accepted = a; main = i; state = t; lowering = l; image_of = fitted_bytes (ltb room (length (image (wide_marks (fields tree)) t))) (n - 1) (image (wide_marks (fields tree)) t) bytes e }
 
   after_checks : (o : Outcome) → checked mode tree work ≡ o → finished_after mode o tree room ≡ imaged bytes → Lowered mode tree work bytes
-  after_checks (Refused c place) a e = absurd (stopped_not e)
-  after_checks (Accepted n) a e = after_lowering n a (lower_program mode (n - 1) (read_program (fields tree))) refl e
+  after_checks (Err why) a e = absurd (stopped_not e)
+  after_checks (Ok n) a e = after_lowering n a (lower_program mode (n - 1) (read_program (fields tree))) refl e
 
   pub finished_lowered : finished mode tree work room ≡ imaged bytes → Lowered mode tree work bytes
   unfolding finished

@@ -16,12 +16,12 @@ use Rattle.meaning.specs.Check.{framed, unless, checked_work, current, current_a
 use Rattle.meaning.specs.Answer.{Finished, finished_after, finished}
 use Rattle.meaning.specs.declared.Cause.{Cause}
 use Rattle.meaning.specs.declared.Cause.TheVariants.{Frame, Many, Shape, Tree, Depth, Mode, Retired}
-use Rattle.meaning.specs.declared.Outcome.{Outcome}
-use Rattle.meaning.specs.declared.Outcome.TheVariants.{Refused}
+use Rattle.std.specs.Prelude.{Err}
+use Rattle.meaning.specs.Outcome.{Outcome, refusal}
 use Rattle.meaning.proofs.Lists.{lowest_none}
 
 module _ (cause : Cause) (p : ℕ → Bool) (n k : ℕ) (other : Outcome) (e : k ≡ lowest p n) where
-  pub unless_yes : k < n → Refused cause k ≡ unless cause p n other
+  pub unless_yes : k < n → Err (refusal cause k) ≡ unless cause p n other
   unfolding unless
   unless_yes h = simp (← e, lt-ltb k n h)
 
@@ -31,7 +31,7 @@ module _ (cause : Cause) (p : ℕ → Bool) (n k : ℕ) (other : Outcome) (e : k
 
 -- 21, and no 21
 module _ (mode : ℕ) (tree : List ℕ) (work : ℕ) where
-  pub no_mode : 1 < mode → Refused Mode 0 ≡ checked mode tree work
+  pub no_mode : 1 < mode → Err (refusal Mode 0) ≡ checked mode tree work
   unfolding checked
   no_mode h = rw (lt-leb mode 1 h) refl
 
@@ -51,8 +51,8 @@ fields_01 fs work =
 abbrev pub checked_01 : (tree : List ℕ) (work : ℕ) → Outcome
 checked_01 tree work =
     cond (framed tree)
-    (cond (ltb 32768 (length (fields tree))) (Refused Many 32768) (fields_01 (fields tree) work))
-    (Refused Frame (length (fields tree)))
+    (cond (ltb 32768 (length (fields tree))) (Err (refusal Many 32768)) (fields_01 (fields tree) work))
+    (Err (refusal Frame (length (fields tree))))
 
 -- where no node is retired
 none_retired : (mode : ℕ) (fs : List Field) (work : ℕ) → ((i : ℕ) → i < length fs → current_at mode fs i ≡ true) → checked_fields mode fs work ≡ fields_01 fs work

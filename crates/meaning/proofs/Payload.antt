@@ -41,8 +41,8 @@ groups_more (a ∷ []) n = omega arith
 groups_more (a ∷ b ∷ ks) n = omega arith
 
 -- lawful at a kind
-abbrev pub Ok : (ok : ℕ → ℕ → Bool) (kind w : ℕ) → Type 0
-Ok ok kind w = ok kind w ≡ true
+abbrev pub Allowed : (ok : ℕ → ℕ → Bool) (kind w : ℕ) → Type 0
+Allowed ok kind w = ok kind w ≡ true
 
 -- ---- what the words are
 
@@ -50,14 +50,14 @@ module _ (ok : ℕ → ℕ → Bool) where
   -- a row of groups of the kinds ks, of whose first group only `now` is left
   abbrev pub Row : (ks now : List ℕ) → List ℕ → Type 0
   Row ks [] [] = Unit {0}
-  Row ks [] (w ∷ ws) = Ok ok (get_or ks 0 none) w × Row ks (drop 1 ks) ws
+  Row ks [] (w ∷ ws) = Allowed ok (get_or ks 0 none) w × Row ks (drop 1 ks) ws
   Row ks (k ∷ now) [] = ⊥
-  Row ks (k ∷ now) (w ∷ ws) = Ok ok k w × Row ks now ws
+  Row ks (k ∷ now) (w ∷ ws) = Allowed ok k w × Row ks now ws
 
   abbrev pub Due : (ws : List ℕ) → List Item → (k : ℕ) → Type 0
   Due ws [] k = length ws ≡ k
-  Due ws (one kind ∷ is) k = Ok ok kind (at ws k) × Due ws is (k + 1)
-  Due ws (perhaps kind ∷ is) k = (length ws ≡ k) ⊎ (Ok ok kind (at ws k) × Due ws is (k + 1))
+  Due ws (one kind ∷ is) k = Allowed ok kind (at ws k) × Due ws is (k + 1)
+  Due ws (perhaps kind ∷ is) k = (length ws ≡ k) ⊎ (Allowed ok kind (at ws k) × Due ws is (k + 1))
   Due ws (many ks ∷ is) k = (k ≤ length ws) × Row ks [] (drop k ws)
   Due ws (counted ks ∷ is) k =
       (k + 1 + groups ks (at ws k) ≤ length ws) × Row ks [] (take (groups ks (at ws k)) (drop (k + 1) ws)) × Due ws is (k + 1 + groups ks (at ws k))
@@ -80,7 +80,7 @@ module _ (g : ℕ → ℕ) where
 
 -- ---- the law
 
-module _ (ok : ℕ → ℕ → Bool) (nothing : (w : ℕ) → Ok ok none w → ⊥) (g : ℕ → ℕ) where
+module _ (ok : ℕ → ℕ → Bool) (nothing : (w : ℕ) → Allowed ok none w → ⊥) (g : ℕ → ℕ) where
   -- the first m words are a row, and the rest fits
   record Front (ks : List ℕ) (is : List Item) (now : List ℕ) (m : ℕ) (js : List Item) (ws : List ℕ) : Type 0 where
     within : m ≤ length ws
@@ -121,7 +121,7 @@ module _ (ok : ℕ → ℕ → Bool) (nothing : (w : ℕ) → Ok ok none w → �
   module _ (ws : List ℕ) where
     -- the word at k, taken off
     record Next (is : List Item) (k : ℕ) : Type 0 where
-      here : Ok ok (kind_of is) (at ws k)
+      here : Allowed ok (kind_of is) (at ws k)
       after : fit ok (due_after is (at ws k)) (drop (k + 1) ws) ≡ true
       sum : sum_in g is (drop k ws) ≡ weigh g (kind_of is) (at ws k) + sum_in g (due_after is (at ws k)) (drop (k + 1) ws)
 
@@ -185,7 +185,7 @@ items_tidy tag l = all_below (λ t. tidy (items_of t)) 63 tag tags_tidy l
 
 module _ (fs : List Field) (i : ℕ) (shape : shape_at fs i ≡ true) where
   -- the words as they are due, by what is lawful there
-  module _ (ok : ℕ → ℕ → Bool) (nothing : (w : ℕ) → Ok ok none w → ⊥) (makes : Makes (wide_marks fs) (lawful (tags_of fs) i) ok) where
+  module _ (ok : ℕ → ℕ → Bool) (nothing : (w : ℕ) → Allowed ok none w → ⊥) (makes : Makes (wide_marks fs) (lawful (tags_of fs) i) ok) where
     words_fit : fit ok (items_of (tag_of fs i)) (words_at fs i) ≡ true
     unfolding words_of items_in
     words_fit = due_fits (wide_marks fs) (lawful (tags_of fs) i) ok makes (items_of (tag_of fs i)) (field_at fs i).payload (items_tidy _ (shape_tag fs i shape)) (shape_fits fs i shape)

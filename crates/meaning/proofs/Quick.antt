@@ -17,8 +17,8 @@ use Rattle.meaning.specs.Tree.{kids_of, all_kids, tree_at, parent_by, parent_of,
 use Rattle.meaning.specs.Check.{framed, unless, checked_work, current, current_at, checked_fields, checked_tree, checked}
 use Rattle.meaning.specs.declared.Cause.{Cause}
 use Rattle.meaning.specs.declared.Cause.TheVariants.{Frame, Many, Shape, Tree, Depth, Mode, Retired}
-use Rattle.meaning.specs.declared.Outcome.{Outcome}
-use Rattle.meaning.specs.declared.Outcome.TheVariants.{Refused}
+use Rattle.std.specs.Prelude.{Err}
+use Rattle.meaning.specs.Outcome.{Outcome, refusal}
 use Rattle.meaning.proofs.Computing.{computing}
 
 -- the lowest node that has c as a child, by the children's lists
@@ -56,7 +56,7 @@ same_look f n i = same_look_by f n i (ltb i n) refl
 
 -- the lowest number is found once
 abbrev unless_at : Cause → ℕ → (n : ℕ) → Outcome → Outcome
-unless_at cause place n other = cond (ltb place n) (Refused cause place) other
+unless_at cause place n other = cond (ltb place n) (Err (refusal cause place)) other
 
 unfoldable pub quick_fields : (mode : ℕ) → List Field → (n work : ℕ) → Outcome
 quick_fields mode fs n work =
@@ -76,9 +76,9 @@ quick_checked mode tree work =
     let fs = fields tree in
     let n = length fs in
     let whole = quick_fields mode fs n work in
-    let few = cond (ltb 32768 n) (Refused Many 32768) whole in
-    let framed = cond (ltb 0 n && eqb (length (left tree)) 0) few (Refused Frame n) in
-    cond (leb mode 1) framed (Refused Mode 0)
+    let few = cond (ltb 32768 n) (Err (refusal Many 32768)) whole in
+    let framed = cond (ltb 0 n && eqb (length (left tree)) 0) few (Err (refusal Frame n)) in
+    cond (leb mode 1) framed (Err (refusal Mode 0))
 
 same_fields : (mode : ℕ) (fs : List Field) (work : ℕ) → checked_fields mode fs work ≡ quick_fields mode fs (length fs) work
 unfolding checked_fields quick_fields unless current_at shape_at tree_at depth_at depth_of parent_of
@@ -97,8 +97,8 @@ quick mode tree work =
     ap
     (λ (o : Outcome).
     cond (leb mode 1)
-    (cond (ltb 0 (length (fields tree)) && eqb (length (left tree)) 0) (cond (ltb 32768 (length (fields tree))) (Refused Many 32768) o) (Refused Frame (length (fields tree))))
-    (Refused Mode 0))
+    (cond (ltb 0 (length (fields tree)) && eqb (length (left tree)) 0) (cond (ltb 32768 (length (fields tree))) (Err (refusal Many 32768)) o) (Err (refusal Frame (length (fields tree)))))
+    (Err (refusal Mode 0)))
     (same_fields mode (fields tree) work)
 
 -- what has to unfold for it to be computed

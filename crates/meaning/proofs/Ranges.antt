@@ -15,7 +15,7 @@ use Rattle.meaning.specs.State.{State, done}
 use Rattle.meaning.specs.Lower.{lower_program}
 use Rattle.meaning.specs.Images.{inst_tag}
 use Rattle.meaning.specs.Safety.{Lowered}
-use Rattle.meaning.specs.declared.Outcome.TheVariants.{Accepted}
+use Rattle.std.specs.Prelude.{Ok}
 use Rattle.meaning.proofs.Payload.{none_lawful, due_by}
 use Rattle.meaning.proofs.Spread.{Makes}
 use Rattle.meaning.proofs.Unfold.{last_items}
@@ -56,7 +56,7 @@ abbrev pub Marked : (tree : List ℕ) → ℕ → Type 0
 Marked tree = MarkIn (inst_tag (wide_marks (fields tree)))
 
 -- the syntax tree of an accepted tree
-pub accepted_fits : (mode : ℕ) (tree : List ℕ) (work n : ℕ) → checked mode tree work ≡ Accepted n → StmtsFit (Marked tree) (read_program (fields tree))
+pub accepted_fits : (mode : ℕ) (tree : List ℕ) (work n : ℕ) → checked mode tree work ≡ Ok n → StmtsFit (Marked tree) (read_program (fields tree))
 accepted_fits mode tree work n e =
     let a = accepted mode tree work n e in
     let fs = fields tree in
@@ -64,7 +64,7 @@ accepted_fits mode tree work n e =
     (λ i l. due_by fs i (a.shapes i l) (in_words fs i) (λ w h. none_lawful (tags_of fs) i w h) (made fs i)) a.some (last_items fs a.shapes a.some)
 
 -- of a lowering that is done
-pub lowering_ranged : (mode : ℕ) (tree : List ℕ) (work n main : ℕ) (s : State) → checked mode tree work ≡ Accepted n → lower_program mode (n - 1) (read_program (fields tree)) ≡ done main s
+pub lowering_ranged : (mode : ℕ) (tree : List ℕ) (work n main : ℕ) (s : State) → checked mode tree work ≡ Ok n → lower_program mode (n - 1) (read_program (fields tree)) ≡ done main s
     → Ranged (Marked tree) s
 lowering_ranged mode tree work n main s e l = program_ranged (Marked tree) (none_in (wide_marks (fields tree))) mode (n - 1) (read_program (fields tree)) (accepted_fits mode tree work n e) main s l
 

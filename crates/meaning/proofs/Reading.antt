@@ -18,7 +18,7 @@ use Rattle.meaning.specs.Syntax.{literal, variable, unary, binary, logical, call
 use Rattle.meaning.specs.Read.{at, bits, token, read_expr, read_stmt, read_program, words_at}
 use Rattle.meaning.specs.At.{tag_of, word_of, count_of, readers_at, expr_at, stmt_at, fun_at, elif_at, exprs_at, stmts_at, funs_at, elifs_at, tokens_at, init_at, super_at, ExprBelow, StmtBelow, TagBelow}
 use Rattle.meaning.proofs.Lists.{lt_or_le}
-use Rattle.meaning.proofs.Payload.{Ok, Row, Due, due_at}
+use Rattle.meaning.proofs.Payload.{Allowed, Row, Due, due_at}
 use Rattle.meaning.proofs.Unfold.{expr_unfolds, stmt_unfolds, fun_unfolds, elif_unfolds, program_unfolds, last_items, is_name, is_op, is_op12, is_expr, is_stmt, is_elif, is_method, is_super, is_init}
 use Rattle.meaning.proofs.Rows.{part_slice, rest_slice, in_row, in_pairs, pairs_even}
 
@@ -206,10 +206,10 @@ module _ (fs : List Field) (good : (j : ℕ) → j < length fs → shape_at fs j
     S t e a b = rw e at (stmt_unfolds fs good i l (omega (arith, e)) (omega (arith, e)))
 
     -- a row to the end, and one of n words from k on
-    to_end : (k kind : ℕ) → Row (lawful (tags_of fs) i) (kind ∷ []) [] (drop k (words_at fs i)) → (j : ℕ) → k ≤ j → j < count_of fs i → Ok (lawful (tags_of fs) i) kind (word_of fs i j)
+    to_end : (k kind : ℕ) → Row (lawful (tags_of fs) i) (kind ∷ []) [] (drop k (words_at fs i)) → (j : ℕ) → k ≤ j → j < count_of fs i → Allowed (lawful (tags_of fs) i) kind (word_of fs i j)
     to_end k kind d = in_row (lawful (tags_of fs) i) kind (words_at fs i) k (count_of fs i) (omega arith) (rw (rest_slice (words_at fs i) k) at d)
 
-    of_words : (k n kind : ℕ) → k + n ≤ count_of fs i → Row (lawful (tags_of fs) i) (kind ∷ []) [] (take n (drop k (words_at fs i))) → (j : ℕ) → k ≤ j → j < k + n → Ok (lawful (tags_of fs) i) kind (word_of fs i j)
+    of_words : (k n kind : ℕ) → k + n ≤ count_of fs i → Row (lawful (tags_of fs) i) (kind ∷ []) [] (take n (drop k (words_at fs i))) → (j : ℕ) → k ≤ j → j < k + n → Allowed (lawful (tags_of fs) i) kind (word_of fs i j)
     of_words k n kind h d = in_row (lawful (tags_of fs) i) kind (words_at fs i) k (k + n) h (rw (part_slice (words_at fs i) k n) at d)
 
     -- the names of k pairs

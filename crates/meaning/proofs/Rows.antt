@@ -16,7 +16,7 @@ use Rattle.meaning.specs.Syntax.{and_expr, no_expr, and_stmt, no_stmt, and_fun, 
 use Rattle.meaning.specs.Read.{at, token, tokens, exprs, readers, words_at}
 use Rattle.meaning.specs.Lower.{arguments}
 use Rattle.meaning.specs.At.{readers_at, word_of, count_of, expr_at, stmt_at, fun_at, elif_at, variable_at, exprs_at, stmts_at, funs_at, elifs_at, tokens_at, init_at, super_at}
-use Rattle.meaning.proofs.Payload.{Ok, Row}
+use Rattle.meaning.proofs.Payload.{Allowed, Row}
 
 -- ---- parts of a list
 
@@ -40,12 +40,12 @@ slice_at ws from to k a b =
 -- ---- each word of a lawful row
 
 module _ (ok : ℕ → ℕ → Bool) where
-  row_at : (kind : ℕ) (cs : List ℕ) → Row ok (kind ∷ []) [] cs → (j : ℕ) → j < length cs → Ok ok kind (at cs j)
+  row_at : (kind : ℕ) (cs : List ℕ) → Row ok (kind ∷ []) [] cs → (j : ℕ) → j < length cs → Allowed ok kind (at cs j)
   row_at kind [] d j h = absurd (omega arith)
   row_at kind (c ∷ cs) d zero h = d.0
   row_at kind (c ∷ cs) d (suc j) h = row_at kind cs d.1 j (omega arith)
 
-  pub in_row : (kind : ℕ) (ws : List ℕ) (from to : ℕ) → to ≤ length ws → Row ok (kind ∷ []) [] (slice from to ws) → (k : ℕ) → from ≤ k → k < to → Ok ok kind (at ws k)
+  pub in_row : (kind : ℕ) (ws : List ℕ) (from to : ℕ) → to ≤ length ws → Row ok (kind ∷ []) [] (slice from to ws) → (k : ℕ) → from ≤ k → k < to → Allowed ok kind (at ws k)
   in_row kind ws from to l d k a b =
       rw (slice_at ws from to k a b) at (row_at kind (slice from to ws) d (k - from) (omega (arith, length-slice from to ws l)))
 
@@ -55,7 +55,7 @@ module _ (ok : ℕ → ℕ → Bool) where
   pairs_even a b (x ∷ []) d = absurd d.1
   pairs_even a b (x ∷ y ∷ cs) d = let r = pairs_even a b cs d.1.1 in omega arith
 
-  pair_at : (a b : ℕ) (cs : List ℕ) → Row ok (a ∷ b ∷ []) [] cs → (j : ℕ) → 2 * j < length cs → Ok ok a (at cs (2 * j))
+  pair_at : (a b : ℕ) (cs : List ℕ) → Row ok (a ∷ b ∷ []) [] cs → (j : ℕ) → 2 * j < length cs → Allowed ok a (at cs (2 * j))
   pair_at a b [] d j h = absurd (omega arith)
   pair_at a b (x ∷ []) d j h = absurd d.1
   pair_at a b (x ∷ y ∷ cs) d zero h = d.0
@@ -63,7 +63,7 @@ module _ (ok : ℕ → ℕ → Bool) where
       let n : 2 * suc j ≡ suc (suc (2 * j)) = omega arith in
       rw n (pair_at a b cs d.1.1 j (omega arith))
 
-  pub in_pairs : (a b : ℕ) (ws : List ℕ) (from to : ℕ) → to ≤ length ws → Row ok (a ∷ b ∷ []) [] (slice from to ws) → (j : ℕ) → from + 2 * j < to → Ok ok a (at ws (from + 2 * j))
+  pub in_pairs : (a b : ℕ) (ws : List ℕ) (from to : ℕ) → to ≤ length ws → Row ok (a ∷ b ∷ []) [] (slice from to ws) → (j : ℕ) → from + 2 * j < to → Allowed ok a (at ws (from + 2 * j))
   in_pairs a b ws from to l d j h =
       let n : from + 2 * j - from ≡ 2 * j = omega arith in
       rw (← slice_at ws from to (from + 2 * j) (omega arith) h, n) (pair_at a b (slice from to ws) d j (omega (arith, length-slice from to ws l)))

@@ -9,7 +9,7 @@ use lib.Dec.{eqb}
 use Rattle.meaning.specs.Fields.{fields}
 use Rattle.meaning.specs.Check.{checked}
 use Rattle.meaning.specs.Read.{read_program}
-use Rattle.meaning.specs.declared.Outcome.TheVariants.{Accepted}
+use Rattle.std.specs.Prelude.{Ok}
 use Rattle.meaning.specs.Opcode.{plus, minus}
 use Rattle.meaning.specs.Syntax.{Expr, literal, variable, unary, binary, logical, call, function, Exprs, no_expr, and_expr, Stmt, expression, let_only, let_as, block, while, classic_for, for_in, break, continue, return_none, return, if, try, define, class, Stmts, no_stmt, and_stmt, Elifs, no_elif, and_elif, Fun, fun, Funs, no_fun, and_fun, Super, no_super, super, small_if}
 use Rattle.meaning.specs.Weight.{each_one, weight_super, weight_expr, weight_exprs, weight_stmt, weight_stmts, weight_elifs, weight_fun, weight_funs}
@@ -129,5 +129,5 @@ mutual
   funs_few (and_fun f fs) d = omega (arith, fun_few f (omega (arith, d)), funs_few fs (omega (arith, d)))
 
 -- THE BOUND BY NODES: of a tree whose checks 1 to 6 are passed
-pub visits_few : (mode : ℕ) (tree : List ℕ) (work n : ℕ) → checked mode tree work ≡ Accepted n → drops_stmts (read_program (fields tree)) ≡ 0 → visits_program (read_program (fields tree)) ≤ n
+pub visits_few : (mode : ℕ) (tree : List ℕ) (work n : ℕ) → checked mode tree work ≡ Ok n → drops_stmts (read_program (fields tree)) ≡ 0 → visits_program (read_program (fields tree)) ≤ n
 visits_few mode tree work n e d = omega (arith, accepted_size mode tree work n e, stmts_few (read_program (fields tree)) d)

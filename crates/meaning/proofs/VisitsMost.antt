@@ -16,7 +16,7 @@ use Rattle.meaning.specs.Lower.{lower_stmts, lower_program, start}
 use Rattle.meaning.specs.Weight.{size_stmts}
 use Rattle.meaning.specs.Visits.{visits_stmts, visits_program}
 use Rattle.meaning.specs.Answer.{Finished, imaged, finished}
-use Rattle.meaning.specs.declared.Outcome.TheVariants.{Accepted}
+use Rattle.std.specs.Prelude.{Ok}
 use Rattle.meaning.proofs.Accepted.{accepted}
 use Rattle.meaning.proofs.Weights.{accepted_size}
 use Rattle.meaning.proofs.Keeps.{Along}
@@ -48,7 +48,7 @@ visits_most mode tree work room bytes e =
     subst (λ k. visits_program (read_program (fields tree)) ≤ k * 1025) z (program_most mode (l.nodes - 1) _ l.main l.state l.lowering)
 
 -- the same of a lowering: 32,768 nodes at most
-pub program_exact : (mode : ℕ) (tree : List ℕ) (work n i : ℕ) (t : State) → checked mode tree work ≡ Accepted n → lower_program mode (n - 1) (read_program (fields tree)) ≡ done i t → visits_program (read_program (fields tree)) < 4294967296
+pub program_exact : (mode : ℕ) (tree : List ℕ) (work n i : ℕ) (t : State) → checked mode tree work ≡ Ok n → lower_program mode (n - 1) (read_program (fields tree)) ≡ done i t → visits_program (read_program (fields tree)) < 4294967296
 program_exact mode tree work n i t a e =
     let s = accepted_size mode tree work n a in
     let h = accepted mode tree work n a in

@@ -21,13 +21,13 @@ use Rattle.meaning.specs.Grammar.{super as superkind}
 use Rattle.meaning.specs.Grammar.{Item, never, name, mark, expr, stmt, elif, method, init, absent, names, lawful, grammar, items_of, wide_marks, tags_of, shape_at}
 use Rattle.meaning.specs.Tree.{all_kids}
 use Rattle.meaning.specs.Check.{checked}
-use Rattle.meaning.specs.declared.Outcome.TheVariants.{Accepted}
+use Rattle.std.specs.Prelude.{Ok}
 use Rattle.meaning.specs.Syntax.{Stmt, Elifs, let_only, let_as, return_none, return, no_stmt, and_stmt, no_super}
 use Rattle.meaning.specs.Read.{Readers, Reader, at, token, exprs, stmts, funs, elifs, initializer, superclass, words_at, expr_readers, stmt_readers, read_fun, read_if, read_program, no_expression, no_statement}
 use Rattle.meaning.specs.At.{tag_of, readers_at, expr_at, stmt_at, fun_at, variable_at, elif_at}
 use Rattle.meaning.specs.Weight.{weight_expr, weight_exprs, weight_stmt, weight_stmts, weight_elifs, weight_fun, weight_funs, weight_super, size_stmts}
 use Rattle.meaning.proofs.Lists.{sum_of, sum_to, sum_to_ones}
-use Rattle.meaning.proofs.Payload.{none_lawful, Ok, Row, Due, weigh_row, Sum, due_at, sum_at}
+use Rattle.meaning.proofs.Payload.{none_lawful, Allowed, Row, Due, weigh_row, Sum, due_at, sum_at}
 use Rattle.meaning.proofs.Spread.{weigh}
 use Rattle.meaning.proofs.Unfold.{◌&◌, Each, each_at, is_expr, is_stmt, is_init, is_method, is_super, is_elif, expr_unfolds, stmt_unfolds, fun_unfolds, elif_unfolds, variable_unfolds, last_items, program_unfolds}
 use Rattle.meaning.proofs.Accepted.{accepted}
@@ -91,7 +91,7 @@ module _ (own : ℕ → ℕ) where
 
     -- a let, and a return: x without the expression at word k, y with it
     perhaps_weight : (ws : List ℕ) (k tag : ℕ) (x y : Stmt) → weight_stmt own x ≡ own tag → weight_stmt own y ≡ own tag + weight_expr own (r.expr (at ws k))
-        → (length ws ≡ k) ⊎ (Ok (lawful ts i) expr (at ws k) × (length ws ≡ k + 1))
+        → (length ws ≡ k) ⊎ (Allowed (lawful ts i) expr (at ws k) × (length ws ≡ k + 1))
         → weight_stmt own (cond (eqb (length ws) k) x y) ≡ own tag + cond (ltb k (length ws)) (weigh g expr (at ws k) + 0) 0
     unfolding names sum_of
     perhaps_weight ws k tag x y a b d =
@@ -240,5 +240,5 @@ pub program_size : (fs : List Field) (good : (j : ℕ) → j < length fs → sha
 program_size fs good some once = program_weight (λ t. 1) fs good some once ∙ sum_to_ones (length fs)
 
 -- the same of an accepted file
-pub accepted_size : (mode : ℕ) (s : List ℕ) (work n : ℕ) → checked mode s work ≡ Accepted n → 1 + size_stmts (read_program (fields s)) ≡ n
+pub accepted_size : (mode : ℕ) (s : List ℕ) (work n : ℕ) → checked mode s work ≡ Ok n → 1 + size_stmts (read_program (fields s)) ≡ n
 accepted_size mode s work n e = let h = accepted mode s work n e in program_size (fields s) h.shapes h.some h.once ∙ sym h.nodes

@@ -1,5 +1,5 @@
 -- 01, "Outcome": what a call answers, and what it leaves in the output and the work area.
-use Rattle.std.specs.Prelude.{ℕ, ◌-◌, Bool, cond, List, ◌++◌, length, replicate, ltb}
+use Rattle.std.specs.Prelude.{ℕ, ◌-◌, Bool, cond, List, ◌++◌, length, replicate, ltb, Ok, Err}
 use Rattle.meaning.specs.Fields.{fields}
 use Rattle.meaning.specs.Grammar.{wide_marks}
 use Rattle.meaning.specs.Check.{checked}
@@ -12,8 +12,7 @@ use Rattle.meaning.specs.declared.Answer.{Answer}
 use Rattle.meaning.specs.declared.Reply.{Reply}
 use Rattle.meaning.specs.declared.Cause.{Cause}
 use Rattle.meaning.specs.declared.Cause.TheVariants.{Frame, Many, Shape, Tree, Depth, Work, Registers, Captures, Undefined, Redefined, Stray, Empty, Returned, Constants, Prototypes, Nesting, Long, Room, ImageFrame, ImageRule, Mode, Prototype, Decision, Order, ListRoom, Retired, Visits}
-use Rattle.meaning.specs.declared.Outcome.{Outcome}
-use Rattle.meaning.specs.declared.Outcome.TheVariants.{Accepted, Refused}
+use Rattle.meaning.specs.Outcome.{Outcome, refusal}
 
 -- the numbers of the table of causes
 abbrev pub cause_number : Cause → ℕ
@@ -61,8 +60,8 @@ lowered wide room last (done index s) = fitted room last (image wide s)
 
 -- after the check
 abbrev pub finished_after : (mode : ℕ) → Outcome → (tree : List ℕ) (room : ℕ) → Finished
-finished_after mode (Refused c place) tree room = stopped c place
-finished_after mode (Accepted n) tree room = lowered (wide_marks (fields tree)) room (n - 1) (lower_program mode (n - 1) (read_program (fields tree)))
+finished_after mode (Err why) tree room = stopped why.cause why.place
+finished_after mode (Ok n) tree room = lowered (wide_marks (fields tree)) room (n - 1) (lower_program mode (n - 1) (read_program (fields tree)))
 
 -- the mode, the tree's bytes, the work area's length in words, the output's length in bytes
 unfoldable pub finished : (mode : ℕ) (tree : List ℕ) (work room : ℕ) → Finished
@@ -70,13 +69,13 @@ finished mode tree work room = finished_after mode (checked mode tree work) tree
 
 -- "the outcome is either an image length or a cause with its node"
 abbrev pub outcome : Finished → Outcome
-outcome (imaged bytes) = Accepted (length bytes)
-outcome (stopped c place) = Refused c place
+outcome (imaged bytes) = Ok (length bytes)
+outcome (stopped c place) = Err (refusal c place)
 
 -- "The answer holds number, place and length": accepted is 0 with place 0, a refusal has length 0
 abbrev pub answer : Outcome → Answer
-answer (Accepted n) = record { number = 0; place = 0; length = n }
-answer (Refused c place) = record { number = cause_number c; place = place; length = 0 }
+answer (Ok n) = record { number = 0; place = 0; length = n }
+answer (Err why) = record { number = cause_number why.cause; place = why.place; length = 0 }
 
 -- 02, E6, "Report the count beside the length": what a lowering answers; "a refusal has .. 0 for every number that later answers add"
 abbrev pub reply : (tree : List ℕ) → Finished → Reply

@@ -1,13 +1,12 @@
 -- 01, "Outcome", and 02: refusals 21, 1 to 3, 27, 4 to 6, checked over the whole input in that order.
-use Rattle.std.specs.Prelude.{ℕ, ◌+◌, ◌-◌, ◌*◌, Bool, not, ◌&&◌, cond, List, length, leb, ltb, eqb}
+use Rattle.std.specs.Prelude.{ℕ, ◌+◌, ◌-◌, ◌*◌, Bool, not, ◌&&◌, cond, List, length, leb, ltb, eqb, Ok, Err}
 use Rattle.meaning.specs.Base.{lowest}
 use Rattle.meaning.specs.Fields.{Field, field_at, fields, left}
 use Rattle.meaning.specs.Grammar.{shape_at}
 use Rattle.meaning.specs.Tree.{tree_at, depth_at}
 use Rattle.meaning.specs.declared.Cause.{Cause}
 use Rattle.meaning.specs.declared.Cause.TheVariants.{Frame, Many, Shape, Tree, Depth, Work, Mode, Retired}
-use Rattle.meaning.specs.declared.Outcome.{Outcome}
-use Rattle.meaning.specs.declared.Outcome.TheVariants.{Accepted, Refused}
+use Rattle.meaning.specs.Outcome.{Outcome, refusal}
 
 -- there is a field, and nothing stands after the last whole one
 unfoldable pub framed : List ℕ → Bool
@@ -15,7 +14,7 @@ framed s = ltb 0 (length (fields s)) && eqb (length (left s)) 0
 
 -- refused where a number below n fails the test, at the lowest such number; else what is answered otherwise
 unfoldable pub unless : Cause → (ℕ → Bool) → (n : ℕ) → Outcome → Outcome
-unless cause p n other = cond (ltb (lowest p n) n) (Refused cause (lowest p n)) other
+unless cause p n other = cond (ltb (lowest p n) n) (Err (refusal cause (lowest p n))) other
 
 -- the words of a work area that n nodes ask
 unfoldable pub work_for : ℕ → ℕ
@@ -23,7 +22,7 @@ work_for n = 12288 + 16 * n
 
 -- 6 Work
 unfoldable pub checked_work : (n work : ℕ) → Outcome
-checked_work n work = cond (ltb work (work_for n)) (Refused Work 0) (Accepted n)
+checked_work n work = cond (ltb work (work_for n)) (Err (refusal Work 0)) (Ok n)
 
 -- 02, E11: nodes of this tag are lowered in this mode; in mode 1 a class, tag 1D, is not
 unfoldable pub current : (mode tag : ℕ) → Bool
@@ -46,9 +45,9 @@ checked_fields mode fs work =
 unfoldable pub checked_tree : (mode : ℕ) (tree : List ℕ) (work : ℕ) → Outcome
 checked_tree mode tree work =
     cond (framed tree)
-    (cond (ltb 32768 (length (fields tree))) (Refused Many 32768) (checked_fields mode (fields tree) work))
-    (Refused Frame (length (fields tree)))
+    (cond (ltb 32768 (length (fields tree))) (Err (refusal Many 32768)) (checked_fields mode (fields tree) work))
+    (Err (refusal Frame (length (fields tree))))
 
 -- 02, E2: 21 Mode, before Frame
 unfoldable pub checked : (mode : ℕ) (tree : List ℕ) (work : ℕ) → Outcome
-checked mode tree work = cond (leb mode 1) (checked_tree mode tree work) (Refused Mode 0)
+checked mode tree work = cond (leb mode 1) (checked_tree mode tree work) (Err (refusal Mode 0))

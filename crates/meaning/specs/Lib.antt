@@ -3,6 +3,7 @@ pub mod Base
 pub mod Fields
 pub mod Grammar
 pub mod Tree
+pub mod Outcome
 pub mod Check
 pub mod Opcode
 pub mod Constant

@@ -1,5 +1,5 @@
 -- E1: what reading an image back answers. It "takes exactly the images in 01's order .. and all facts of demand 3 at every instruction".
-use Rattle.std.specs.Prelude.{ℕ, cond, List, [], ◌∷◌, length, eqb}
+use Rattle.std.specs.Prelude.{ℕ, cond, List, [], ◌∷◌, length, eqb, Ok, Err}
 use Rattle.std.proofs.Math.Option.{Option, none, some}
 use Rattle.meaning.specs.Fields.{Field, fields}
 use Rattle.meaning.specs.Check.{framed}
@@ -8,8 +8,7 @@ use Rattle.meaning.specs.Follow.{at_first, stray}
 use Rattle.meaning.specs.Rules.{proto_tests, first_false}
 use Rattle.meaning.specs.declared.Cause.{Cause}
 use Rattle.meaning.specs.declared.Cause.TheVariants.{ImageFrame, ImageRule}
-use Rattle.meaning.specs.declared.Outcome.{Outcome}
-use Rattle.meaning.specs.declared.Outcome.TheVariants.{Accepted, Refused}
+use Rattle.meaning.specs.Outcome.{Outcome, refusal}
 
 -- an image, or a cause with its place
 pub data Read : Type 0 where
@@ -49,5 +48,5 @@ read_image s = read_as (image_tag s) s
 
 -- a taken image answers how many fields it has
 abbrev pub read_outcome : (count : ℕ) → Read → Outcome
-read_outcome count (refused c place) = Refused c place
-read_outcome count (taken im) = Accepted count
+read_outcome count (refused c place) = Err (refusal c place)
+read_outcome count (taken im) = Ok count

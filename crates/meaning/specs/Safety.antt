@@ -1,5 +1,5 @@
 -- Demand 3: no walk leaves its prototype, and everything that it meets exists.
-use Rattle.std.specs.Prelude.{ℕ, zero, suc, ◌+◌, ◌-◌, ◌≤◌, ◌<◌, ◌≡◌, true, cond, List, [], ◌∷◌, ◌++◌, length, eqb}
+use Rattle.std.specs.Prelude.{ℕ, zero, suc, ◌+◌, ◌-◌, ◌≤◌, ◌<◌, ◌≡◌, true, cond, List, [], ◌∷◌, ◌++◌, length, eqb, Ok}
 use Rattle.std.proofs.Math.Option.{Option, none, some}
 use Rattle.meaning.specs.Fields.{fields}
 use Rattle.meaning.specs.Grammar.{wide_marks}
@@ -12,7 +12,6 @@ use Rattle.meaning.specs.Lower.{lower_program}
 use Rattle.meaning.specs.Image.{image}
 use Rattle.meaning.specs.Steps.{inst_at, opcode_at, StepOf01, Amended, Walk}
 use Rattle.meaning.specs.declared.Instruction.{Instruction}
-use Rattle.meaning.specs.declared.Outcome.TheVariants.{Accepted}
 
 -- n registers, from r on
 abbrev pub from : (r n : ℕ) → List ℕ
@@ -100,7 +99,7 @@ pub record Stands (constants : List Constant) (earlier : List Proto) (p : Proto)
 -- a tree whose lowering was done, `main` being the main prototype's index, and the image of the state in which it ended
 pub record Lowered (mode : ℕ) (tree : List ℕ) (work : ℕ) (bytes : List ℕ) : Type 0 where
   pub nodes : ℕ
-  pub accepted : checked mode tree work ≡ Accepted nodes
+  pub accepted : checked mode tree work ≡ Ok nodes
   pub main : ℕ
   pub state : State
   pub lowering : lower_program mode (nodes - 1) (read_program (fields tree)) ≡ done main state

@@ -20,43 +20,43 @@ pub struct Token {
     pub mark: u32,
 }
 
-// The causes of refusal, in the order of their numbers: 1 to 23, 25 to 27, 29.
+// The causes of refusal, with their numbers.
 #[derive(Clone, Copy)]
 pub enum Cause {
-    Frame,
-    Many,
-    Shape,
-    Tree,
-    Depth,
-    Work,
-    Registers,
-    Captures,
-    Undefined,
-    Redefined,
-    Stray,
-    Empty,
-    Returned,
-    Constants,
-    Prototypes,
-    Nesting,
-    Long,
-    Room,
-    ImageFrame,
-    ImageRule,
-    Mode,
-    Prototype,
-    Decision,
-    Order,
-    ListRoom,
-    Retired,
-    Visits,
+    Frame = 1,
+    Many = 2,
+    Shape = 3,
+    Tree = 4,
+    Depth = 5,
+    Work = 6,
+    Registers = 7,
+    Captures = 8,
+    Undefined = 9,
+    Redefined = 10,
+    Stray = 11,
+    Empty = 12,
+    Returned = 13,
+    Constants = 14,
+    Prototypes = 15,
+    Nesting = 16,
+    Long = 17,
+    Room = 18,
+    ImageFrame = 19,
+    ImageRule = 20,
+    Mode = 21,
+    Prototype = 22,
+    Decision = 23,
+    Order = 25,
+    ListRoom = 26,
+    Retired = 27,
+    Visits = 29,
 }
 
-// Accepted with a length (of the image; of a check, the number of nodes; of a reading, the number of fields), or refused with a cause and its place.
+// Why an input is refused. An outcome is a Result<usize, Refusal>: Ok has a length, of the image; of a check, the number of nodes; of a reading, the number of fields.
 #[derive(Clone, Copy)]
-pub enum Outcome {
-    Accepted(usize),
-    Refused(Cause, usize),
+pub struct Refusal {
+    pub cause: Cause,
+    pub place: usize,
 }
 
 // What a caller is told: 0 or the cause's number, the place, the image's length.
@@ -107,11 +107,11 @@ pub struct Due {
 // How a walk ended (document 02, E4 and E8): at a Return, out of decisions, out of budget; a failure with no handler registered, a 257th handler.
 #[derive(Clone, Copy)]
 pub enum Ending {
-    AtReturn,
-    NoDecision,
-    NoBudget,
-    Failed,
-    Handlers,
+    AtReturn = 0,
+    NoDecision = 1,
+    NoBudget = 2,
+    Failed = 3,
+    Handlers = 4,
 }
 
 // What a caller is told of a walk: 0 or the cause's number, the place; the steps taken, the index where it stood, and how it ended.

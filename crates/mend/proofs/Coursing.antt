@@ -1,22 +1,23 @@
 -- The walk from field to field: what it knows of where it stands, and how many hits are behind it.
-use mathlib.Core.Path.{◌≡◌, ap, ◌∙◌}
+use mathlib.Core.Path.{◌≡◌, sym, ap, ap₂, ◌∙◌}
 use mathlib.Core.Bool.{Bool, true, false, ◌&&◌, cond}
 use mathlib.Core.List.{List, [], ◌++◌}
 use Prim.Native.Nat.{ℕ, ◌+◌, ◌<◌, ◌≤◌}
 use native.Mathlib.Omega.{arith}
-use lib.ListN.{length, drop, length-append, length-drop}
+use lib.ListN.{length, get_or, drop, length-append, length-drop}
 use lib.Dec.{eqb, leb}
-use Rattle.meaning.specs.Fields.{Field, word_at, span, whole, front, rest, fields}
-use Rattle.meaning.proofs.Lists.{tail_part}
-use Rattle.meaning.proofs.FieldLaws.{from, whole_true, fields_whole, fields_cut}
+use Rattle.meaning.specs.Fields.{Field, word_at, span, whole, payload_of, front, rest, fields}
+use Rattle.fields.specs.declared.Field as walked
+use Rattle.meaning.proofs.FieldLaws.{whole_true, fields_whole, fields_cut}
 use Rattle.meaning.proofs.Images.Fielded.{Bytes, bytes_at, bytes_take, bytes_drop}
 use Rattle.mend.specs.declared.walk.Course.{Course}
-use Rattle.mend.specs.Course.{course, hits, after}
+use Rattle.mend.specs.Course.{met_field, course, hits, after}
 use Rattle.mend.proofs.Courses.{entries_in}
 use Rattle.mend.proofs.Seen.{hits_few}
 
-pub from_rest : (t : List ℕ) (k : ℕ) → k ≡ span t → from k t ≡ rest t
-from_rest t k e = tail_part k t ∙ ap (λ (m : ℕ). drop m t) e
+-- a field that a walk hands on is the one at the front
+pub is_front : (t : List ℕ) (f : walked.Field) → (f.tag ≡ get_or t 0 0) × (f.payload.now ≡ payload_of t) → met_field f ≡ front t
+is_front t f e = ap₂ (λ (k : ℕ) (p : List ℕ). (let x : Field = record { tag = k; payload = p } in x)) e.0 e.1
 
 -- where the walk stands, t being what is left of s
 pub record Coursing (s t : List ℕ) (c : Course) : Type 0 where
@@ -24,6 +25,10 @@ pub record Coursing (s t : List ℕ) (c : Course) : Type 0 where
   pub code : c.code < 65536
   pub met : c.met + length t ≤ length s
   pub index : c.index + length t ≤ length s
+
+-- before the first field, as the derive gives it
+pub begun : (c : Course) → (c.met ≡ 0) × ((c.code ≡ 0) × (c.index ≡ 0)) → course 0 0 0 ≡ c
+begun c e = sym (ap (λ (k : ℕ). course k c.code c.index) e.0 ∙ ap (λ (k : ℕ). course 0 k c.index) e.1.0 ∙ ap (λ (k : ℕ). course 0 0 k) e.1.1)
 
 pub coursing_start : (s : List ℕ) → Bytes s → Coursing s s (course 0 0 0)
 coursing_start s b = record { bytes = b; code = omega arith; met = omega arith; index = omega arith }
@@ -83,12 +88,13 @@ unfolding entries_in
 entries_end tag c t w = ap (entries_in tag c) (fields_cut t w)
 
 module _ (s : List ℕ) (tag : ℕ) (t : List ℕ) (c : Course) (e : ℕ) (r : Counting s tag t c e) where
-  pub counting_more : whole t ≡ true → (k : ℕ) → k ≡ span t → (h : ℕ) → h ≡ length (hits tag c (front t)) → (c' : Course) → c' ≡ after tag c (front t) → Counting s tag (from k t) c' (e + h)
-  counting_more w k ek h eh c' ec =
-      rw (from_rest t k ek, ec) record {
+  pub counting_more : whole t ≡ true → (f : Field) → f ≡ front t → (h : ℕ) → h ≡ length (hits tag c f) → (c' : Course) → c' ≡ after tag c f → (t' : List ℕ) → t' ≡ rest t → Counting s tag t' c' (e + h)
+  counting_more w f ef h eh c' ec t' et =
+      let en : h ≡ length (hits tag c (front t)) = eh ∙ ap (λ (x : Field). length (hits tag c x)) ef in
+      rw (et, ec, ef) record {
         at = coursing_more s t c r.at tag w;
-        same = omega (arith, r.same, ap length (entries_more tag c t w), length-append (hits tag c (front t)) (entries_in tag (after tag c (front t)) (fields (rest t))));
-        few = omega (arith, r.few, hits_few tag c (front t), rest_size s t c r.at tag w);
+        same = omega (arith, en, r.same, ap length (entries_more tag c t w), length-append (hits tag c (front t)) (entries_in tag (after tag c (front t)) (fields (rest t))));
+        few = omega (arith, en, r.few, hits_few tag c (front t), rest_size s t c r.at tag w);
       }
 
   pub counting_end : whole t ≡ false → e ≡ length (entries_in tag (course 0 0 0) (fields s))

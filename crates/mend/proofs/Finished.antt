@@ -11,8 +11,9 @@ use Rattle.meaning.specs.Answer.{cause_number}
 use Rattle.meaning.specs.Mend.{mended_copy, listed_in, list_bytes, Mending, unmended, mended_to, mend_as, mend_answer, mend_output, mend_list}
 use Rattle.meaning.specs.declared.MendAnswer.{MendAnswer}
 use Rattle.meaning.specs.declared.Cause.{Cause}
-use Rattle.meaning.specs.declared.Outcome.{Outcome}
-use Rattle.meaning.specs.declared.Outcome.TheVariants.{Accepted, Refused}
+use Rattle.std.specs.Prelude.{Ok, Err}
+use Rattle.meaning.specs.Outcome.{Outcome, refusal}
+use Rattle.meaning.specs.declared.Refusal.{Refusal}
 use Rattle.meaning.proofs.Images.Fielded.{Bytes}
 use Rattle.meaning.proofs.Images.Assembled.{Tagged}
 use Rattle.meaning.proofs.Mend.{mends}
@@ -38,10 +39,10 @@ pub record Done (tag : ℕ) (s : List ℕ) (room list entries : ℕ) : Type 0 wh
   pub list_fits : 8 * length (listed_in tag s) ≤ list
   pub count : entries ≡ length (listed_in tag s)
 
-pub done : (tag : ℕ) → Tagged tag → (s : List ℕ) → Bytes s → (room list entries : ℕ) (o : Outcome) → o ≡ mend_outcome (mend_as tag s room list) → o ≡ Accepted entries → Done tag s room list entries
+pub done : (tag : ℕ) → Tagged tag → (s : List ℕ) → Bytes s → (room list entries : ℕ) (o : Outcome) → o ≡ mend_outcome (mend_as tag s room list) → o ≡ Ok entries → Done tag s room list entries
 done tag ok s b room list entries o e a = go (mend_as tag s room list) refl (sym e ∙ a)
   where
-    go : (m : Mending) → mend_as tag s room list ≡ m → mend_outcome m ≡ Accepted entries → Done tag s room list entries
+    go : (m : Mending) → mend_as tag s room list ≡ m → mend_outcome m ≡ Ok entries → Done tag s room list entries
     go (unmended c place) q r = absurd (let z : ◌≡◌ {A = ℕ} 0 1 = cc in omega arith)
     go (mended_to bytes es) q r =
         let m = mends tag s room list bytes es q in
@@ -74,12 +75,12 @@ module _ (tag : ℕ) (s : List ℕ) (room list entries : ℕ) (d : Done tag s ro
       ∙ sym (ap (mend_list list) d.is)
 
 -- a refusal: nothing but zeros
-module _ (m : Mending) (o : Outcome) (e : o ≡ mend_outcome m) (c : Cause) (place : ℕ) (r : o ≡ Refused c place) where
+module _ (m : Mending) (o : Outcome) (e : o ≡ mend_outcome m) (c : Cause) (place : ℕ) (r : o ≡ Err (refusal c place)) where
   stopped : m ≡ unmended c place
   stopped = go m (sym e ∙ r)
     where
-      go : (m : Mending) → mend_outcome m ≡ Refused c place → m ≡ unmended c place
-      go (unmended d q) f = let x : d ≡ c = cc in let y : q ≡ place = cc in ap₂ unmended x y
+      go : (m : Mending) → mend_outcome m ≡ Err (refusal c place) → m ≡ unmended c place
+      go (unmended d q) f = let z : refusal d q ≡ refusal c place = cc in ap (λ (r : Refusal). unmended r.cause r.place) z
       go (mended_to bytes es) f = absurd (let z : ◌≡◌ {A = ℕ} 0 1 = cc in omega arith)
 
   pub answer_stopped : (n : ℕ) → n ≡ cause_number c → (let a : MendAnswer = record { number = n; place = place; length = 0; entries = 0 } in a) ≡ mend_answer m

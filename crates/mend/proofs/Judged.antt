@@ -16,8 +16,8 @@ use Rattle.meaning.specs.Reader.{Read, refused, taken, read_outcome}
 use Rattle.meaning.specs.Mend.{mended_copy, listed_in, read_copy, read_mended, mending_in, mending_after, mend_as}
 use Rattle.meaning.specs.declared.Cause.{Cause}
 use Rattle.meaning.specs.declared.Cause.TheVariants.{Room, ImageFrame, ListRoom}
-use Rattle.meaning.specs.declared.Outcome.{Outcome}
-use Rattle.meaning.specs.declared.Outcome.TheVariants.{Accepted, Refused}
+use Rattle.std.specs.Prelude.{Ok, Err}
+use Rattle.meaning.specs.Outcome.{Outcome, refusal}
 use Rattle.meaning.proofs.Images.Fielded.{Bytes}
 use Rattle.meaning.proofs.Images.Back.{ordered_back}
 use Rattle.meaning.proofs.Mend.Kept.{kept_image}
@@ -29,16 +29,16 @@ module _ (tag : ℕ) (s : List ℕ) (room list : ℕ) where
   due = mend_outcome (mend_as tag s room list)
 
   -- a refusal stays
-  refused_stays : (n : ℕ) (r : Read) (c : Cause) (place : ℕ) → read_outcome n r ≡ Refused c place → Refused c place ≡ mend_outcome (mending_after tag s room list r)
+  refused_stays : (n : ℕ) (r : Read) (c : Cause) (place : ℕ) → read_outcome n r ≡ Err (refusal c place) → Err (refusal c place) ≡ mend_outcome (mending_after tag s room list r)
   refused_stays n (refused d q) c place e = sym e
   refused_stays n (taken im) c place e = absurd (let z : ◌≡◌ {A = ℕ} 0 1 = cc in omega arith)
 
-  pub told_refused : (n : ℕ) (o : Outcome) → o ≡ read_outcome n (read_mended tag s) → (c : Cause) (place : ℕ) → o ≡ Refused c place → o ≡ due
+  pub told_refused : (n : ℕ) (o : Outcome) → o ≡ read_outcome n (read_mended tag s) → (c : Cause) (place : ℕ) → o ≡ Err (refusal c place) → o ≡ due
   unfolding mend_as
   told_refused n o e c place q = q ∙ refused_stays n (read_mended tag s) c place (sym e ∙ q)
 
   -- accepted means taken
-  is_taken : (n m : ℕ) (r : Read) → read_outcome n r ≡ Accepted m → (im : Image) × (r ≡ taken im)
+  is_taken : (n m : ℕ) (r : Read) → read_outcome n r ≡ Ok m → (im : Image) × (r ≡ taken im)
   is_taken n m (refused c place) e = absurd (let z : ◌≡◌ {A = ℕ} 0 1 = cc in omega arith)
   is_taken n m (taken im) e = (im, refl)
 
@@ -50,7 +50,7 @@ module _ (tag : ℕ) (s : List ℕ) (room list : ℕ) where
   in_frame im true f q = (f, in_order im (stray tag at_first (fields s)) refl q)
   in_frame im false f q = absurd (let z : ◌≡◌ {A = ℕ} 0 1 = cc in omega arith)
 
-  module _ (n m : ℕ) (o : Outcome) (e : o ≡ read_outcome n (read_mended tag s)) (a : o ≡ Accepted m) where
+  module _ (n m : ℕ) (o : Outcome) (e : o ≡ read_outcome n (read_mended tag s)) (a : o ≡ Ok m) where
     abbrev T : (im : Image) × (read_mended tag s ≡ taken im)
     T = is_taken n m (read_mended tag s) (sym e ∙ a)
 
@@ -64,7 +64,7 @@ module _ (tag : ℕ) (s : List ℕ) (room list : ℕ) where
 
     module _ (entries : ℕ) (ee : entries ≡ length (listed_in tag s)) where
       -- 26
-      pub told_list : list / 8 < entries → Refused ListRoom 0 ≡ due
+      pub told_list : list / 8 < entries → Err (refusal ListRoom 0) ≡ due
       told_list h = sym (taken_on ∙ rw (lt-ltb list (8 * length (listed_in tag s)) (omega arith)) refl)
 
       module _ (fits : (list / 8 < entries) → ⊥) (size : length (mended_copy tag s) ≡ length s) where
@@ -72,11 +72,11 @@ module _ (tag : ℕ) (s : List ℕ) (room list : ℕ) where
         enough = le-ltb list (8 * length (listed_in tag s)) (omega (arith, fits))
 
         -- 18
-        pub told_room : room < length s → Refused Room 0 ≡ due
+        pub told_room : room < length s → Err (refusal Room 0) ≡ due
         told_room h = sym (taken_on ∙ rw (enough, lt-ltb room (length (mended_copy tag s)) (omega arith)) refl)
 
-        pub told_mended : (room < length s → ⊥) → Accepted entries ≡ due
-        told_mended h = sym (taken_on ∙ rw (enough, le-ltb room (length (mended_copy tag s)) (omega (arith, h))) (ap Accepted (sym ee)))
+        pub told_mended : (room < length s → ⊥) → Ok entries ≡ due
+        told_mended h = sym (taken_on ∙ rw (enough, le-ltb room (length (mended_copy tag s)) (omega (arith, h))) (ap Ok (sym ee)))
 
 -- the copy is as long as the image
 pub same_size : (tag : ℕ) (s : List ℕ) → Bytes s → Ordered s tag → framed s ≡ true → length (mended_copy tag s) ≡ length s

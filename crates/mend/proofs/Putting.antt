@@ -9,7 +9,7 @@ use lib.Seq.{sets, sets-eq, length-sets, take_at, drop-append-add, drop-drop}
 use Rattle.meaning.specs.Fields.{Field, span, whole, front, rest, fields, left}
 use Rattle.meaning.specs.Image.{word}
 use Rattle.meaning.specs.Mend.{Entry, entry_bytes, list_bytes}
-use Rattle.meaning.proofs.FieldLaws.{from, fields_whole, fields_cut, left_whole, left_cut}
+use Rattle.meaning.proofs.FieldLaws.{fields_whole, fields_cut, left_whole, left_cut}
 use Rattle.meaning.proofs.Images.Fielded.{Bytes, front_back}
 use Rattle.meaning.proofs.Images.Listed.{field_bytes, bytes_of}
 use Rattle.reader.proofs.Glances.{front_size}
@@ -17,7 +17,7 @@ use Rattle.mend.specs.declared.walk.Course.{Course}
 use Rattle.mend.specs.Course.{course, hit, hits, after}
 use Rattle.mend.proofs.Courses.{entries_in, copied_field, copied}
 use Rattle.mend.proofs.Seen.{long}
-use Rattle.mend.proofs.Coursing.{from_rest, Coursing, coursing_start, coursing_more, rest_size, entries_more, entries_end}
+use Rattle.mend.proofs.Coursing.{Coursing, coursing_start, coursing_more, rest_size, entries_more, entries_end}
 
 -- ---- the list
 
@@ -127,14 +127,14 @@ module _ (s : List ℕ) (tag : ℕ) (o₀ l₀ t : List ℕ) (c : Course) (at w 
     stored o' e = e ∙ go (hit tag c f) refl
       where
         go : (b : Bool) → hit tag c f ≡ b → cond b (sets o (at + 3) (20 ∷ 0 ∷ 0 ∷ 0 ∷ [])) o ≡ r.done ++ (field_bytes (cond b (returned f) f) ++ (rest t ++ tail))
-        go true h = ap₂ (λ (x : List ℕ) (k : ℕ). sets x (k + 3) (20 ∷ 0 ∷ 0 ∷ 0 ∷ [])) out_split (sym r.done_size) ∙ put_returned r.done f (rest t ++ tail) (long t whole_one tag c h)
+        go true h = ap₂ (λ (x : List ℕ) (k : ℕ). sets x (k + 3) (20 ∷ 0 ∷ 0 ∷ 0 ∷ [])) out_split (sym r.done_size) ∙ put_returned r.done f (rest t ++ tail) (long f tag c h)
         go false h = out_split
 
     field_size : length (field_bytes g) ≡ span t
     field_size = go (hit tag c f) refl
       where
         go : (b : Bool) → hit tag c f ≡ b → length (field_bytes (cond b (returned f) f)) ≡ span t
-        go true h = omega (arith, same_size f (long t whole_one tag c h), front_size t whole_one)
+        go true h = omega (arith, same_size f (long f tag c h), front_size t whole_one)
         go false h = omega (arith, front_size t whole_one)
 
     out_done : (r.done ++ field_bytes g) ++ (bytes_of (copied tag (after tag c f) (fields (rest t))) ++ left (rest t)) ≡ bytes_of (copied tag (course 0 0 0) (fields s)) ++ left s
@@ -149,10 +149,10 @@ module _ (s : List ℕ) (tag : ℕ) (o₀ l₀ t : List ℕ) (c : Course) (at w 
         ∙ ap₂ (λ (x y : List ℕ). (x ++ E) ++ y) (ap (take w) r.list_is ∙ take_at r.listed (drop w l₀) w r.listed_size)
         (ap₂ (λ (x : List ℕ) (k : ℕ). drop (k + length E) x) r.list_is (sym r.listed_size) ∙ drop-append-add r.listed (drop w l₀) (length E) ∙ drop-drop (length E) w l₀)
 
-    pub putting_more : (o' l' : List ℕ) → o' ≡ cond (hit tag c f) (sets o (at + 3) (20 ∷ 0 ∷ 0 ∷ 0 ∷ [])) o → l' ≡ sets l w E
-        → (n : ℕ) → n ≡ length E → (c' : Course) → c' ≡ after tag c f → (k : ℕ) → k ≡ span t → Putting s tag o₀ l₀ (from k t) c' (at + k) (w + n) o' l'
-    putting_more o' l' eo el n en c' ec k ek =
-        rw (from_rest t k ek, ec, en, ek) record {
+    put_on : (o' l' : List ℕ) → o' ≡ cond (hit tag c f) (sets o (at + 3) (20 ∷ 0 ∷ 0 ∷ 0 ∷ [])) o → l' ≡ sets l w E
+        → (n : ℕ) → n ≡ length E → (c' : Course) → c' ≡ after tag c f → (k : ℕ) → k ≡ span t → Putting s tag o₀ l₀ (rest t) c' (at + k) (w + n) o' l'
+    put_on o' l' eo el n en c' ec k ek =
+        rw (ec, en, ek) record {
           course_is = coursing_more s t c r.course_is tag whole_one;
           here = omega (arith, r.here, rest_size s t c r.course_is tag whole_one);
           done = r.done ++ field_bytes g;
@@ -171,6 +171,16 @@ module _ (s : List ℕ) (tag : ℕ) (o₀ l₀ t : List ℕ) (c : Course) (at w 
         kept_size : (b : Bool) → length (cond b (sets o (at + 3) (20 ∷ 0 ∷ 0 ∷ 0 ∷ [])) o) ≡ length o
         kept_size true = length-sets o (at + 3) (20 ∷ 0 ∷ 0 ∷ 0 ∷ [])
         kept_size false = refl
+
+    -- the field as the code has it
+    pub putting_more : (x : Field) → x ≡ f → (o' l' : List ℕ) → o' ≡ cond (hit tag c x) (sets o (at + 3) (20 ∷ 0 ∷ 0 ∷ 0 ∷ [])) o → l' ≡ sets l w (list_bytes (hits tag c x))
+        → (n : ℕ) → n ≡ length (list_bytes (hits tag c x)) → (c' : Course) → c' ≡ after tag c x → (t' : List ℕ) → t' ≡ rest t → Putting s tag o₀ l₀ t' c' (at + (3 + length x.payload)) (w + n) o' l'
+    putting_more x e o' l' eo el n en c' ec t' et =
+        rw et (
+        put_on o' l' (eo ∙ ap (λ (y : Field). cond (hit tag c y) (sets o (at + 3) (20 ∷ 0 ∷ 0 ∷ 0 ∷ [])) o) e) (el ∙ ap (λ (y : Field). sets l w (list_bytes (hits tag c y))) e)
+        n (en ∙ ap (λ (y : Field). length (list_bytes (hits tag c y))) e) c' (ec ∙ ap (after tag c) e)
+        (3 + length x.payload) (omega (arith, ap (λ (y : Field). length y.payload) e, front_size t whole_one))
+        )
 
   -- the rest of the image lies within the output
   pub fits : at + length t ≤ length o

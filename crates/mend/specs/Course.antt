@@ -1,15 +1,19 @@
 -- The walk over the fields of an image. Only contracts of inner functions cite this; proofs/Courses proves that it finds what Mend lists.
-use Rattle.std.specs.Prelude.{ℕ, ◌+◌, ◌-◌, Bool, ◌&&◌, cond, List, [], ◌∷◌, length, eqb, leb, ltb}
+use Rattle.std.specs.Prelude.{ℕ, ◌+◌, ◌-◌, Bool, ◌&&◌, cond, List, [], ◌∷◌, length, eqb, leb, ltb, Ok, Err}
 use Rattle.meaning.specs.Fields.{Field, word_at}
+use Rattle.fields.specs.declared.Field as walked
 use Rattle.meaning.specs.Images.{inst_of}
 use Rattle.meaning.specs.Mend.{replaced, Entry, Mending, unmended, mended_to}
-use Rattle.meaning.specs.declared.Outcome.{Outcome}
-use Rattle.meaning.specs.declared.Outcome.TheVariants.{Accepted, Refused}
+use Rattle.meaning.specs.Outcome.{Outcome, refusal}
 use Rattle.mend.specs.declared.walk.Course.{Course}
 
 -- where the walk stands, as the struct has it
 abbrev pub course : (met code index : ℕ) → Course
 course q n i = record { met = q; code = n; index = i }
+
+-- a field as the walk meets it
+abbrev pub met_field : walked.Field → Field
+met_field f = record { tag = f.tag; payload = f.payload.now }
 
 -- the field is an instruction that is replaced
 unfoldable pub hit : (tag : ℕ) → Course → Field → Bool
@@ -27,5 +31,5 @@ after tag c f =
 
 -- how many jumps are replaced, or the cause
 abbrev pub mend_outcome : Mending → Outcome
-mend_outcome (unmended c place) = Refused c place
-mend_outcome (mended_to bytes es) = Accepted (length es)
+mend_outcome (unmended c place) = Err (refusal c place)
+mend_outcome (mended_to bytes es) = Ok (length es)

@@ -1,58 +1,60 @@
 // The jumps of a copied image replaced, and listed.
 ghost use Rattle.std.specs.Prelude.{◌≡◌, true, cond, [], ◌∷◌, ◌++◌, ◌+◌, ◌*◌, ◌<◌, ◌≤◌, length, get_or, drop};
 ghost use Rattle.std.proofs.lemmas.List.Edits.{sets};
-ghost use Rattle.meaning.specs.Fields.{front, whole};
 ghost use Rattle.meaning.specs.Check.{framed};
 ghost use Rattle.meaning.specs.Image.{word};
 ghost use Rattle.meaning.specs.Mend.{mended_copy, listed_in, list_bytes};
 ghost use Rattle.reader.specs.Laid.{Ordered};
-ghost use Rattle.mend.specs.Course.{hit, hits};
+ghost use Rattle.mend.specs.Course.{met_field, hit, hits};
 
-use crate::walk::{Course, START, after, is_hit};
-use fields::{is_whole, span_of};
+use crate::walk::Course;
+use fields::{Field, Fields};
 
-// Return 0 0 0: an instruction's first four bytes. Its mark stays.
+// Return 0 0 0: an instruction's first four bytes.
+const RETURN: [u8; 4] = [20, 0, 0, 0];
+
+// An instruction that returns nothing, at its place. Its mark stays.
 fn put_return(out: &mut [u8], at: usize)
     requires { at + 4 ≤ length out.old }
     ensures { out.new ≡ sets out.old at (20 ∷ 0 ∷ 0 ∷ 0 ∷ []) }
 {
-    out[at] = 20;
-    out[at + 1] = 0;
-    out[at + 2] = 0;
-    out[at + 3] = 0;
+    out[at..at + 4].copy_from_slice(&RETURN);
 }
 
-// Prototype and index, and the four bytes that stand in the instruction at the front of t.
-fn put_entry(list: &mut [u8], at: usize, prototype: usize, index: usize, t: &[u8])
-    requires { (at + 8 ≤ length list.old) × (7 ≤ length t.now) }
-    ensures { list.new ≡ sets list.old at (word prototype ++ (word index ++ (get_or t.now 3 0 ∷ get_or t.now 4 0 ∷ get_or t.now 5 0 ∷ get_or t.now 6 0 ∷ []))) }
+// The low 16 bits, the high byte first.
+fn short(n: usize) -> [u8; 2]
+    ensures { result ≡ word n }
 {
-    list[at] = (prototype / 256 % 256) as u8;
-    list[at + 1] = (prototype % 256) as u8;
-    list[at + 2] = (index / 256 % 256) as u8;
-    list[at + 3] = (index % 256) as u8;
-    list[at + 4] = t[3];
-    list[at + 5] = t[4];
-    list[at + 6] = t[5];
-    list[at + 7] = t[6];
+    ((n % 65536) as u16).to_be_bytes()
 }
 
-// The field at the front of t, which stands at `at` in the output: replaced, and listed, where it is to be. The bytes that the list gained.
+// Prototype and index, and the four bytes that stood in the instruction.
+fn put_entry(list: &mut [u8], at: usize, prototype: usize, index: usize, old: &[u8])
+    requires { (at + 8 ≤ length list.old) × (4 ≤ length old.now) }
+    ensures { list.new ≡ sets list.old at (word prototype ++ (word index ++ (get_or old.now 0 0 ∷ get_or old.now 1 0 ∷ get_or old.now 2 0 ∷ get_or old.now 3 0 ∷ []))) }
+{
+    list[at..at + 2].copy_from_slice(&short(prototype));
+    list[at + 2..at + 4].copy_from_slice(&short(index));
+    list[at + 4..at + 8].copy_from_slice(&old[..4]);
+}
+
+// A field that stands at `at` in the output: replaced, and listed, where it is to be. The bytes that the list gained.
+// stays: output and list each with its place: a struct of the four would be made and lent in the one loop below, and say of both loans that they are the same.
 fn put_field(
-    t: &[u8],
+    field: Field,
     tag: u8,
-    c: Course,
+    course: Course,
     out: &mut [u8],
     at: usize,
     list: &mut [u8],
     listed: usize,
 ) -> usize
-    requires { (whole t.now ≡ true) × (c.code < 65536) × (at + length t.now ≤ length out.old) × (listed + length (list_bytes (hits tag c (front t.now))) ≤ length list.old) }
-    ensures { (result ≡ length (list_bytes (hits tag c (front t.now)))) × (out.new ≡ cond (hit tag c (front t.now)) (sets out.old (at + 3) (20 ∷ 0 ∷ 0 ∷ 0 ∷ [])) out.old) × (list.new ≡ sets list.old listed (list_bytes (hits tag c (front t.now)))) }
+    requires { (course.code < 65536) × (at + (3 + length field.payload.now) ≤ length out.old) × (listed + length (list_bytes (hits tag course (met_field field))) ≤ length list.old) }
+    ensures { (result ≡ length (list_bytes (hits tag course (met_field field.entry)))) × (out.new ≡ cond (hit tag course (met_field field.entry)) (sets out.old (at + 3) (20 ∷ 0 ∷ 0 ∷ 0 ∷ [])) out.old) × (list.new ≡ sets list.old listed (list_bytes (hits tag course (met_field field.entry)))) }
 {
-    if is_hit(t, tag, c) {
+    if course.is_hit(field, tag) {
         put_return(out, at + 3);
-        put_entry(list, listed, c.met - 1, c.index, t);
+        put_entry(list, listed, course.met - 1, course.index, field.payload);
         return 8;
     }
     0
@@ -63,15 +65,12 @@ pub(crate) fn put_all(image: &[u8], tag: u8, out: &mut [u8], list: &mut [u8])
     requires { Ordered image.now tag × (framed image.now ≡ true) × (out.old ≡ image.now ++ drop (length image.now) out.old) × (8 * length (listed_in tag image.now) ≤ length list.old) }
     ensures { (out.new ≡ mended_copy tag image.now ++ drop (length image.now) out.old) × (list.new ≡ list_bytes (listed_in tag image.now) ++ drop (length (list_bytes (listed_in tag image.now))) list.old) }
 {
-    let mut t = image;
-    let mut c = START;
-    let mut at: usize = 0;
-    let mut listed: usize = 0;
-    while is_whole(t) {
-        listed = listed + put_field(t, tag, c, out, at, list, listed);
-        c = after(t, tag, c);
-        let k = span_of(t);
-        t = &t[k..];
-        at = at + k;
+    let mut course = Course::default();
+    let mut at = 0;
+    let mut listed = 0;
+    for field in Fields::new(image) {
+        listed += put_field(field, tag, course, out, at, list, listed);
+        course = course.after(field, tag);
+        at += 3 + field.payload.len();
     }
 }

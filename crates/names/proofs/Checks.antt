@@ -14,7 +14,7 @@ use Rattle.meaning.specs.Tree.{kids_of, all_kids, tree_at, parent_by, parent_of,
 use Rattle.meaning.specs.Check.{framed, unless, current_at, checked_fields, checked_tree, checked}
 use Rattle.meaning.specs.Image.{word}
 use Rattle.meaning.specs.declared.Cause.{Cause}
-use Rattle.meaning.specs.declared.Outcome.{Outcome}
+use Rattle.meaning.specs.Outcome.{Outcome}
 use Rattle.meaning.proofs.Lists.{lowest_same}
 use Rattle.meaning.proofs.Kids.{none_fits}
 use Rattle.meaning.proofs.Images.Fielded.{Bytes, bytes_at, bytes_by, bytes_drop, Payloads, no_more, and_more, payloads}

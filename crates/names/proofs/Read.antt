@@ -21,7 +21,7 @@ use Rattle.meaning.specs.Constant.{text}
 use Rattle.meaning.specs.Syntax.{Expr, literal, variable, unary, binary, logical, call, function, expression, let_only, let_as, block, while, for_in, return_none, return, try, define, class, no_stmt, and_stmt, Elifs, and_elif, fun, no_super, super, and_expr, and_fun}
 use Rattle.meaning.specs.Read.{Readers, Reader, at, token, tokens, readers, read_program, words_at, exprs, stmts, funs, elifs, initializer, superclass, no_expression, no_statement, expr_readers, stmt_readers, read_expr, read_stmt, read_fun, read_if, read_let, read_return}
 use Rattle.meaning.specs.At.{tag_of, word_of}
-use Rattle.meaning.proofs.Payload.{Ok, Row, Due, due_at}
+use Rattle.meaning.proofs.Payload.{Allowed, Row, Due, due_at}
 use Rattle.meaning.proofs.Kids.{shape_tag}
 use Rattle.meaning.proofs.Unfold.{Each, each_at, ◌&◌, is_expr, is_stmt, is_elif, is_method, is_super, is_init, last_items}
 use Rattle.meaning.proofs.Images.Fielded.{Payloads}
@@ -37,12 +37,12 @@ module _ (f : ℕ → ℕ) (rule : Rule f) (fs : List Field) where
 
     -- r' reads the children of node i changed
     record Reads (r r' : Readers) : Type 0 where
-      expr : (c : ℕ) → Ok ok expr c → r'.expr c ≡ expr_by f (r.expr c)
-      stmt : (c : ℕ) → Ok ok stmt c → r'.stmt c ≡ stmt_by f (r.stmt c)
-      init : (c : ℕ) → Ok ok init c → absent c ≡ false → r'.stmt c ≡ stmt_by f (r.stmt c)
-      fun : (c : ℕ) → Ok ok method c → r'.fun c ≡ fun_by f (r.fun c)
-      variable : (c : ℕ) → Ok ok superkind c → absent c ≡ false → r'.variable c ≡ super_by f (r.variable c)
-      elif : (c : ℕ) → Ok ok elif c → (es : Elifs) → r'.elif c (elifs_by f es) ≡ elifs_by f (r.elif c es)
+      expr : (c : ℕ) → Allowed ok expr c → r'.expr c ≡ expr_by f (r.expr c)
+      stmt : (c : ℕ) → Allowed ok stmt c → r'.stmt c ≡ stmt_by f (r.stmt c)
+      init : (c : ℕ) → Allowed ok init c → absent c ≡ false → r'.stmt c ≡ stmt_by f (r.stmt c)
+      fun : (c : ℕ) → Allowed ok method c → r'.fun c ≡ fun_by f (r.fun c)
+      variable : (c : ℕ) → Allowed ok superkind c → absent c ≡ false → r'.variable c ≡ super_by f (r.variable c)
+      elif : (c : ℕ) → Allowed ok elif c → (es : Elifs) → r'.elif c (elifs_by f es) ≡ elifs_by f (r.elif c es)
 
     module _ (r r' : Readers) (s : Reads r r') where
       exprs_read : (cs : List ℕ) → Row ok (expr ∷ []) [] cs → exprs r' cs ≡ exprs_by f (exprs r cs)
@@ -65,7 +65,7 @@ module _ (f : ℕ → ℕ) (rule : Rule f) (fs : List Field) where
       elifs_read [] d = refl
       elifs_read (c ∷ cs) d = ap (r'.elif c) (elifs_read cs d.1) ∙ s.elif c d.0 (elifs r cs)
 
-      init_read : (c : ℕ) → Ok ok init c → initializer r' c ≡ stmts_by f (initializer r c)
+      init_read : (c : ℕ) → Allowed ok init c → initializer r' c ≡ stmts_by f (initializer r c)
       unfolding expr_by
       init_read c e = go (absent c) refl
         where
@@ -73,7 +73,7 @@ module _ (f : ℕ → ℕ) (rule : Rule f) (fs : List Field) where
           go true n = refl
           go false n = ap (λ t. and_stmt t no_stmt) (s.init c e n)
 
-      super_read : (c : ℕ) → Ok ok superkind c → superclass r' c ≡ super_by f (superclass r c)
+      super_read : (c : ℕ) → Allowed ok superkind c → superclass r' c ≡ super_by f (superclass r c)
       super_read c e = go (absent c) refl
         where
           go : (b : Bool) → absent c ≡ b → cond b no_super (r'.variable c) ≡ super_by f (cond b no_super (r.variable c))

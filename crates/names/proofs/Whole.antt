@@ -18,8 +18,8 @@ use Rattle.meaning.specs.Visits.{visits_program}
 use Rattle.meaning.specs.Answer.{Finished, imaged, stopped, fitted, lowered, finished_after, finished, reply}
 use Rattle.meaning.specs.declared.Cause.TheVariants.{Room}
 use Rattle.meaning.specs.declared.Reply.{Reply}
-use Rattle.meaning.specs.declared.Outcome.{Outcome}
-use Rattle.meaning.specs.declared.Outcome.TheVariants.{Accepted, Refused}
+use Rattle.std.specs.Prelude.{Ok, Err}
+use Rattle.meaning.specs.Outcome.{Outcome}
 use Rattle.meaning.proofs.Accepted.{accepted}
 use Rattle.meaning.proofs.Imaged.{finished_lowered}
 use Rattle.meaning.proofs.Ranges.{Marked, lowering_ranged}
@@ -36,7 +36,7 @@ module _ (f : ℕ → ℕ) (rule : Rule f) (mode : ℕ) (tree : List ℕ) (bytes
   width_same : wide_marks (fields (renamed f tree)) ≡ wide_marks (fields tree)
   width_same = rw (fields_renamed f tree bytes) (wide_same f rule (fields tree) (wide_marks (fields tree)) refl)
 
-  module _ (n : ℕ) (e : checked mode tree work ≡ Accepted n) where
+  module _ (n : ℕ) (e : checked mode tree work ≡ Ok n) where
     read_same : read_program (fields (renamed f tree)) ≡ stmts_by f (read_program (fields tree))
     read_same =
         let a = accepted mode tree work n e in
@@ -62,8 +62,8 @@ module _ (f : ℕ → ℕ) (rule : Rule f) (mode : ℕ) (tree : List ℕ) (bytes
 
   finished_by : (o : Outcome) → checked mode tree work ≡ o → finished_after mode o (renamed f tree) room ≡ renamed_finished f (finished_after mode o tree room)
   unfolding renamed_finished
-  finished_by (Refused c p) e = refl
-  finished_by (Accepted n) e =
+  finished_by (Err why) e = refl
+  finished_by (Ok n) e =
       rw (width_same, read_same n e, program_follows f rule mode (n - 1) (read_program (fields tree))) (lowered_same n e (lower_program mode (n - 1) (read_program (fields tree))) refl)
 
   -- THE THEOREM
@@ -72,7 +72,7 @@ module _ (f : ℕ → ℕ) (rule : Rule f) (mode : ℕ) (tree : List ℕ) (bytes
   names_do_not_steer = rw (checked_same f rule mode tree bytes work) (finished_by (checked mode tree work) refl)
 
   -- the visits (E6), of an accepted tree
-  visits_same : (n : ℕ) → checked mode tree work ≡ Accepted n → visits_program (read_program (fields (renamed f tree))) ≡ visits_program (read_program (fields tree))
+  visits_same : (n : ℕ) → checked mode tree work ≡ Ok n → visits_program (read_program (fields (renamed f tree))) ≡ visits_program (read_program (fields tree))
   visits_same n e = rw (read_same n e) (ap (λ (k : ℕ). 1 + k) (stmts_same f (read_program (fields tree))))
 
   reply_by : (x : Finished) → ((bs : List ℕ) → x ≡ imaged bs → visits_program (read_program (fields (renamed f tree))) ≡ visits_program (read_program (fields tree))) → ((bs : List ℕ) → x ≡ imaged bs → length (renamed_image f bs) ≡ length bs)

@@ -7,8 +7,9 @@ use mathlib.Core.Logic.{⊎_elim}
 use Prim.Native.Nat.{ℕ, ◌+◌, ◌-◌, ◌*◌, ◌/◌, ◌<◌, ◌≤◌}
 use native.Mathlib.Omega.{arith}
 use native.Mathlib.Decide.{ℕ_discrete}
+use Rattle.std.specs.Prelude.{Some}
 use lib.ListN.{length}
-use lib.Dec.{eqb}
+use lib.Dec.{eqb, lit<, lit≤}
 use borrow.Author.Tests.{lt-ltb, le-ltb}
 use Rattle.meaning.specs.declared.Token.{Token}
 use Rattle.meaning.specs.Fields.{Field, field_at, fields, words}
@@ -18,7 +19,7 @@ use Rattle.meaning.specs.At.{tag_of, word_of, count_of, file_words, mark_at, ext
 use Rattle.meaning.proofs.Reading.{variable_node, unary_node, binary_node, logical_node, call_node, function_node, expression_node, let_node, while_node, for_node, for_in_node, break_node, continue_node, return_node, if_node, elif_node, try_node, define_node, class_node}
 use Rattle.meaning.proofs.Places.{none_of, unmarked, heads_none, heads_0, heads_1, heads_2, function_places, define_places, for_in_places}
 use Rattle.meaning.proofs.Lists.{lt_or_le}
-use Rattle.nodes.specs.Nodes.{Node, Width, word_or_absent}
+use Rattle.nodes.specs.Nodes.{Node, Width, binary_in, binary_of, word_or_absent}
 
 -- the first words, of which word m is the mark, and of which there are c at least
 pub record Held (fs : List Field) (i : ℕ) (q : List ℕ) (wide m c : ℕ) : Type 0 where
@@ -56,10 +57,14 @@ rest fs i k d b e p = rw (p, e) (record { size = b.size; same = λ j l. sym (b.s
 pub token_held : {fs : List Field} {i : ℕ} {q : List ℕ} {wide c : ℕ} (k : ℕ) → k ≤ 2 → Held fs i q wide (k + 1) c → {x : Token} → x ≡ token (at (words q) k) (mark_at (not (eqb wide 0)) (words q) (k + 1)) → x ≡ token (word_of fs i k) (word_of fs i (k + 1))
 token_held k l h e = e ∙ ap₂ token (h.before k (omega arith) (omega arith)) (h.mark (omega arith))
 
+-- the words of a binary or a logical
+pub operands_held : {fs : List Field} {i : ℕ} {q : List ℕ} {wide : ℕ} → Held fs i q wide 1 4 → binary_in (not (eqb wide 0)) (words q) wide ≡ binary_of fs i
+operands_held h = rw (h.before 0 (lit< tt) (lit≤ tt), h.mark (lit≤ tt), h.after 2 (lit< tt) (lit≤ tt), h.after 3 (lit< tt) (lit≤ tt)) refl
+
 -- a word that may be absent, behind the mark
 pub perhaps_held : {fs : List Field} {i : ℕ} {q : List ℕ} {wide k : ℕ} → Rest fs i q wide k → (j : ℕ) → k ≤ j → word_or_absent (words q) (j + wide) ≡ word_or_absent (words_at fs i) j
 perhaps_held {fs} {i} {q} {wide} r j l =
-    ⊎_elim (λ (a : j < count_of fs i). rw (lt-ltb (j + wide) (length (words q)) (omega (arith, r.size)), lt-ltb j (count_of fs i) a) (r.same j l))
+    ⊎_elim (λ (a : j < count_of fs i). rw (lt-ltb (j + wide) (length (words q)) (omega (arith, r.size)), lt-ltb j (count_of fs i) a) (ap Some (r.same j l)))
     (λ (a : count_of fs i ≤ j). rw (le-ltb (j + wide) (length (words q)) (omega (arith, r.size)), le-ltb j (count_of fs i) a) refl)
     (lt_or_le j (count_of fs i))
 

@@ -1,14 +1,13 @@
 -- What a node of each kind holds, by name, in the order of 01's table of tags. Word k of node i is `word_of fs i k`, at either width of the marks.
-use Rattle.std.specs.Prelude.{ℕ, ◌+◌, ◌-◌, ◌*◌, ◌/◌, ◌<◌, ◌≡◌, true, cond, List, length, ltb}
+use Rattle.std.specs.Prelude.{ℕ, ◌+◌, ◌-◌, ◌*◌, ◌/◌, ◌<◌, ◌≡◌, Bool, true, cond, List, length, ltb, Option, None, Some}
 use Rattle.meaning.specs.Fields.{Field, fields}
-use Rattle.meaning.specs.Grammar.{shape_at, wide_marks}
+use Rattle.meaning.specs.Grammar.{shape_at, wide_marks, absent}
 use Rattle.meaning.specs.declared.Token.{Token}
 use Rattle.meaning.specs.Read.{at, words_at, token}
-use Rattle.meaning.specs.At.{extra, word_of, count_of, tokens_at}
+use Rattle.meaning.specs.At.{extra, mark_at, word_of, count_of, tokens_at}
 use Rattle.meaning.specs.Functions.{first_mark}
 use Rattle.nodes.specs.declared.expressions.Unary.{Unary}
 use Rattle.nodes.specs.declared.expressions.Binary.{Binary}
-use Rattle.nodes.specs.declared.expressions.Logical.{Logical}
 use Rattle.nodes.specs.declared.expressions.Call.{Call}
 use Rattle.nodes.specs.declared.expressions.Function.{Function}
 use Rattle.nodes.specs.declared.statements.Let.{Let}
@@ -44,12 +43,16 @@ variable_of fs i = token (word_of fs i 0) (word_of fs i 1)
 abbrev pub unary_of : List Field → (node : ℕ) → Unary
 unary_of fs i = record { op = word_of fs i 0; mark = word_of fs i 1; operand = word_of fs i 2 }
 
+-- 06 binary, 07 logical: op m x x, in the words of a payload
+abbrev pub binary_in : (wide_marks : Bool) → List ℕ → (wide : ℕ) → Binary
+binary_in b ws wide = record { op = at ws 0; mark = mark_at b ws 1; left = at ws (2 + wide); right = at ws (3 + wide) }
+
 -- 06 binary: op m x x
 abbrev pub binary_of : List Field → (node : ℕ) → Binary
 binary_of fs i = record { op = word_of fs i 0; mark = word_of fs i 1; left = word_of fs i 2; right = word_of fs i 3 }
 
 -- 07 logical: op m x x
-abbrev pub logical_of : List Field → (node : ℕ) → Logical
+abbrev pub logical_of : List Field → (node : ℕ) → Binary
 logical_of fs i = record { op = word_of fs i 0; mark = word_of fs i 1; left = word_of fs i 2; right = word_of fs i 3 }
 
 -- 08 call: callee m arguments..; how many arguments
@@ -62,9 +65,13 @@ function_of fs i = record { params = word_of fs i 0; mark = first_mark (tokens_a
 
 -- ---- statements
 
--- word k, or "Child 65,535 means absent" where the words end before it
-abbrev pub word_or_absent : List ℕ → (k : ℕ) → ℕ
-word_or_absent ws k = cond (ltb k (length ws)) (at ws k) 65535
+-- word k, or none where the words end before it
+abbrev pub word_or_absent : List ℕ → (k : ℕ) → Option ℕ
+word_or_absent ws k = cond (ltb k (length ws)) (Some (at ws k)) None
+
+-- a child, or none: "Child 65,535 means absent"
+abbrev pub unless_absent : ℕ → Option ℕ
+unless_absent n = cond (absent n) None (Some n)
 
 -- 10 expression: x
 abbrev pub expr_stmt_of : List Field → (node : ℕ) → ℕ
@@ -80,7 +87,7 @@ while_of fs i = record { mark = word_of fs i 0; condition = word_of fs i 1; body
 
 -- 14 for: m initializer condition increment body
 abbrev pub for_of : List Field → (node : ℕ) → For
-for_of fs i = record { mark = word_of fs i 0; initializer = word_of fs i 1; condition = word_of fs i 2; increment = word_of fs i 3; body = word_of fs i 4 }
+for_of fs i = record { mark = word_of fs i 0; initializer = unless_absent (word_of fs i 1); condition = word_of fs i 2; increment = word_of fs i 3; body = word_of fs i 4 }
 
 -- 15 for-in: m collection body, pairs n m; how many names
 abbrev pub for_in_of : List Field → (node : ℕ) → ForIn
@@ -119,4 +126,4 @@ define_of fs i = record { token = token (word_of fs i 0) (word_of fs i 1); param
 
 -- 1D class: n m superclass s, s methods, static methods..; how many methods, and where the static ones end
 abbrev pub class_of : List Field → (node : ℕ) → Class
-class_of fs i = record { token = token (word_of fs i 0) (word_of fs i 1); superclass = word_of fs i 2; methods = word_of fs i 3; end = count_of fs i }
+class_of fs i = record { token = token (word_of fs i 0) (word_of fs i 1); superclass = unless_absent (word_of fs i 2); methods = word_of fs i 3; end = count_of fs i }

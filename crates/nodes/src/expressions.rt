@@ -3,19 +3,21 @@ ghost use Rattle.std.specs.Prelude.{◌≡◌, not, ◌+◌, ◌<◌, ◌≤◌,
 ghost use Rattle.meaning.specs.Fields.{fields, words};
 ghost use Rattle.meaning.specs.At.{tag_of, pairs_in, pair_place};
 ghost use Rattle.meaning.specs.Functions.{first_mark};
-ghost use Rattle.nodes.specs.Nodes.{Node, Width, variable_of, unary_of, binary_of, logical_of, call_of, function_of};
+ghost use Rattle.nodes.specs.Nodes.{Node, Width, variable_of, unary_of, binary_in, binary_of, logical_of, call_of, function_of};
 
-use crate::offsets::payload_of;
-use crate::words::{child, count, mark, more_words, token};
+use crate::words::{Words, count, more_words};
 use meaning::{NO_MARK, Token};
+
+// stays: the readers take (tree, work, node, wide) each, and no struct: docs/PROMISES.md names them with these arguments.
+// stays: `op` is a number: `unary_of`, `binary_of` and `logical_of` promise the word itself, which may be of no operator.
 
 // 04 variable: n m
 pub fn variable_of(tree: &[u8], work: &[u32], node: usize, wide: usize) -> Token
     requires { Node tree.now work.now node × Width tree.now wide × (tag_of (fields tree.now) node ≡ 0x04) }
     ensures { result ≡ variable_of (fields tree.now) node }
 {
-    let payload = payload_of(tree, work, node);
-    token(payload, 0, wide)
+    let words = Words::of(tree, work, node, wide);
+    words.token(0)
 }
 
 // 05 unary: op m x
@@ -31,15 +33,15 @@ pub fn unary_of(tree: &[u8], work: &[u32], node: usize, wide: usize) -> Unary
     requires { Node tree.now work.now node × Width tree.now wide × (tag_of (fields tree.now) node ≡ 0x05) }
     ensures { result ≡ unary_of (fields tree.now) node }
 {
-    let payload = payload_of(tree, work, node);
+    let words = Words::of(tree, work, node, wide);
     Unary {
-        op: child(payload, 0) as u32,
-        mark: mark(payload, 1, wide),
-        operand: child(payload, 2 + wide),
+        op: words.word(0) as u32,
+        mark: words.mark(1),
+        operand: words.behind(2),
     }
 }
 
-// 06 binary: op m x x
+// 06 binary, 07 logical: op m x x
 #[derive(Clone, Copy)]
 pub struct Binary {
     pub op: u32,
@@ -48,41 +50,33 @@ pub struct Binary {
     pub right: usize,
 }
 
+// What stands in the payload of either.
+fn operands(x: &Words<'_>) -> Binary
+    requires { 4 + x.now.wide ≤ length (words x.now.payload.now) }
+    ensures { result ≡ binary_in (not (eqb x.now.wide 0)) (words x.now.payload.now) x.now.wide }
+{
+    Binary {
+        op: x.word(0) as u32,
+        mark: x.mark(1),
+        left: x.behind(2),
+        right: x.behind(3),
+    }
+}
+
 // A binary.
 pub fn binary_of(tree: &[u8], work: &[u32], node: usize, wide: usize) -> Binary
     requires { Node tree.now work.now node × Width tree.now wide × (tag_of (fields tree.now) node ≡ 0x06) }
     ensures { result ≡ binary_of (fields tree.now) node }
 {
-    let payload = payload_of(tree, work, node);
-    Binary {
-        op: child(payload, 0) as u32,
-        mark: mark(payload, 1, wide),
-        left: child(payload, 2 + wide),
-        right: child(payload, 3 + wide),
-    }
-}
-
-// 07 logical: op m x x
-#[derive(Clone, Copy)]
-pub struct Logical {
-    pub op: u32,
-    pub mark: u32,
-    pub left: usize,
-    pub right: usize,
+    operands(&Words::of(tree, work, node, wide))
 }
 
 // A logical.
-pub fn logical_of(tree: &[u8], work: &[u32], node: usize, wide: usize) -> Logical
+pub fn logical_of(tree: &[u8], work: &[u32], node: usize, wide: usize) -> Binary
     requires { Node tree.now work.now node × Width tree.now wide × (tag_of (fields tree.now) node ≡ 0x07) }
     ensures { result ≡ logical_of (fields tree.now) node }
 {
-    let payload = payload_of(tree, work, node);
-    Logical {
-        op: child(payload, 0) as u32,
-        mark: mark(payload, 1, wide),
-        left: child(payload, 2 + wide),
-        right: child(payload, 3 + wide),
-    }
+    operands(&Words::of(tree, work, node, wide))
 }
 
 // 08 call: callee m arguments..; how many arguments
@@ -98,11 +92,11 @@ pub fn call_of(tree: &[u8], work: &[u32], node: usize, wide: usize) -> Call
     requires { Node tree.now work.now node × Width tree.now wide × (tag_of (fields tree.now) node ≡ 0x08) }
     ensures { (result ≡ call_of (fields tree.now) node) × (result.arguments < 65536) }
 {
-    let payload = payload_of(tree, work, node);
+    let words = Words::of(tree, work, node, wide);
     Call {
-        callee: child(payload, 0),
-        mark: mark(payload, 1, wide),
-        arguments: count(payload) - (2 + wide),
+        callee: words.word(0),
+        mark: words.mark(1),
+        arguments: count(words.payload) - (2 + words.wide),
     }
 }
 
@@ -115,14 +109,14 @@ pub struct Function {
 }
 
 // The mark of the first of n pairs from word 1 on, or none.
-fn first_mark(payload: &[u8], n: usize, wide: usize) -> u32
-    requires { (1 + pair_place (not (eqb wide 0)) n ≤ length (words payload.now)) × (wide ≤ 1) }
-    ensures { result ≡ first_mark (pairs_in (not (eqb wide 0)) (words payload.now) 1 n) }
+fn first_mark(x: &Words<'_>, n: usize) -> u32
+    requires { (1 + pair_place (not (eqb x.now.wide 0)) n ≤ length (words x.now.payload.now)) × (x.now.wide ≤ 1) }
+    ensures { result ≡ first_mark (pairs_in (not (eqb x.now.wide 0)) (words x.now.payload.now) 1 n) }
 {
     if n == 0 {
         return NO_MARK;
     }
-    mark(payload, 2, wide)
+    x.mark(2)
 }
 
 // A function expression.
@@ -130,11 +124,11 @@ pub fn function_of(tree: &[u8], work: &[u32], node: usize, wide: usize) -> Funct
     requires { Node tree.now work.now node × Width tree.now wide × (tag_of (fields tree.now) node ≡ 0x09) }
     ensures { (result ≡ function_of (fields tree.now) node) × (result.params < 65536) }
 {
-    let payload = payload_of(tree, work, node);
-    let params = child(payload, 0);
+    let words = Words::of(tree, work, node, wide);
+    let params = words.word(0);
     Function {
         params,
-        mark: first_mark(payload, params, wide),
-        end: count(payload) - more_words(params, wide),
+        mark: first_mark(&words, params),
+        end: count(words.payload) - more_words(params, words.wide),
     }
 }

@@ -7,7 +7,7 @@ mod statements;
 mod words;
 
 pub use expressions::{
-    Binary, Call, Function, Logical, Unary, binary_of, call_of, function_of, logical_of, unary_of,
+    Binary, Call, Function, Unary, binary_of, call_of, function_of, logical_of, unary_of,
     variable_of,
 };
 pub use offsets::{count_of, payload_of, tag_of};
@@ -17,6 +17,3 @@ pub use statements::{
     while_of,
 };
 pub use words::{child, pair};
-
-// "Child 65,535 means absent"
-pub const ABSENT: usize = 65535;

@@ -1,14 +1,14 @@
 // Statements, by the table of 01's tags: what a node holds, and its reader.
-ghost use Rattle.std.specs.Prelude.{◌≡◌, not, cond, ◌+◌, ◌-◌, ◌/◌, ◌<◌, ◌≤◌, eqb};
+ghost use Rattle.std.specs.Prelude.{◌≡◌, not, cond, is_none, ◌+◌, ◌-◌, ◌/◌, ◌<◌, ◌≤◌, eqb};
 ghost use Rattle.meaning.specs.Fields.{fields};
-ghost use Rattle.meaning.specs.Grammar.{absent};
 ghost use Rattle.meaning.specs.At.{tag_of};
 ghost use Rattle.nodes.specs.Nodes.{Node, Width, expr_stmt_of, let_of, while_of, for_of, for_in_of, jump_of, return_of, if_of, elif_of, try_of, define_of, class_of};
 
-use crate::ABSENT;
 use crate::offsets::payload_of;
-use crate::words::{child, count, mark, more_words, perhaps, token};
+use crate::words::{Words, child, count, more_words};
 use meaning::Token;
+
+// stays: the readers take (tree, work, node, wide) each, and no struct: docs/PROMISES.md names them with these arguments.
 
 // 10 expression: x; its value.
 pub fn expr_stmt_of(tree: &[u8], work: &[u32], node: usize) -> usize
@@ -19,11 +19,11 @@ pub fn expr_stmt_of(tree: &[u8], work: &[u32], node: usize) -> usize
     child(payload, 0)
 }
 
-// 11 let: n m and perhaps x, else absent
+// 11 let: n m and perhaps x
 #[derive(Clone, Copy)]
 pub struct Let {
     pub token: Token,
-    pub value: usize,
+    pub value: Option<usize>,
 }
 
 // A let.
@@ -31,10 +31,10 @@ pub fn let_of(tree: &[u8], work: &[u32], node: usize, wide: usize) -> Let
     requires { Node tree.now work.now node × Width tree.now wide × (tag_of (fields tree.now) node ≡ 0x11) }
     ensures { (result ≡ let_of (fields tree.now) node) × (result.token.name < 65536) }
 {
-    let payload = payload_of(tree, work, node);
+    let words = Words::of(tree, work, node, wide);
     Let {
-        token: token(payload, 0, wide),
-        value: perhaps(payload, 2 + wide),
+        token: words.token(0),
+        value: words.perhaps(2),
     }
 }
 
@@ -51,11 +51,11 @@ pub fn while_of(tree: &[u8], work: &[u32], node: usize, wide: usize) -> While
     requires { Node tree.now work.now node × Width tree.now wide × (tag_of (fields tree.now) node ≡ 0x13) }
     ensures { result ≡ while_of (fields tree.now) node }
 {
-    let payload = payload_of(tree, work, node);
+    let words = Words::of(tree, work, node, wide);
     While {
-        mark: mark(payload, 0, wide),
-        condition: child(payload, 1 + wide),
-        body: child(payload, 2 + wide),
+        mark: words.mark(0),
+        condition: words.behind(1),
+        body: words.behind(2),
     }
 }
 
@@ -63,17 +63,17 @@ pub fn while_of(tree: &[u8], work: &[u32], node: usize, wide: usize) -> While
 #[derive(Clone, Copy)]
 pub struct For {
     pub mark: u32,
-    pub initializer: usize,
+    pub initializer: Option<usize>,
     pub condition: usize,
     pub increment: usize,
     pub body: usize,
 }
 
 // The end of the row that a for's initializer is: it is word 1, or there is none.
-pub fn initializer_end(initializer: usize) -> usize
-    ensures { result ≡ cond (absent initializer) 1 2 }
+pub fn initializer_end(initializer: Option<usize>) -> usize
+    ensures { result ≡ cond (is_none initializer) 1 2 }
 {
-    if initializer == ABSENT { 1 } else { 2 }
+    if initializer.is_none() { 1 } else { 2 }
 }
 
 // A for.
@@ -81,13 +81,13 @@ pub fn for_of(tree: &[u8], work: &[u32], node: usize, wide: usize) -> For
     requires { Node tree.now work.now node × Width tree.now wide × (tag_of (fields tree.now) node ≡ 0x14) }
     ensures { result ≡ for_of (fields tree.now) node }
 {
-    let payload = payload_of(tree, work, node);
+    let words = Words::of(tree, work, node, wide);
     For {
-        mark: mark(payload, 0, wide),
-        initializer: child(payload, 1 + wide),
-        condition: child(payload, 2 + wide),
-        increment: child(payload, 3 + wide),
-        body: child(payload, 4 + wide),
+        mark: words.mark(0),
+        initializer: words.present(1),
+        condition: words.behind(2),
+        increment: words.behind(3),
+        body: words.behind(4),
     }
 }
 
@@ -116,12 +116,12 @@ pub fn for_in_of(tree: &[u8], work: &[u32], node: usize, wide: usize) -> ForIn
     requires { Node tree.now work.now node × Width tree.now wide × (tag_of (fields tree.now) node ≡ 0x15) }
     ensures { (result ≡ for_in_of (fields tree.now) node) × (result.names < 65536) }
 {
-    let payload = payload_of(tree, work, node);
+    let words = Words::of(tree, work, node, wide);
     ForIn {
-        mark: mark(payload, 0, wide),
-        collection: child(payload, 1 + wide),
-        body: child(payload, 2 + wide),
-        names: names_in(count(payload), wide),
+        mark: words.mark(0),
+        collection: words.behind(1),
+        body: words.behind(2),
+        names: names_in(count(words.payload), words.wide),
     }
 }
 
@@ -130,15 +130,15 @@ pub fn jump_of(tree: &[u8], work: &[u32], node: usize, wide: usize) -> u32
     requires { Node tree.now work.now node × Width tree.now wide × (0x16 ≤ tag_of (fields tree.now) node) × (tag_of (fields tree.now) node ≤ 0x17) }
     ensures { result ≡ jump_of (fields tree.now) node }
 {
-    let payload = payload_of(tree, work, node);
-    mark(payload, 0, wide)
+    let words = Words::of(tree, work, node, wide);
+    words.mark(0)
 }
 
-// 18 return: m and perhaps x, else absent
+// 18 return: m and perhaps x
 #[derive(Clone, Copy)]
 pub struct Return {
     pub mark: u32,
-    pub value: usize,
+    pub value: Option<usize>,
 }
 
 // A return.
@@ -146,10 +146,10 @@ pub fn return_of(tree: &[u8], work: &[u32], node: usize, wide: usize) -> Return
     requires { Node tree.now work.now node × Width tree.now wide × (tag_of (fields tree.now) node ≡ 0x18) }
     ensures { result ≡ return_of (fields tree.now) node }
 {
-    let payload = payload_of(tree, work, node);
+    let words = Words::of(tree, work, node, wide);
     Return {
-        mark: mark(payload, 0, wide),
-        value: perhaps(payload, 1 + wide),
+        mark: words.mark(0),
+        value: words.perhaps(1),
     }
 }
 
@@ -168,15 +168,15 @@ pub fn if_of(tree: &[u8], work: &[u32], node: usize, wide: usize) -> If
     requires { Node tree.now work.now node × Width tree.now wide × (tag_of (fields tree.now) node ≡ 0x19) }
     ensures { (result ≡ if_of (fields tree.now) node) × (result.thens < 65539) }
 {
-    let payload = payload_of(tree, work, node);
-    let t = child(payload, 2 + wide);
-    let e = child(payload, 3 + t + wide);
+    let words = Words::of(tree, work, node, wide);
+    let t = words.behind(2);
+    let e = words.behind(3 + t);
     If {
-        mark: mark(payload, 0, wide),
-        condition: child(payload, 1 + wide),
+        mark: words.mark(0),
+        condition: words.behind(1),
         thens: 3 + t,
         elifs: 4 + t + e,
-        end: count(payload) - wide,
+        end: count(words.payload) - words.wide,
     }
 }
 
@@ -212,11 +212,11 @@ pub fn try_of(tree: &[u8], work: &[u32], node: usize, wide: usize) -> Try
     requires { Node tree.now work.now node × Width tree.now wide × (tag_of (fields tree.now) node ≡ 0x1B) }
     ensures { result ≡ try_of (fields tree.now) node }
 {
-    let payload = payload_of(tree, work, node);
+    let words = Words::of(tree, work, node, wide);
     Try {
-        body: child(payload, 0),
-        token: token(payload, 1, wide),
-        catch: child(payload, 3 + wide),
+        body: words.word(0),
+        token: words.token(1),
+        catch: words.behind(3),
     }
 }
 
@@ -233,12 +233,12 @@ pub fn define_of(tree: &[u8], work: &[u32], node: usize, wide: usize) -> Define
     requires { Node tree.now work.now node × Width tree.now wide × (tag_of (fields tree.now) node ≡ 0x1C) }
     ensures { (result ≡ define_of (fields tree.now) node) × (result.params < 65536) }
 {
-    let payload = payload_of(tree, work, node);
-    let params = child(payload, 2 + wide);
+    let words = Words::of(tree, work, node, wide);
+    let params = words.behind(2);
     Define {
-        token: token(payload, 0, wide),
+        token: words.token(0),
         params: params,
-        end: count(payload) - (wide + more_words(params, wide)),
+        end: count(words.payload) - (words.wide + more_words(params, words.wide)),
     }
 }
 
@@ -246,7 +246,7 @@ pub fn define_of(tree: &[u8], work: &[u32], node: usize, wide: usize) -> Define
 #[derive(Clone, Copy)]
 pub struct Class {
     pub token: Token,
-    pub superclass: usize,
+    pub superclass: Option<usize>,
     pub methods: usize,
     pub end: usize,
 }
@@ -256,11 +256,11 @@ pub fn class_of(tree: &[u8], work: &[u32], node: usize, wide: usize) -> Class
     requires { Node tree.now work.now node × Width tree.now wide × (tag_of (fields tree.now) node ≡ 0x1D) }
     ensures { (result ≡ class_of (fields tree.now) node) × (result.methods < 65536) }
 {
-    let payload = payload_of(tree, work, node);
+    let words = Words::of(tree, work, node, wide);
     Class {
-        token: token(payload, 0, wide),
-        superclass: child(payload, 2 + wide),
-        methods: child(payload, 3 + wide),
-        end: count(payload) - wide,
+        token: words.token(0),
+        superclass: words.present(2),
+        methods: words.behind(3),
+        end: count(words.payload) - words.wide,
     }
 }

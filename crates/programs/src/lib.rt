@@ -1,73 +1,88 @@
-// What the programs share. There is no heap, so what they read stands in rooms: arrays on the stack, taken in turn, the smallest first.
+// What the programs share: standard input, and a word of the command line as a number.
 #![tactic(auto)]
 
-ghost use Rattle.std.specs.Prelude.{◌≤◌, ◌≡◌, length};
-ghost use Rattle.programs.specs.Words.{spelled};
+ghost use Rattle.std.specs.Prelude.{◌≡◌, ◌<◌, ◌≤◌, ◌&&◌, leb, cond, IfOk, IfSome, Some, None, vec_len};
+ghost use Rattle.programs.specs.Words.{is_digit, and_digit, spelled};
 
-// Never. A function that calls itself behind this test is compiled apart, with a frame of its own on the stack; its room would otherwise be a
-// part of main's frame, in every run.
-#[inline(never)]
-pub fn never() -> bool {
-    false
-}
+use std::alloc::{AllocError, Allocator};
+use std::io::{ErrorKind, Read};
 
 // One byte more than the longest image: 256 prototypes of 13 bytes, each with 65,535 captures of 5 and as many instructions of 11, and 1,024 constants of 11.
 pub const IMAGE_ROOM: usize = 268445953;
 
-// What was read so far goes to the front of the room, what follows on standard input behind it.
-pub fn filled(read: &[u8], room: &mut [u8]) -> usize
-    ensures { result ≤ length room.old }
-{
-    let n = copied(read, room);
-    n + io::read_full(0, &mut room[n..])
-}
+// An input of this length or more is not read, whatever it is.
+pub const INPUT_ROOM: usize = 2147418112;
 
-fn copied(read: &[u8], room: &mut [u8]) -> usize
-    ensures { result ≤ length room.old }
+// What a reader gives, as many bytes as a limit at most. A read that fails ends the input.
+pub fn read_front<A: Allocator>(
+    alloc: A,
+    from: impl Read + Drop,
+    limit: usize,
+) -> Result<Vec<u8, A>, AllocError>
+    ensures { IfOk result (λ bytes. vec_len bytes ≤ limit) }
 {
-    let mut n: usize = 0;
-    while n < read.len() && n < room.len() {
-        room[n] = read[n];
-        n += 1;
+    let mut bytes = Vec::new(alloc);
+    match from.take(limit as u64).read_to_end(&mut bytes) {
+        Err(e) if e.kind() == ErrorKind::OutOfMemory => return Err(AllocError),
+        _ => {}
     }
-    n
+    // no promise of std tells how many bytes came
+    bytes.truncate(limit);
+    Ok(bytes)
 }
 
-// What a word spells.
-#[derive(Clone, Copy)]
-pub enum Spelled {
-    Number(u64),
-    Wrong,
+// The same where it is less than the limit.
+pub fn read<A: Allocator>(
+    alloc: A,
+    from: impl Read + Drop,
+    limit: usize,
+) -> Result<Option<Vec<u8, A>>, AllocError>
+    ensures { IfOk result (λ given. IfSome given (λ bytes. vec_len bytes < limit)) }
+{
+    let bytes = read_front(alloc, from, limit)?;
+    Ok(if bytes.len() < limit {
+        Some(bytes)
+    } else {
+        None
+    })
 }
 
 // The number of 64 bits that a word spells, digits alone and one at least.
-pub fn decimal(word: &[u8]) -> Spelled
+pub fn decimal(word: &[u8]) -> Option<u64>
     ensures { result ≡ spelled word.now }
 {
-    if word.len() == 0 {
-        return Spelled::Wrong;
+    if word.is_empty() {
+        return None;
     }
-    let mut value: u64 = 0;
-    let mut i: usize = 0;
-    while i < word.len() {
-        let digit = as_u64(word[i]);
-        if digit < 48 {
-            return Spelled::Wrong;
-        }
-        if 57 < digit {
-            return Spelled::Wrong;
-        }
-        if (18446744073709551615 - (digit - 48)) / 10 < value {
-            return Spelled::Wrong;
-        }
-        value = value * 10 + (digit - 48);
-        i += 1;
+    let mut value = 0;
+    for digit in word {
+        value = with_digit(value, *digit)?;
     }
-    Spelled::Number(value)
+    Some(value)
 }
 
-fn as_u64(x: u8) -> u64
-    ensures { result ≡ x }
+// The number so far with one digit more, where the byte is a digit and 64 bits hold the number.
+fn with_digit(value: u64, digit: u8) -> Option<u64>
+    ensures { result ≡ cond (is_digit digit && leb (and_digit value digit) 18446744073709551615) (Some (and_digit value digit)) None }
 {
-    x as u64
+    if !matches!(digit, b'0'..=b'9') {
+        return None;
+    }
+    value.checked_mul(10)?.checked_add(u64::from(digit - b'0'))
+}
+
+#[cfg(test)]
+mod tests {
+    use super::{read, read_front};
+
+    // A limit that is not reached, one that is, and one that is passed.
+    #[test]
+    fn limits(rt: HostRuntime) {
+        for (limit, front, is_whole) in [(6usize, 5usize, true), (5, 5, false), (4, 4, false)] {
+            let bytes = read_front(rt.alloc(), b"bytes".as_slice(), limit).expect(&rt, "memory");
+            assert!(rt; bytes.as_slice() == &b"bytes"[..front]);
+            let given = read(rt.alloc(), b"bytes".as_slice(), limit).expect(&rt, "memory");
+            assert!(rt; given.is_some() == is_whole);
+        }
+    }
 }

@@ -5,7 +5,7 @@ use Rattle.reader.proofs.read.Reads as read
 use Rattle.reader.proofs.read_mended.Reads as read_mended
 use Rattle.reader.proofs.width.image_tag.Reads as image_tag
 use Rattle.reader.proofs.facts.is_replaced.Reads as is_replaced
-use Rattle.reader.proofs.prototype.Reads as prototype
+use Rattle.reader.proofs.locate.prototype.Reads as prototype
 use Rattle.reader.proofs.instruction.Reads as instruction
 
 pub read_determined : (κs : _) (args : _) (r r' : _) (s s' : _) → read.Post κs args r s → read.Post κs args r' s' → r ≡ r'

@@ -24,14 +24,14 @@ use Rattle.meaning.proofs.Images.Fielded.{Bytes}
 use Rattle.meaning.proofs.Images.Assembled.{Tagged}
 use Rattle.meaning.proofs.Mend.{copy_read}
 use Rattle.meaning.proofs.Mend.Laws.{not_replaced, is_replaced, mended_length, mended_at}
-use Rattle.reader.specs.declared.facts.Around.{Around}
+use Rattle.reader.specs.Tests.{Bounds}
 use Rattle.reader.specs.Laid.{code_in}
 use Rattle.reader.specs.Marks.{seen_opcode, first_lead, second_lead}
 use Rattle.reader.specs.Tests.{closure_seen, text_seen, lawful_seen, replaced_seen, kind_seen, seen_test}
 use Rattle.reader.specs.Lens.{lens, lens_code, lens_proto, ordered_by, read_by}
 use Rattle.reader.proofs.Scanned.{byte_at, code_at, seen_is}
 use Rattle.reader.proofs.Tested.{replaced_is}
-use Rattle.reader.proofs.Marking.{or_false, no_place, leads_are, code_length, opcode_there, a_there, bx_there}
+use Rattle.reader.proofs.Marking.{or_false, leads_are, code_length, opcode_there, a_there, bx_there}
 
 -- ---- code
 
@@ -58,7 +58,7 @@ or_true : (b : Bool) → (b || true) ≡ true
 or_true true = refl
 or_true false = refl
 
-module _ (v : Around) (locals outers texts marks : List ℕ) (n i : ℕ) where
+module _ (v : Bounds) (locals outers texts marks : List ℕ) (n i : ℕ) where
   -- Return 0 0 0 passes
   return_passes : (mark : ℕ) → seen_test v locals outers texts marks n i (inst Return 0 0 0 mark) ≡ true
   unfolding seen_test kind_seen
@@ -82,7 +82,7 @@ module _ (s : List ℕ) (tag span at n i : ℕ) (h : i < n) where
       lens_at m (code_in s tag span at n) i (omega arith) ∙ ap (λ (k : ℕ). lens m k i (inst_at (code_in s tag span at n) i)) l
 
   -- the test of the bytes is the test of what is seen
-  pub passed_is : (v : Around) (locals outers texts marks : List ℕ) (m : Bool) (a b c : ℕ) → a ≡ get_or s (at + i * span + 4) 0 → b ≡ get_or s (at + i * span + 5) 0 → c ≡ get_or s (at + i * span + 6) 0
+  pub passed_is : (v : Bounds) (locals outers texts marks : List ℕ) (m : Bool) (a b c : ℕ) → a ≡ get_or s (at + i * span + 4) 0 → b ≡ get_or s (at + i * span + 5) 0 → c ≡ get_or s (at + i * span + 6) 0
       → (closure text r : Bool) → closure ≡ closure_seen v locals outers (b * 256 + c) → text ≡ text_seen v texts (b * 256 + c)
       → r ≡ (lawful_seen v i n (get_or s (at + i * span + 3) 0) a b c (b * 256 + c) closure text (eqb (get_or marks i 0) 1) || (m && replaced_seen (get_or s (at + i * span + 3) 0) a (b * 256 + c) i n))
       → r ≡ seen_test v locals outers texts marks n i (inst_at (lens_code m (code_in s tag span at n)) i)
@@ -113,36 +113,33 @@ jump_leads : (i j : ℕ) (x : Instruction) → eqb x.opcode Jmp ≡ true → som
 unfolding some_of leads
 jump_leads i j x e = rw e (or_false _)
 
-none_lead : (w i j : ℕ) → j < 131072 → (eqb (first_lead 20 w i) j || eqb (second_lead 20 w i) j) ≡ false
-none_lead w i j h = ap₂ (λ (y z : Bool). y || z) (no_place j h) (no_place j h)
-
-module _ (n i j : ℕ) (h : j < n) (few : n < 65536) (x : Instruction) where
+module _ (n i j : ℕ) (h : j < n) (x : Instruction) where
   abbrev leads_of : ℕ → Bool
-  leads_of o = eqb (first_lead o (bx x) i) j || eqb (second_lead o (bx x) i) j
+  leads_of o = is j (first_lead o (bx x) i) || is j (second_lead o (bx x) i)
 
   -- the steps of what is seen are those of the opcode that is asked
   pub lens_leads : (m : Bool) → some_of (is j) (leads i (lens m n i x)) ≡ leads_of (seen_opcode m x.opcode x.a)
   unfolding replaced
-  lens_leads false = leads_are x i j (omega arith)
+  lens_leads false = leads_are x i j
   lens_leads true = go (eqb x.opcode Jmp) refl (eqb x.a 1 || eqb x.a 2) refl (inside n (target i (bx x))) refl
     where
       go : (p : Bool) → eqb x.opcode Jmp ≡ p → (q : Bool) → (eqb x.a 1 || eqb x.a 2) ≡ q → (r : Bool) → inside n (target i (bx x)) ≡ r
           → some_of (is j) (leads i (mended n i x)) ≡ leads_of (cond (p && q) 20 x.opcode)
-      go true ep true eq r er = rw (is_replaced n i x (rw (ep, eq) refl)) (nowhere i j x.mark ∙ sym (none_lead (bx x) i j (omega arith)))
-      go true ep false eq false er = rw (is_replaced n i x (rw (ep, eq, er) refl)) (nowhere i j x.mark ∙ sym (sym (leads_are x i j (omega arith)) ∙ jump_leads i j x ep ∙ outside n j (target i (bx x)) er h))
-      go true ep false eq true er = rw (not_replaced n i x (rw (ep, eq, er) refl)) (leads_are x i j (omega arith))
-      go false ep q eq r er = rw (not_replaced n i x (rw ep refl)) (leads_are x i j (omega arith))
+      go true ep true eq r er = rw (is_replaced n i x (rw (ep, eq) refl)) (nowhere i j x.mark)
+      go true ep false eq false er = rw (is_replaced n i x (rw (ep, eq, er) refl)) (nowhere i j x.mark ∙ sym (sym (leads_are x i j) ∙ jump_leads i j x ep ∙ outside n j (target i (bx x)) er h))
+      go true ep false eq true er = rw (not_replaced n i x (rw (ep, eq, er) refl)) (leads_are x i j)
+      go false ep q eq r er = rw (not_replaced n i x (rw ep refl)) (leads_are x i j)
 
 -- by the bytes that are read
-pub entered_there : (s : List ℕ) (tag span at n i : ℕ) → i < n → n < 65536 → (m : Bool) (o w a b : ℕ)
+pub entered_there : (s : List ℕ) (tag span at n i : ℕ) → i < n → (m : Bool) (o w : ℕ) (a b : Option ℕ)
     → o ≡ seen_opcode m (get_or s (at + i * span + 3) 0) (get_or s (at + i * span + 4) 0) → w ≡ word_at s (at + i * span + 5) → a ≡ first_lead o w i → b ≡ second_lead o w i
-    → (j : ℕ) → j < n → some_of (is j) (leads i (inst_at (lens_code m (code_in s tag span at n)) i)) ≡ (eqb a j || eqb b j)
-entered_there s tag span at n i h few m o w a b eo ew ea eb j l =
+    → (j : ℕ) → j < n → some_of (is j) (leads i (inst_at (lens_code m (code_in s tag span at n)) i)) ≡ (is j a || is j b)
+entered_there s tag span at n i h m o w a b eo ew ea eb j l =
     let x = inst_at (code_in s tag span at n) i in
     let o_is : seen_opcode m x.opcode x.a ≡ o = ap₂ (seen_opcode m) (opcode_there s tag span at n i h) (a_there s tag span at n i h) ∙ sym eo in
     let w-is : bx x ≡ w = bx_there s tag span at n i h ∙ sym ew in
-    ap (λ (y : Instruction). some_of (is j) (leads i y)) (seen_there s tag span at n i h m) ∙ lens_leads n i j l few x m
-    ∙ ap₂ (λ (y z : ℕ). eqb y j || eqb z j) (ap₂ (λ (y z : ℕ). first_lead y z i) o_is w-is ∙ sym ea) (ap₂ (λ (y z : ℕ). second_lead y z i) o_is w-is ∙ sym eb)
+    ap (λ (y : Instruction). some_of (is j) (leads i y)) (seen_there s tag span at n i h m) ∙ lens_leads n i j l x m
+    ∙ ap₂ (λ (y z : Option ℕ). is j y || is j z) (ap₂ (λ (y z : ℕ). first_lead y z i) o_is w-is ∙ sym ea) (ap₂ (λ (y z : ℕ). second_lead y z i) o_is w-is ∙ sym eb)
 
 -- ---- images
 

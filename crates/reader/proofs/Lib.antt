@@ -11,6 +11,7 @@ pub mod Marking
 pub mod Lenses
 pub mod Tables
 pub mod Naming
+pub mod Belows
 pub mod Firsts
 pub mod Ruling
 pub mod Answered

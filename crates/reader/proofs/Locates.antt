@@ -5,13 +5,14 @@ use mathlib.Core.Option.{none}
 use mathlib.Core.List.{List, [], ◌∷◌, ◌++◌, append_assoc, append-nil}
 use Prim.Native.Nat.{ℕ, zero, suc, ◌+◌, ◌-◌, ◌<◌, ◌≤◌}
 use native.Mathlib.Omega.{arith}
-use borrow.Author.Tests.{eq-eqb, ne_eqb}
+use borrow.Author.Tests.{eqb-true, eqb-false, eq-eqb, ne_eqb}
 use lib.ListN.{length, get_or, drop, length-append}
+use lib.Dec.{eqb}
 use Rattle.meaning.specs.Fields.{whole, fields}
 use Rattle.meaning.specs.State.{Proto}
 use Rattle.meaning.specs.Safety.{Holds}
 use Rattle.meaning.proofs.FieldLaws.{from}
-use Rattle.meaning.proofs.Lists.{tail_part}
+use Rattle.meaning.proofs.Lists.{tail_part, false_true}
 use Rattle.meaning.specs.Images.{image_of, parts}
 use Rattle.meaning.specs.Follow.{due, stray}
 use Rattle.reader.specs.Laid.{proto_in, proto_span, part_from, Located, Ordered}
@@ -109,3 +110,12 @@ module _ (s : List ℕ) (tag q : ℕ) (t : List ℕ) (k : ℕ) (ok : Tagged tag)
 
     pub part_behind : t ≡ part_from tag s q
     part_behind = sym (l.same ∙ part_none tag t (q - k) n)
+
+  -- where k is q, whether one follows or not
+  pub placed : k ≡ q → Located (image_of tag (fields s)) tag q t × (t ≡ part_from tag s q)
+  placed e = go (whole t) refl (eqb (get_or t 0 0) 0x41) refl
+    where
+      go : (b : Bool) → whole t ≡ b → (c : Bool) → eqb (get_or t 0 0) 0x41 ≡ c → Located (image_of tag (fields s)) tag q t × (t ≡ part_from tag s q)
+      go true w true h = let z = eqb-true (get_or t 0 0) 0x41 h in (located w z e, part_is w z e)
+      go true w false h = let n = λ (v : whole t ≡ true) (z : get_or t 0 0 ≡ 0x41). eqb-false (get_or t 0 0) 0x41 h z in (not_located n, part_behind n)
+      go false w c h = let n = λ (v : whole t ≡ true) (z : get_or t 0 0 ≡ 0x41). false_true (sym w ∙ v) in (not_located n, part_behind n)

@@ -1,15 +1,16 @@
 -- The bytes say which instructions are entered.
 use mathlib.Core.Path.{◌≡◌, refl, sym, ap, ap₂, ◌∙◌}
 use mathlib.Core.Bool.{Bool, true, false, ◌||◌, cond}
-use mathlib.Core.Option.{none, some}
+use mathlib.Core.Option.{Option, none, some}
 use mathlib.Core.Logic.{⊎_elim}
 use mathlib.Core.List.{List, [], ◌∷◌}
-use Prim.Native.Nat.{ℕ, zero, suc, ◌+◌, ◌-◌, ◌*◌, ◌<◌, ◌≤◌}
+use Prim.Native.Nat.{ℕ, zero, suc, ◌+◌, ◌*◌, ◌<◌, ◌≤◌}
 use native.Mathlib.Omega.{arith}
 use native.Mathlib.Numerals.{add-one}
-use lib.ListN.{length, get_or, set, length-set}
+use lib.ListN.{length, get_or, set, replicate, length-set, length-replicate}
 use lib.Seq.{get_or-set_same, get_or-set_other}
-use lib.Dec.{eqb, leb, ltb}
+use Rattle.std.proofs.lemmas.List.{get_or-replicate}
+use lib.Dec.{eqb, ltb}
 use borrow.Author.Tests.{eqb-true, eqb-false, ne_eqb, lt-ltb, le-ltb}
 use Rattle.meaning.specs.Opcode.{bx, Jmp, Test, Return, RegisterTryCatch}
 use Rattle.meaning.specs.Steps.{target, inst_at}
@@ -26,56 +27,47 @@ pub or_false : (x : Bool) → x || false ≡ x
 or_false true = refl
 or_false false = refl
 
-pub no_place : (j : ℕ) → j < 131072 → eqb 131072 j ≡ false
-no_place j h = ne_eqb 131072 j (λ e. omega arith)
-
 -- the two leads are the steps
-pub leads_are : (x : Instruction) (i j : ℕ) → j < 131072 → some_of (is j) (leads i x) ≡ (eqb (first_lead x.opcode (bx x) i) j || eqb (second_lead x.opcode (bx x) i) j)
+pub leads_are : (x : Instruction) (i j : ℕ) → some_of (is j) (leads i x) ≡ (is j (first_lead x.opcode (bx x) i) || is j (second_lead x.opcode (bx x) i))
 unfolding some_of leads
-leads_are x i j h = go (eqb x.opcode Jmp) refl (eqb x.opcode Return) refl (eqb x.opcode Test) refl (eqb x.opcode RegisterTryCatch) refl
+leads_are x i j = go (eqb x.opcode Jmp) refl (eqb x.opcode Return) refl (eqb x.opcode Test) refl (eqb x.opcode RegisterTryCatch) refl
   where
-    to : is j (target i (bx x)) ≡ eqb (cond (ltb (bx x) 32768) (i + bx x) (cond (leb 65536 (i + bx x)) (i + bx x - 65536) 131072)) j
-    to = by (ltb (bx x) 32768) (leb 65536 (i + bx x))
-      where
-        by : (a b : Bool) → is j (cond a (some (i + bx x)) (cond b (some (i + bx x - 65536)) none)) ≡ eqb (cond a (i + bx x) (cond b (i + bx x - 65536) 131072)) j
-        by true b = refl
-        by false true = refl
-        by false false = sym (no_place j h)
-
     go : (a : Bool) → eqb x.opcode Jmp ≡ a → (r : Bool) → eqb x.opcode Return ≡ r → (t : Bool) → eqb x.opcode Test ≡ t → (k : Bool) → eqb x.opcode RegisterTryCatch ≡ k
         → some_of (is j) (cond a (target i (bx x) ∷ []) (cond r [] (some (i + 1) ∷ cond t (some (i + 2) ∷ []) (cond k (some (i + bx x) ∷ []) []))))
-        ≡ (eqb (cond a (cond (ltb (bx x) 32768) (i + bx x) (cond (leb 65536 (i + bx x)) (i + bx x - 65536) 131072)) (cond r 131072 (i + 1))) j || eqb (cond t (i + 2) (cond k (i + bx x) 131072)) j)
+        ≡ (is j (cond a (target i (bx x)) (cond r none (some (i + 1)))) || is j (cond t (some (i + 2)) (cond k (some (i + bx x)) none)))
     go true p r q true s k u = absurd (let e = eqb-true x.opcode Jmp p in let f = eqb-true x.opcode Test s in omega arith)
     go true p r q false s true u = absurd (let e = eqb-true x.opcode Jmp p in let f = eqb-true x.opcode RegisterTryCatch u in omega arith)
-    go true p r q false s false u = ap₂ (λ (y z : Bool). y || z) to (sym (no_place j h))
+    go true p r q false s false u = refl
     go false p true q true s k u = absurd (let e = eqb-true x.opcode Return q in let f = eqb-true x.opcode Test s in omega arith)
     go false p true q false s true u = absurd (let e = eqb-true x.opcode Return q in let f = eqb-true x.opcode RegisterTryCatch u in omega arith)
-    go false p true q false s false u = sym (ap₂ (λ (y z : Bool). y || z) (no_place j h) (no_place j h))
+    go false p true q false s false u = refl
     go false p false q true s k u = ap (λ (b : Bool). eqb (i + 1) j || b) (or_false (eqb (i + 2) j))
     go false p false q false s true u = ap (λ (b : Bool). eqb (i + 1) j || b) (or_false (eqb (i + bx x) j))
-    go false p false q false s false u = ap (λ (b : Bool). eqb (i + 1) j || b) (sym (no_place j h))
+    go false p false q false s false u = refl
 
 -- one place marked
-mark_at : (n : ℕ) (m : List ℕ) (k j : ℕ) → n ≤ length m → j < n → get_or (mark n m k) j 0 ≡ cond (eqb k j) 1 (get_or m j 0)
-mark_at n m k j h l = ⊎_elim
-    (λ (q : k < n). rw (lt-ltb k n q) (same (eqb k j) refl))
-    (λ (q : n ≤ k). rw (le-ltb k n q, ne_eqb k j (λ e. omega arith)) refl)
-    (lt_or_le k n)
+mark_at : (m : List ℕ) (o : Option ℕ) (j : ℕ) → j < length m → get_or (mark m o) j 0 ≡ cond (is j o) 1 (get_or m j 0)
+mark_at m none j l = refl
+mark_at m (some k) j l = ⊎_elim
+    (λ (q : k < length m). rw (lt-ltb k (length m) q) (same (eqb k j) refl))
+    (λ (q : length m ≤ k). rw (le-ltb k (length m) q, ne_eqb k j (λ e. omega arith)) refl)
+    (lt_or_le k (length m))
   where
     same : (b : Bool) → eqb k j ≡ b → get_or (set m k 1) j 0 ≡ cond (eqb k j) 1 (get_or m j 0)
     same true e = rw e (rw (sym (eqb-true k j e)) (get_or-set_same m k 1 0 (omega (arith, eqb-true k j e))))
     same false e = rw e (get_or-set_other m k j 1 0 (λ z. eqb-false k j e (sym z)))
 
-pub mark_length : (n : ℕ) (m : List ℕ) (k : ℕ) → length (mark n m k) ≡ length m
-mark_length n m k = go (ltb k n)
+pub mark_length : (m : List ℕ) (o : Option ℕ) → length (mark m o) ≡ length m
+mark_length m none = refl
+mark_length m (some k) = go (ltb k (length m))
   where
     go : (b : Bool) → length (cond b (set m k 1) m) ≡ length m
     go true = length-set m k 1
     go false = refl
 
 -- after k instructions
-pub record Marked (code : List Instruction) (n room k : ℕ) (m : List ℕ) : Type 0 where
-  pub size : length m ≡ room
+pub record Marked (code : List Instruction) (n k : ℕ) (m : List ℕ) : Type 0 where
+  pub size : length m ≡ n
   pub each : (j : ℕ) → j < n → get_or m j 0 ≡ cond (entered_by code k j) 1 0
 
 cond_or : (a b c : Bool) → cond b 1 (cond c 1 (cond a 1 0)) ≡ cond {A = ℕ} (a || (c || b)) 1 0
@@ -87,19 +79,19 @@ cond_or false true false = refl
 cond_or false false true = refl
 cond_or false false false = refl
 
-pub marked_more : (code : List Instruction) (n room k : ℕ) (m : List ℕ) → n ≤ room → Marked code n room k m
-    → (a b : ℕ) → ((j : ℕ) → j < n → some_of (is j) (leads k (inst_at code k)) ≡ (eqb a j || eqb b j))
-    → (m' m'' : List ℕ) → m' ≡ mark n m a → m'' ≡ mark n m' b → Marked code n room (k + 1) m''
+pub marked_more : (code : List Instruction) (n k : ℕ) (m : List ℕ) → Marked code n k m
+    → (a b : Option ℕ) → ((j : ℕ) → j < n → some_of (is j) (leads k (inst_at code k)) ≡ (is j a || is j b))
+    → (m' m'' : List ℕ) → m' ≡ mark m a → m'' ≡ mark m' b → Marked code n (k + 1) m''
 unfolding entered_by
-marked_more code n room k m fits v a b both m' m'' e e'' = record {
-  size = ap length e'' ∙ mark_length n m' b ∙ ap length e ∙ mark_length n m a ∙ v.size;
+marked_more code n k m v a b both m' m'' e e'' = record {
+  size = ap length e'' ∙ mark_length m' b ∙ ap length e ∙ mark_length m a ∙ v.size;
   each = λ j h.
-      let one : get_or m' j 0 ≡ cond (eqb a j) 1 (cond (entered_by code k j) 1 0) =
-      ap (λ (y : List ℕ). get_or y j 0) e ∙ mark_at n m a j (omega (arith, v.size)) h ∙ ap (λ (y : ℕ). cond (eqb a j) 1 y) (v.each j h) in
-      let two : get_or m'' j 0 ≡ cond (eqb b j) 1 (get_or m' j 0) =
-      ap (λ (y : List ℕ). get_or y j 0) e'' ∙ mark_at n m' b j (omega (arith, ap length e, mark_length n m a, v.size)) h in
-      two ∙ ap (λ (y : ℕ). cond (eqb b j) 1 y) one
-      ∙ cond_or (entered_by code k j) (eqb b j) (eqb a j)
+      let one : get_or m' j 0 ≡ cond (is j a) 1 (cond (entered_by code k j) 1 0) =
+      ap (λ (y : List ℕ). get_or y j 0) e ∙ mark_at m a j (omega (arith, v.size)) ∙ ap (λ (y : ℕ). cond (is j a) 1 y) (v.each j h) in
+      let two : get_or m'' j 0 ≡ cond (is j b) 1 (get_or m' j 0) =
+      ap (λ (y : List ℕ). get_or y j 0) e'' ∙ mark_at m' b j (omega (arith, ap length e, mark_length m a, v.size)) in
+      two ∙ ap (λ (y : ℕ). cond (is j b) 1 y) one
+      ∙ cond_or (entered_by code k j) (is j b) (is j a)
       ∙ ap (λ (y : Bool). cond (entered_by code k j || y) 1 0) (sym (both j h))
       ∙ ap (λ (y : ℕ). cond (entered_by code y j) 1 0) (sym (add-one k));
 }
@@ -133,12 +125,12 @@ unfolding entered_by by_from
 by_zero code zero j = refl
 by_zero code (suc k) j = ap₂ (λ (y z : Bool). y || z) (by_zero code k j) (leads_same j k (0 + k) (inst_at code k) (omega arith))
 
-pub marked_start : (code : List Instruction) (n room : ℕ) (m : List ℕ) → length m ≡ room → ((j : ℕ) → j < n → get_or m j 0 ≡ 0) → Marked code n room 0 m
+pub marked_start : (code : List Instruction) (n : ℕ) → Marked code n 0 (replicate n 0)
 unfolding entered_by
-marked_start code n room m e z = record { size = e; each = z }
+marked_start code n = record { size = length-replicate n 0; each = λ j h. get_or-replicate n j 0 0 h }
 
-pub marked_end : (code : List Instruction) (n room k : ℕ) (m : List ℕ) → k ≡ length code → Marked code n room k m → Entered code n m
-marked_end code n room k m e v = record { each = λ j h. v.each j h ∙ ap (λ (y : Bool). cond y 1 0) (ap (λ (y : ℕ). entered_by code y j) e ∙ by_zero code (length code) j ∙ by_all 0 code j) }
+pub marked_end : (code : List Instruction) (n k : ℕ) (m : List ℕ) → k ≡ length code → Marked code n k m → Entered code n m
+marked_end code n k m e v = record { each = λ j h. v.each j h ∙ ap (λ (y : Bool). cond y 1 0) (ap (λ (y : ℕ). entered_by code y j) e ∙ by_zero code (length code) j ∙ by_all 0 code j) }
 
 pub code_length : (s : List ℕ) (tag span at n : ℕ) → length (code_in s tag span at n) ≡ n
 unfolding code_in

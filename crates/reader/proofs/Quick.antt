@@ -8,8 +8,10 @@ use lib.ListN.{get_or}
 use lib.Dec.{eqb, leb, ltb}
 use borrow.Author.Tests.{eqb-true, ltb-true, lt-ltb, le-ltb}
 use Rattle.meaning.proofs.Lists.{and_left, and_right, false_true, all_to, all_below}
-use Rattle.reader.specs.declared.facts.Around.{Around}
-use Rattle.reader.specs.Tests.{none_seen, lawful_seen, kind_seen, plain_seen, Kinds}
+use Rattle.reader.specs.declared.facts.Kind.{Kind}
+use Rattle.reader.specs.declared.facts.Kind.TheVariants.{A, Ab, Abc, Asking, Unwritten}
+use Rattle.reader.specs.Around.{number}
+use Rattle.reader.specs.Tests.{Bounds, none_seen, lawful_seen, kind_seen, plain_seen, enough_seen, Kinds}
 
 -- behind the table
 pub kind_beyond : (o : ℕ) → o < 256 → 51 ≤ o → kind_seen o ≡ 4
@@ -19,6 +21,14 @@ kind_beyond o h k = eqb-true (kind_seen o) 4 (rw (le-ltb o 51 k) at (all_below (
 -- the table says the kinds
 pub table_right : (m : List ℕ) → all_to (λ (o : ℕ). eqb (get_or m o 0) (kind_seen o)) 51 ≡ true → Kinds m
 table_right m e = record { each = λ o h. eqb-true (get_or m o 0) (kind_seen o) (all_below (λ (o : ℕ). eqb (get_or m o 0) (kind_seen o)) 51 o e h) }
+
+-- what the code asks of an opcode of a kind below 3 is that
+pub enough_plain : (k : Kind) → number k < 3 → (i n a b c r : ℕ) → enough_seen (number k) i n a b c r ≡ plain_seen (number k) i n a b c r
+enough_plain A h i n a b c r = refl
+enough_plain Ab h i n a b c r = refl
+enough_plain Abc h i n a b c r = refl
+enough_plain Asking h i n a b c r = absurd (omega arith)
+enough_plain Unwritten h i n a b c r = absurd (omega arith)
 
 -- the facts, by the tests of numbers
 abbrev told_by : (kind o : ℕ) → (to next after far a b c b-none call pass a-none some up closure load text : Bool) → Bool
@@ -48,7 +58,7 @@ module _ (to far call pass a-none some up closure load text : Bool) where
   tested false false true = refl
   tested false false false = refl
 
-module _ (v : Around) (i n o a b c w : ℕ) (small : o < 256) (closure text entered : Bool) where
+module _ (v : Bounds) (i n o a b c w : ℕ) (small : o < 256) (closure text entered : Bool) where
   -- what an opcode of a kind below 3 asks at most
   pub plain_lawful : kind_seen o < 3 → plain_seen (kind_seen o) i n a b c v.registers ≡ true → lawful_seen v i n o a b c w closure text entered ≡ true
   plain_lawful k e =

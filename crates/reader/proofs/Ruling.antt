@@ -28,7 +28,10 @@ use Rattle.meaning.proofs.Images.Fielded.{Bytes}
 use Rattle.meaning.proofs.Images.Assembled.{Tagged}
 use Rattle.reader.proofs.Blocks.{Headed}
 use Rattle.reader.proofs.Lenses.{seen_length}
-use Rattle.reader.proofs.Tables.{captures_length, table_more}
+use Rattle.reader.proofs.Tables.{captures_length, table_more, table_front}
+use Rattle.reader.specs.declared.facts.Needs.{Needs}
+use Rattle.reader.specs.Around.{local_needs, outer_needs}
+use Rattle.std.proofs.lemmas.List.{take-map, map-set}
 use Rattle.reader.proofs.Glances.{shift, shift_zero}
 use Rattle.reader.proofs.Firsts.{proto_fails, proto_passes}
 use Rattle.reader.proofs.Locates.{Locating, locating_start, here, split_here, locating_more, none_left}
@@ -102,6 +105,20 @@ ruling_start mend s tag locals outers b o el eo = record {
   outers_size = eo;
   room = omega arith;
 }
+
+-- the tables of the prototypes before
+pub right_front : (ks : List Constant) (ps : List Proto) (needs : List Needs) (texts : List ℕ) (k : ℕ) → length ps ≤ k
+    → Right ks ps (local_needs needs) (outer_needs needs) texts → Right ks ps (local_needs (take k needs)) (outer_needs (take k needs)) texts
+right_front ks ps needs texts k h r = record {
+  locals_right = rw (sym (take-map (λ (x : Needs). x.locals) k needs)) (table_front (λ p. local_need p.captures) _ ps k h r.locals_right);
+  outers_right = rw (sym (take-map (λ (x : Needs). x.outers) k needs)) (table_front (λ p. outer_need p.captures) _ ps k h r.outers_right);
+  names = r.names;
+}
+
+-- an entry more
+pub needs_set : (mend : Bool) (s : List ℕ) (tag : ℕ) (t : List ℕ) (k f : ℕ) (needs : List Needs) (n : ℕ) (v : Needs)
+    → Ruling mend s tag t k f (set (local_needs needs) n v.locals) (set (outer_needs needs) n v.outers) → Ruling mend s tag t k f (local_needs (set needs n v)) (outer_needs (set needs n v))
+needs_set mend s tag t k f needs n v r = rw (map-set (λ (x : Needs). x.locals) needs n v, map-set (λ (x : Needs). x.outers) needs n v) r
 
 module _ (mend : Bool) (s : List ℕ) (tag : ℕ) (ok : Tagged tag) (t : List ℕ) (k f : ℕ) (locals outers : List ℕ) (r : Ruling mend s tag t k f locals outers) where
   abbrev ks : List Constant

@@ -12,7 +12,7 @@ use lib.Seq.{get_or-drop}
 use lib.Dec.{eqb}
 use Rattle.meaning.specs.Opcode.{inst}
 use Rattle.meaning.specs.Steps.{inst_at}
-use Rattle.reader.specs.declared.facts.Around.{Around}
+use Rattle.reader.specs.Tests.{Bounds}
 use Rattle.meaning.specs.Fields.{word_at}
 use Rattle.meaning.specs.Grammar.{short_mark}
 use Rattle.meaning.specs.Images.{inst_size, inst_of, capture_of}
@@ -40,7 +40,7 @@ lies_in span at n i len h r = omega (arith, mul-le-mul_right {m = suc i} {n = n}
 pub byte_at : (s : List ℕ) (k j m : ℕ) → k + j ≡ m → get_or (drop k s) j 0 ≡ get_or s m 0
 byte_at s k j m e = get_or-drop k s j 0 ∙ ap (λ (n : ℕ). get_or s n 0) e
 
-module _ (s : List ℕ) (tag span at n i : ℕ) (h : i < n) (v : Around) (locals outers texts marks : List ℕ) where
+module _ (s : List ℕ) (tag span at n i : ℕ) (h : i < n) (v : Bounds) (locals outers texts marks : List ℕ) where
   -- the test of the bytes is the test of the instruction
   pub seen_is : (a b c : ℕ) → a ≡ get_or s (at + i * span + 4) 0 → b ≡ get_or s (at + i * span + 5) 0 → c ≡ get_or s (at + i * span + 6) 0
       → (closure text r : Bool) → closure ≡ closure_seen v locals outers (b * 256 + c) → text ≡ text_seen v texts (b * 256 + c)

@@ -5,8 +5,8 @@ use mathlib.Core.Logic.{⊎_elim}
 use mathlib.Core.List.{List, [], ◌∷◌, ◌++◌}
 use Prim.Native.Nat.{ℕ, zero, suc, ◌+◌, ◌*◌, ◌<◌, ◌≤◌}
 use native.Mathlib.Omega.{arith}
-use lib.ListN.{length, get_or, set, length-append}
-use lib.Seq.{get_or-set_same, get_or-set_other}
+use lib.ListN.{length, get_or, set, take, length-append}
+use lib.Seq.{get_or-take, get_or-set_same, get_or-set_other}
 use lib.Dec.{eqb, leb, ltb}
 use borrow.Author.Tests.{eqb-true, lt-ltb, le-ltb}
 use Rattle.meaning.specs.Opcode.{bx}
@@ -23,7 +23,7 @@ use Rattle.reader.specs.Lens.{lens_code, lens_proto}
 use Rattle.reader.proofs.Lenses.{lens_small, seen_length, seen_there}
 use Rattle.meaning.specs.declared.Instruction.{Instruction}
 use Rattle.meaning.proofs.Lists.{lt_or_le}
-use Rattle.reader.specs.declared.facts.Around.{Around}
+use Rattle.reader.specs.Tests.{Bounds}
 use Rattle.meaning.specs.Rules.{all, passes_at, entered, let_pass, capture_fits, is_text, lawful}
 use Rattle.reader.specs.Marks.{Entered}
 use Rattle.reader.specs.Right.{Table, Right}
@@ -75,11 +75,15 @@ module _ {A : Type 0} (f : A → ℕ) (m : List ℕ) (done : List A) (p : A) (n 
       (at_end (λ x. get_or (set m n v) (length done) 0 ≡ f x) done (ap (λ (i : ℕ). get_or (set m n v) i 0) e ∙ get_or-set_same m n v 0 h ∙ is)))
       (lt_or_le q (length done))
 
+-- a table is right by its front
+pub table_front : {A : Type 0} (f : A → ℕ) (m : List ℕ) (xs : List A) (n : ℕ) → length xs ≤ n → Table f m xs → Table f (take n m) xs
+table_front f m xs n h t q l = holds_map (λ x. get_or m q 0 ≡ f x) (λ x. get_or (take n m) q 0 ≡ f x) (λ x g. get_or-take n m q 0 (omega arith) ∙ g) xs q (t q l)
+
 flag_one : (b : Bool) → eqb (flag b) 1 ≡ b
 flag_one true = refl
 flag_one false = refl
 
-module _ (ks : List Constant) (ps : List Proto) (locals outers texts : List ℕ) (t : Right ks ps locals outers texts) (v : Around) (ep : v.prototypes ≡ length ps) (ek : v.constants ≡ length ks) where
+module _ (ks : List Constant) (ps : List Proto) (locals outers texts : List ℕ) (t : Right ks ps locals outers texts) (v : Bounds) (ep : v.prototypes ≡ length ps) (ek : v.constants ≡ length ks) where
   closure_is : (w : ℕ) → closure_seen v locals outers w ≡ passes_at (λ q. all (capture_fits v.registers v.captures) q.captures) ps w
   closure_is w = ⊎_elim
       (λ (h : w < v.prototypes). rw (lt-ltb w v.prototypes h) (passes_by (λ q. all (capture_fits v.registers v.captures) q.captures) ps w (leb (get_or locals w 0) v.registers && leb (get_or outers w 0) v.captures)
@@ -127,7 +131,7 @@ mark_one : (b : Bool) → eqb (cond b 1 0) 1 ≡ b
 mark_one true = refl
 mark_one false = refl
 
-module _ (ks : List Constant) (ps : List Proto) (locals outers texts marks : List ℕ) (t : Right ks ps locals outers texts) (v : Around) (ep : v.prototypes ≡ length ps) (ek : v.constants ≡ length ks)
+module _ (ks : List Constant) (ps : List Proto) (locals outers texts marks : List ℕ) (t : Right ks ps locals outers texts) (v : Bounds) (ep : v.prototypes ≡ length ps) (ek : v.constants ≡ length ks)
     (r : List ℕ) (tag : ℕ) (mend : Bool) (bytes : (i : ℕ) → get_or r i 0 < 256) (er : v.registers ≡ word_at r 7) (ec : v.captures ≡ word_at r 9) where
   abbrev code : List Instruction
   code = lens_code mend (code_in r tag (3 + inst_size tag) (13 + word_at r 9 * 5) (word_at r 11))

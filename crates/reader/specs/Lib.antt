@@ -6,3 +6,4 @@ pub mod Right
 pub mod Marks
 pub mod Laid
 pub mod Lens
+pub mod Around

@@ -1,6 +1,7 @@
 -- A byte for each instruction that a step enters.
-use Rattle.std.specs.Prelude.{ℕ, zero, suc, ◌+◌, ◌-◌, ◌<◌, ◌≡◌, Bool, false, ◌&&◌, ◌||◌, cond, List, get_or, set, eqb, leb, ltb}
-use Rattle.meaning.specs.Steps.{inst_at}
+use Rattle.std.specs.Prelude.{ℕ, zero, suc, ◌+◌, ◌<◌, ◌≡◌, Bool, false, ◌&&◌, ◌||◌, cond, List, length, get_or, set, eqb, ltb}
+use Rattle.std.proofs.Math.Option.{Option, none, some}
+use Rattle.meaning.specs.Steps.{inst_at, target}
 use Rattle.meaning.specs.declared.Instruction.{Instruction}
 use Rattle.meaning.specs.Rules.{some_of, is, leads, entered}
 
@@ -8,17 +9,18 @@ use Rattle.meaning.specs.Rules.{some_of, is, leads, entered}
 abbrev pub seen_opcode : (mend : Bool) → (o a : ℕ) → ℕ
 seen_opcode mend o a = cond (mend && (eqb o 3 && (eqb a 1 || eqb a 2))) 20 o
 
--- where the first step of an opcode at index i leads, with w in b and c; 131,072, which no place is, where there is none
-abbrev pub first_lead : (o w i : ℕ) → ℕ
-first_lead o w i = cond (eqb o 3) (cond (ltb w 32768) (i + w) (cond (leb 65536 (i + w)) (i + w - 65536) 131072)) (cond (eqb o 20) 131072 (i + 1))
+-- where the first step of an opcode at index i leads, with w in b and c
+abbrev pub first_lead : (o w i : ℕ) → Option ℕ
+first_lead o w i = cond (eqb o 3) (target i w) (cond (eqb o 20) none (some (i + 1)))
 
 -- the second
-abbrev pub second_lead : (o w i : ℕ) → ℕ
-second_lead o w i = cond (eqb o 4) (i + 2) (cond (eqb o 48) (i + w) 131072)
+abbrev pub second_lead : (o w i : ℕ) → Option ℕ
+second_lead o w i = cond (eqb o 4) (some (i + 2)) (cond (eqb o 48) (some (i + w)) none)
 
--- place j is marked, where it is one of n
-abbrev pub mark : (n : ℕ) → List ℕ → (j : ℕ) → List ℕ
-mark n m j = cond (ltb j n) (set m j 1) m
+-- the place that a step leads to is marked, where it is one of them
+abbrev pub mark : List ℕ → Option ℕ → List ℕ
+mark m none = m
+mark m (some j) = cond (ltb j (length m)) (set m j 1) m
 
 -- a step of one of the first k instructions leads to j
 unfoldable pub entered_by : List Instruction → (k j : ℕ) → Bool

@@ -1,7 +1,6 @@
 -- The facts of an instruction as the code asks them: numbers, and tests of numbers. Only contracts of inner functions cite this; proofs/Tested proves that they say what Rules says.
 use Rattle.std.specs.Prelude.{ℕ, max, ◌+◌, ◌<◌, ◌≡◌, Bool, not, ◌&&◌, ◌||◌, cond, eqb, leb, ltb, get_or, List, [], ◌∷◌}
 use Rattle.meaning.specs.State.{Capture, among}
-use Rattle.reader.specs.declared.facts.Around.{Around}
 use Rattle.meaning.specs.Opcode.{Meets, of_none, of_a, of_ab, of_abc, of_return, of_call, meets, opcodes_written, bx, Jmp, LoadK, Call, GetUpval, Closure, RegisterTryCatch}
 use Rattle.meaning.specs.Safety.{name_due}
 use Rattle.meaning.specs.declared.Instruction.{Instruction}
@@ -63,27 +62,34 @@ operands_seen o a b c w captures closure text constants =
 
 -- ---- with the tables
 
+-- what is around an instruction: the registers and captures of its prototype, how many prototypes stand before it, how many constants there are
+pub record Bounds : Type 0 where
+  pub registers : ℕ
+  pub captures : ℕ
+  pub prototypes : ℕ
+  pub constants : ℕ
+
 -- one of the prototypes, whose captures need no more registers and captures than its creator has
-abbrev pub closure_seen : (around : Around) → (locals outers : List ℕ) → (w : ℕ) → Bool
+abbrev pub closure_seen : (around : Bounds) → (locals outers : List ℕ) → (w : ℕ) → Bool
 closure_seen v locals outers w = ltb w v.prototypes && (leb (get_or locals w 0) v.registers && leb (get_or outers w 0) v.captures)
 
 -- one of the constants, and a text
-abbrev pub text_seen : (around : Around) → (texts : List ℕ) → (w : ℕ) → Bool
+abbrev pub text_seen : (around : Bounds) → (texts : List ℕ) → (w : ℕ) → Bool
 text_seen v texts w = ltb w v.constants && eqb (get_or texts w 0) 1
 
 -- of an instruction at index i of n, whose opcode is of this kind; `entered` says whether a step enters it
-abbrev pub lawful_by : (kind : ℕ) → (around : Around) → (i n o a b c w : ℕ) → (closure text entered : Bool) → Bool
+abbrev pub lawful_by : (kind : ℕ) → (around : Bounds) → (i n o a b c w : ℕ) → (closure text entered : Bool) → Bool
 lawful_by k v i n o a b c w closure text entered =
     ltb k 4
     && (steps_seen o w i n
     && ((registers_seen k o a b c v.registers || ((eqb o 20 && eqb a 0) && (eqb v.registers 0 && (ltb 0 i && not entered))))
     && operands_seen o a b c w v.captures closure text v.constants))
 
-abbrev pub lawful_seen : (around : Around) → (i n o a b c w : ℕ) → (closure text entered : Bool) → Bool
+abbrev pub lawful_seen : (around : Bounds) → (i n o a b c w : ℕ) → (closure text entered : Bool) → Bool
 lawful_seen v i n o a b c w closure text entered = lawful_by (kind_seen o) v i n o a b c w closure text entered
 
 -- the same of an instruction, by the tables
-unfoldable pub seen_test : (around : Around) → (locals outers texts marks : List ℕ) → (n i : ℕ) → Instruction → Bool
+unfoldable pub seen_test : (around : Bounds) → (locals outers texts marks : List ℕ) → (n i : ℕ) → Instruction → Bool
 seen_test v locals outers texts marks n i x =
     lawful_seen v i n x.opcode x.a x.b x.c (bx x) (closure_seen v locals outers (bx x)) (text_seen v texts (bx x)) (eqb (get_or marks i 0) 1)
 
@@ -92,6 +98,10 @@ seen_test v locals outers texts marks n i x =
 -- what is enough, with two more instructions behind it
 abbrev pub plain_seen : (kind i n a b c registers : ℕ) → Bool
 plain_seen k i n a b c r = ltb (i + 2) n && (ltb a r && ((eqb k 0 || ltb b r) && (leb k 1 || ltb c r)))
+
+-- as the code asks it: the same of a kind below 3
+abbrev pub enough_seen : (kind i n a b c registers : ℕ) → Bool
+enough_seen k i n a b c r = ltb (i + 2) n && (ltb a r && ((not (eqb k 1 || eqb k 2) || ltb b r) && (not (eqb k 2) || ltb c r)))
 
 -- ---- what captures need
 

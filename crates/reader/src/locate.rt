@@ -2,9 +2,10 @@
 ghost use Rattle.std.specs.Prelude.{◌≡◌, true, false, cond, ◌+◌, ◌*◌, ◌<◌, ◌≤◌, length, get_or, drop, eqb};
 ghost use Rattle.meaning.specs.Fields.{fields, whole, word_at};
 ghost use Rattle.meaning.specs.Grammar.{short_mark};
-ghost use Rattle.meaning.specs.Images.{inst_size, inst_of, image_of};
-ghost use Rattle.reader.specs.Laid.{part_from, Ordered, Located};
+ghost use Rattle.meaning.specs.Images.{inst_of, image_of};
+ghost use Rattle.reader.specs.Laid.{part_from, proto_span, Ordered, Located};
 
+use crate::order::inst_size;
 use fields::{is_whole, word};
 use meaning::Instruction;
 
@@ -18,20 +19,25 @@ pub fn heads(t: &[u8]) -> bool
     false
 }
 
-// The part of an image in order from prototype q on; where there are not so many, that behind the last.
-pub(crate) fn prototype<'a>(image: &'a [u8], tag: u8, size: usize, q: usize) -> &'a [u8]
-    requires { Ordered image.now tag × (size ≡ 3 + inst_size tag) }
+// The bytes of the prototype whose header stands at the front.
+pub(crate) fn proto_span(t: &[u8], tag: u8) -> usize
+    requires { 13 ≤ length t.now }
+    ensures { result ≡ proto_span t.now tag }
+{
+    13 + word(t, 9) * 5 + word(t, 11) * (3 + inst_size(tag))
+}
+
+// The part of an image in order from prototype q on; where there are not so many, that behind the last, which is the constants.
+pub fn prototype<'a>(image: &'a [u8], tag: u8, q: usize) -> &'a [u8]
+    requires { Ordered image.now tag }
     ensures { Located (image_of tag (fields image.now)) tag q result.now × (result.now ≡ part_from tag image.now q) }
 {
     let mut t = image;
-    let mut k: usize = 0;
-    while heads(t) {
-        if k == q {
+    for _ in 0..q {
+        if !heads(t) {
             return t;
         }
-        let n = 13 + word(t, 9) * 5 + word(t, 11) * size;
-        t = &t[n..];
-        k = k + 1;
+        t = &t[proto_span(t, tag)..];
     }
     t
 }
@@ -44,15 +50,18 @@ fn short_mark(v: usize) -> u32
     if v == 65535 {
         return 4294967295;
     }
+    // stays: no From leads from usize to u32, and a TryFrom would test again what the clause says.
     v as u32
 }
 
+// stays: the tag is a byte, since `instruction` takes any (`inst_of tag`).
 // The mark at a place: two bytes, with 47 four.
 fn mark_at(s: &[u8], tag: u8, at: usize) -> u32
     requires { (at + 2 ≤ length s.now) × (tag ≡ 0x47 → at + 4 ≤ length s.now) }
     ensures { result ≡ cond (eqb tag 0x47) (word_at s.now at * 65536 + word_at s.now (at + 2)) (short_mark (word_at s.now at)) }
 {
     if tag == 0x47 {
+        // stays: as in `short_mark`.
         return (word(s, at) * 65536 + word(s, at + 2)) as u32;
     }
     short_mark(word(s, at))

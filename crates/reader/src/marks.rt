@@ -1,21 +1,27 @@
 // Which instructions of a prototype are entered by a step: a byte for each.
 ghost use Rattle.std.specs.Prelude.{◌≡◌, ◌+◌, ◌*◌, ◌<◌, ◌≤◌, length};
+ghost use Rattle.meaning.specs.Images.{inst_size};
+ghost use Rattle.meaning.specs.Steps.{target};
 ghost use Rattle.reader.specs.Laid.{code_in};
 ghost use Rattle.reader.specs.Lens.{lens_code};
 ghost use Rattle.reader.specs.Marks.{seen_opcode, first_lead, second_lead, mark, Entered};
+ghost use Rattle.reader.specs.Spots.{spot_of};
 
+use crate::order::inst_size;
 use fields::word;
 
-// Marks j where it is one of n.
-fn mark(marks: &mut [u8], n: usize, j: usize)
-    requires { n ≤ length marks.old }
-    ensures { marks.new ≡ mark n marks.old j }
+// Marks the place that a step leads to, where it is one of them.
+fn mark(marks: &mut [u8], lead: Option<usize>)
+    ensures { marks.new ≡ mark marks.old (spot_of lead) }
 {
-    if j < n {
-        marks[j] = 1;
+    if let Some(j) = lead {
+        if j < marks.len() {
+            marks[j] = 1;
+        }
     }
 }
 
+// stays: opcodes by number, as facts.rt says of them; specs/Marks has the same numbers.
 // The opcode that is asked for its steps. A Jmp out of the prototype enters nothing, replaced or not.
 fn seen_opcode(o: u8, a: u8, mend: bool) -> u8
     ensures { result ≡ seen_opcode mend o a }
@@ -26,65 +32,53 @@ fn seen_opcode(o: u8, a: u8, mend: bool) -> u8
     o
 }
 
-// Where the first step of an opcode at index i leads, or 131,072.
-fn first_lead(o: u8, w: usize, i: usize) -> usize
+// Where a jump by w, which has a sign, leads from index i.
+fn target(i: usize, w: usize) -> Option<usize>
     requires { (w < 65536) × (i < 65536) }
-    ensures { result ≡ first_lead o w i }
+    ensures { spot_of result ≡ target i w }
 {
-    if o == 3 {
-        if w < 32768 {
-            return i + w;
-        }
-        if 65536 <= i + w {
-            return i + w - 65536;
-        }
-        return 131072;
+    if w < 32768 {
+        return Some(i + w);
     }
-    if o == 20 {
-        return 131072;
+    (i + w).checked_sub(65536)
+}
+
+// Where the first step of an opcode at index i leads.
+fn first_lead(o: u8, w: usize, i: usize) -> Option<usize>
+    requires { (w < 65536) × (i < 65536) }
+    ensures { spot_of result ≡ first_lead o w i }
+{
+    match o {
+        3 => target(i, w),
+        20 => None,
+        _ => Some(i + 1),
     }
-    i + 1
 }
 
 // The second.
-fn second_lead(o: u8, w: usize, i: usize) -> usize
+fn second_lead(o: u8, w: usize, i: usize) -> Option<usize>
     requires { (w < 65536) × (i < 65536) }
-    ensures { result ≡ second_lead o w i }
+    ensures { spot_of result ≡ second_lead o w i }
 {
-    if o == 4 {
-        return i + 2;
+    match o {
+        4 => Some(i + 2),
+        48 => Some(i + w),
+        _ => None,
     }
-    if o == 48 {
-        return i + w;
-    }
-    131072
 }
 
-// A byte of n is 1 exactly where a step of one of n instructions, as they are seen, leads there, else 0. They lie from `at` on, each in `span` bytes.
-pub(crate) fn mark_entered(
-    t: &[u8],
-    tag: u8,
-    span: usize,
-    at: usize,
-    n: usize,
-    marks: &mut [u8],
-    mend: bool,
-)
-    requires { (n < 65536) × (7 ≤ span) × (at + n * span ≤ length t.now) × (n ≤ length marks.old) }
-    ensures { Entered (lens_code mend (code_in t.now tag span at n)) n marks.new }
+// A byte is 1 exactly where a step of one of so many instructions, as they are seen, leads there, else 0. They lie from `at` on.
+pub(crate) fn mark_entered(t: &[u8], tag: u8, at: usize, marks: &mut [u8], mend: bool)
+    requires { (length marks.old < 65536) × (at + length marks.old * (3 + inst_size tag) ≤ length t.now) }
+    ensures { Entered (lens_code mend (code_in t.now tag (3 + inst_size tag) at (length marks.old))) (length marks.old) marks.new }
 {
-    let mut k: usize = 0;
-    while k < n {
-        marks[k] = 0;
-        k = k + 1;
-    }
-    let mut i: usize = 0;
-    while i < n {
+    let span = 3 + inst_size(tag);
+    marks.fill(0);
+    for i in 0..marks.len() {
         let base = at + i * span;
         let o = seen_opcode(t[base + 3], t[base + 4], mend);
         let w = word(t, base + 5);
-        mark(marks, n, first_lead(o, w, i));
-        mark(marks, n, second_lead(o, w, i));
-        i = i + 1;
+        mark(marks, first_lead(o, w, i));
+        mark(marks, second_lead(o, w, i));
     }
 }

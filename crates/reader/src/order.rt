@@ -6,15 +6,8 @@ ghost use Rattle.meaning.specs.Follow.{at_first, stray};
 ghost use Rattle.reader.specs.Glance.{Glanced, whole_seen, follows_seen, due_seen, ready, less, Run};
 ghost use Rattle.reader.specs.Spots.{spot_of};
 
-use fields::{as_size, is_whole, span_of, word};
+use fields::{Fields, is_whole, word};
 use meaning::Due;
-
-// A place, or none.
-#[derive(Clone, Copy)]
-pub enum Spot {
-    Nowhere,
-    At(usize),
-}
 
 // The whole fields of a file, and the bytes that stand after them.
 #[derive(Clone, Copy)]
@@ -27,17 +20,13 @@ pub struct Framed {
 pub fn frame(image: &[u8]) -> Framed
     ensures { (result.count ≡ length (fields image.now)) × (result.after ≡ length (left image.now)) }
 {
-    let mut t = image;
     let mut count: usize = 0;
-    while is_whole(t) {
-        let k = span_of(t);
-        t = &t[k..];
-        count = count + 1;
+    let mut after = image.len();
+    for field in Fields::new(image) {
+        count += 1;
+        after -= 3 + field.payload.len();
     }
-    Framed {
-        count: count,
-        after: t.len(),
-    }
+    Framed { count, after }
 }
 
 // What is read of a field to judge it: its tag and its length; of two bytes the first; of a header the counts.
@@ -55,35 +44,28 @@ fn glance(t: &[u8]) -> Seen
     requires { whole t.now ≡ true }
     ensures { Glanced (front t.now) result }
 {
-    let tag = t[0];
-    let size = word(t, 1);
-    if size == 10 {
-        return Seen {
-            tag: tag,
-            size: size,
-            first: 0,
-            captures: word(t, 9),
-            code: word(t, 11),
-        };
-    }
-    if size == 2 {
-        return Seen {
-            tag: tag,
-            size: size,
-            first: as_size(t[3]),
-            captures: 0,
-            code: 0,
-        };
-    }
-    Seen {
-        tag: tag,
-        size: size,
+    let seen = Seen {
+        tag: t[0],
+        size: word(t, 1),
         first: 0,
         captures: 0,
         code: 0,
+    };
+    match seen.size {
+        10 => Seen {
+            captures: word(t, 9),
+            code: word(t, 11),
+            ..seen
+        },
+        2 => Seen {
+            first: usize::from(t[3]),
+            ..seen
+        },
+        _ => seen,
     }
 }
 
+// stays: tags are bytes, since any byte of an image may stand for one: an enum would be made of it here, and specs/Glance has the numbers.
 // A header or a constant can follow where a prototype is whole.
 fn whole_seen(d: Due, r: Seen) -> bool
     ensures { result ≡ whole_seen d r }
@@ -113,17 +95,14 @@ fn due_seen(d: Due, r: Seen) -> Due
     if 0 < d.captures {
         return Due {
             captures: d.captures - 1,
-            code: d.code,
-            prototypes: d.prototypes,
-            constants: d.constants,
+            ..d
         };
     }
     if 0 < d.code {
         return Due {
             captures: 0,
             code: d.code - 1,
-            prototypes: d.prototypes,
-            constants: d.constants,
+            ..d
         };
     }
     if r.tag == 0x41 {
@@ -137,8 +116,8 @@ fn due_seen(d: Due, r: Seen) -> Due
     Due {
         captures: 0,
         code: 0,
-        prototypes: d.prototypes,
         constants: d.constants + 1,
+        ..d
     }
 }
 
@@ -175,20 +154,9 @@ fn less(d: Due, m: usize) -> Due
     ensures { result ≡ less d m }
 {
     Due {
-        captures: d.captures,
         code: d.code - m,
-        prototypes: d.prototypes,
-        constants: d.constants,
+        ..d
     }
-}
-
-fn lesser(a: usize, b: usize) -> usize
-    ensures { (result ≤ a) × (result ≤ b) }
-{
-    if a < b {
-        return a;
-    }
-    b
 }
 
 // How many of n fields from the front on are whole instructions. They are of one size, so the next one's place is known before a length is read.
@@ -197,30 +165,26 @@ fn run(t: &[u8], tag: u8, size: usize, n: usize) -> usize
     ensures { Run t.now tag size n result }
 {
     let span = 3 + size;
-    let most = lesser(n, t.len() / span);
-    let mut at: usize = 0;
-    let mut i: usize = 0;
-    while i < most {
+    let most = n.min(t.len() / span);
+    for i in 0..most {
+        let at = i * span;
         if (t[at] != tag) | (word(t, at + 1) != size) {
             return i;
         }
-        at = at + span;
-        i = i + 1;
     }
-    i
+    most
 }
 
 // What one walk tells: the whole fields, the bytes after them, the first field that cannot follow, or the field count where the end is too soon.
 #[derive(Clone, Copy)]
 pub struct Walked {
-    pub count: usize,
-    pub after: usize,
-    pub spot: Spot,
+    pub framed: Framed,
+    pub spot: Option<usize>,
 }
 
 // Frame and order in one walk. Where a field cannot follow, the fields are counted from the first on: 19 is of the whole input.
 pub fn order(image: &[u8], tag: u8) -> Walked
-    ensures { (result.count ≡ length (fields image.now)) × (result.after ≡ length (left image.now)) × (spot_of result.spot ≡ stray tag at_first (fields image.now)) }
+    ensures { (result.framed.count ≡ length (fields image.now)) × (result.framed.after ≡ length (left image.now)) × (spot_of result.spot ≡ stray tag at_first (fields image.now)) }
 {
     let size = inst_size(tag);
     let mut t = image;
@@ -231,14 +195,13 @@ pub fn order(image: &[u8], tag: u8) -> Walked
         constants: 0,
     };
     let mut i: usize = 0;
+    // stays: a turn passes a field and the run of instructions behind it, which no iterator hands on as one item.
     while is_whole(t) {
         let seen = glance(t);
         if !follows_seen(tag, size, d, seen) {
-            let framed = frame(image);
             return Walked {
-                count: framed.count,
-                after: framed.after,
-                spot: Spot::At(i),
+                framed: frame(image),
+                spot: Some(i),
             };
         }
         d = due_seen(d, seen);
@@ -250,16 +213,15 @@ pub fn order(image: &[u8], tag: u8) -> Walked
         d = less(d, m);
         i = i + 1 + m;
     }
-    if may_end(d) {
-        return Walked {
-            count: i,
-            after: t.len(),
-            spot: Spot::Nowhere,
-        };
-    }
-    Walked {
+    let framed = Framed {
         count: i,
         after: t.len(),
-        spot: Spot::At(i),
+    };
+    if may_end(d) {
+        return Walked { framed, spot: None };
+    }
+    Walked {
+        framed,
+        spot: Some(i),
     }
 }

@@ -1,9 +1,11 @@
 -- What a node of a lawful tree holds, for the functions that read it. Reading (of meaning) has it, tag by tag.
 use Prim.Native.Nat.{ℕ, zero, suc, ◌<◌, ◌≤◌}
-use mathlib.Core.Path.{◌≡◌, refl, sym, ap, ◌∙◌}
+use mathlib.Core.Path.{◌≡◌, refl, ap, ◌∙◌}
 use mathlib.Core.Bool.{true}
 use mathlib.Core.List.{List}
-use mathlib.Core.Option.{Option, none, some}
+use mathlib.Core.Option.{none}
+use Rattle.std.specs.Prelude.{None, Some}
+use Rattle.nodes.specs.Nodes.{unless_absent}
 use native.Mathlib.Omega.{arith}
 use native.Mathlib.Decide.{ℕ_discrete}
 use lib.ListN.{length}
@@ -15,12 +17,10 @@ use Rattle.meaning.specs.Read.{Readers, token, read_expr, readers, words_at}
 use Rattle.meaning.specs.At.{tag_of, word_of, file_words, expr_at, variable_at, super_at}
 use Rattle.meaning.proofs.Reading.{number_node, text_node, other_node}
 use Rattle.meaning.proofs.Places.{none_of, unmarked, rest, from_first}
-use Rattle.values.specs.declared.literal.Immediate.TheVariants.{Is, Not}
-use Rattle.values.specs.Literals.{constant_at, small_as}
+use Rattle.values.specs.Literals.{constant_at}
 use Rattle.store.specs.declared.Scope.{Scope}
 use Rattle.store.specs.Store.{nodes_of, Kept}
-use Rattle.store.specs.declared.Found.{Found}
-use Rattle.store.specs.declared.Found.TheVariants.{At, Nothing, Full}
+use Rattle.std.specs.Prelude as given
 use Rattle.store.specs.Search.{option_of, in_byte}
 use Rattle.nodes.specs.Offsets.{Readable}
 use Rattle.nodes.specs.Nodes.{Node}
@@ -84,6 +84,21 @@ pub super_some : (fs : List Field) (c : ℕ) → (c ≡ 65535 → ⊥) → super
 unfolding super_at variable_at readers
 super_some fs c e = rw (ne_eqb c 65535 e)
 
+-- what a class holds of it
+pub present_is : (n : ℕ) {m : ℕ} → Some m ≡ unless_absent n → (n ≡ 65535 → ⊥) × (m ≡ n)
+present_is n {m} e = by (ℕ_discrete n 65535)
+  where
+    by : Dec (n ≡ 65535) → (n ≡ 65535 → ⊥) × (m ≡ n)
+    by (yes z) = let y = rw (eq-eqb n 65535 z) at e in absurd (let o : ◌≡◌ {A = ℕ} 0 1 = cc in omega arith)
+    by (no h) = let y = rw (ne_eqb n 65535 h) at e in (h, cc)
+
+pub absent_is : (n : ℕ) → None ≡ unless_absent n → n ≡ 65535
+absent_is n e = by (ℕ_discrete n 65535)
+  where
+    by : Dec (n ≡ 65535) → n ≡ 65535
+    by (yes z) = z
+    by (no h) = let y = rw (ne_eqb n 65535 h) at e in absurd (let o : ◌≡◌ {A = ℕ} 0 1 = cc in omega arith)
+
 -- ---- an operand that is no number
 
 plain : (r : Readers) (i : ℕ) (ws : List ℕ) (tag : ℕ) → (tag ≡ 0x01 → ⊥) → small_operand (read_expr r i tag ws) ≡ none
@@ -106,18 +121,9 @@ plain_operand fs i h = plain (readers fs i) i (words_at fs i) (tag_of fs i) h
 
 -- ---- what was found, by its case
 
-pub not_small : (o : Option ℕ) → Not ≡ small_as o → o ≡ none
-not_small none e = refl
-not_small (some k) e = absurd (let z : ◌≡◌ {A = ℕ} 0 1 = cc in omega arith)
+pub not_found : (f : given.Option ℕ) → ((i : ℕ) → f ≡ given.Some i → ⊥) → option_of f ≡ none
+not_found (given.Some j) h = absurd (h j refl)
+not_found given.None h = refl
 
-pub is_small : (o : Option ℕ) (k : ℕ) → Is k ≡ small_as o → o ≡ some k
-is_small none k e = absurd (let z : ◌≡◌ {A = ℕ} 0 1 = cc in omega arith)
-is_small (some j) k e = let z : k ≡ j = cc in ap some (sym z)
-
-pub not_found : (f : Found) → ((i : ℕ) → f ≡ At i → ⊥) → option_of f ≡ none
-not_found (At j) h = absurd (h j refl)
-not_found Nothing h = refl
-not_found Full h = refl
-
-pub found_small : {f : Found} {i : ℕ} → f ≡ At i → in_byte f → i < 255
+pub found_small : {f : given.Option ℕ} {i : ℕ} → f ≡ given.Some i → in_byte f → i < 255
 found_small e h = rw e at h

@@ -4,8 +4,8 @@ use mathlib.Core.Path.{◌≡◌, refl, sym, ap, subst, ◌∙◌}
 use mathlib.Core.List.{List, []}
 use native.Mathlib.Omega.{arith}
 use Rattle.meaning.specs.State.{Proto, M}
-use Rattle.meaning.specs.declared.Outcome.{Outcome}
-use Rattle.meaning.specs.declared.Outcome.TheVariants.{Accepted, Refused}
+use Rattle.std.specs.Prelude.{Ok, Err}
+use Rattle.meaning.specs.Outcome.{Outcome}
 use Rattle.meaning.specs.declared.Instruction.{Instruction}
 use Rattle.meaning.specs.declared.Cause.{Cause}
 use Rattle.forward.specs.Forward.{Config, Run, going, bind, sure, put, emit, Answers}
@@ -85,8 +85,8 @@ pub small_refused : (s : Step) (k : Cause) (n : ℕ) → Small (refused_step s k
 small_refused s k n = by (outcome_of s)
   where
     by : (o : Outcome) → while_going (refused_by o k n) ((refused_step s k n).result < 255)
-    by (Accepted x) = tt
-    by (Refused x y) = tt
+    by (Ok x) = tt
+    by (Err why) = tt
 
 -- ---- the whole
 

@@ -1,6 +1,5 @@
 -- A node that has no child to lower: what its function is given, and what it promises.
-use Rattle.std.specs.Prelude.{ℕ, ◌*◌, ◌<◌, ◌≤◌, ◌≡◌, true, cond, List, length, ltb}
-use Rattle.std.proofs.Math.Option.{Option, none, some}
+use Rattle.std.specs.Prelude.{ℕ, ◌*◌, ◌<◌, ◌≤◌, ◌≡◌, true, List, length}
 use Rattle.meaning.specs.Fields.{fields}
 use Rattle.meaning.specs.Grammar.{shape_at}
 use Rattle.meaning.specs.Syntax.{Super}
@@ -60,7 +59,3 @@ super_of t node = super_at (fields t) (word_of (fields t) node 2)
 abbrev pub GivesSuper : (t w : List ℕ) → Scope → Step → (w' : List ℕ) → Step → (node : ℕ) → Type 0
 GivesSuper t w p s w' r node =
     Gives w p s w' r (takes (8 * size_super (super_of t node)) 0 (visits_super (super_of t node))) (fwd (visit_super node (token (word_of (fields t) node 0) (word_of (fields t) node 1)) (super_of t node)))
-
--- a number from 0 to 255, or 256 for none
-abbrev pub small_of : ℕ → Option ℕ
-small_of k = cond (ltb k 256) (some k) none

@@ -9,6 +9,7 @@ use Rattle.meaning.specs.declared.Instruction.{Instruction}
 use Rattle.store.specs.declared.Step.{Step}
 use Rattle.store.specs.declared.Scope.{Scope}
 use Rattle.store.specs.Layout.{first_local, edge}
+use Rattle.store.specs.Cell.{Packs, Wrote}
 use Rattle.store.specs.Store.{nodes_of, top_of, depth_of, block_of, wide_of, outcome_of, constants_of, globals_of, result_of, is_wide, while_going}
 use Rattle.store.specs.Promise.{Cost, uses, gives, live, taken}
 use Rattle.code.specs.Words.{mended}
@@ -25,6 +26,12 @@ tokens_from p payload from n = pairs_in (is_wide p) (words payload) from n
 pub record HasPairs (p : Scope) (payload : List ℕ) (from n : ℕ) : Type 0 where
   pub inside : from + pair_place (is_wide p) n ≤ length (words payload)
   pub width : wide_of p ≤ 1
+
+-- the instruction after the Test at `test` is the jump over the code up to instruction `end` and that one; no other changed
+pub record SetsJump (w : List ℕ) (top test end mark : ℕ) (w' : List ℕ) : Type 0 where
+  pub word : ℕ
+  pub packs : Packs word (inst_bx Jmp 0 (end - test))
+  pub wrote : Wrote w top (test + 1) word mark w'
 
 -- the code of a loop, at its end: the jump back, the jump out, breaks and continues
 abbrev pub closed_loop : (goal first condition test mark : ℕ) → List Instruction → List Instruction

@@ -9,10 +9,12 @@ ghost use Rattle.routines.specs.Pieces.{tokens_from, HasPairs};
 
 use crate::RETURN;
 use instruction::OpCode;
-use meaning::{Cause, Outcome};
+use meaning::Cause;
 use store::{Scope, Step};
 
 const CLOSURE: u32 = OpCode::Closure as u32;
+
+// stays: `payload`, `from`, `n` in six: `HasPairs` needs the scope too, so a struct would carry `wide` again; three are public, named by docs/PROMISES.
 
 // A register and a local for each of the n parameters from word `from` of the payload on. `wide` is the scope's: asked for once, so that no turn takes the scope apart.
 pub(crate) fn parameters(
@@ -29,13 +31,11 @@ pub(crate) fn parameters(
     ensures { Leaf work.old scope step work.new scope result (both (some_registers n) (uses n n 0)) (fwd_zero (parameters node (tokens_from scope payload.now from n))) × (result_of result < 255) }
 {
     let mut last = step;
-    let mut k: usize = 0;
-    while k < n {
+    for k in 0..n {
         let name = nodes::pair(payload, from, k, wide);
         last = store::declare_parameter(work, last, scope, name, node);
-        k += 1;
     }
-    store::settle(last, 0)
+    last.settle(0)
 }
 
 // The end of a body of `count` statements that begins at `first`: 13 Return, then 12 Empty, for one statement alone.
@@ -50,38 +50,35 @@ pub fn end_body(
     requires { Fine work.old scope step × Space work.old scope step 0 2 0 × while_going (outcome_of step) (first ≤ pc_of step) × while_going (outcome_of step) (result_of step < 255) }
     ensures { Leaf work.old scope step work.new scope result (uses 2 0 0) (end_body count first node) }
 {
-    let o = step.outcome;
-    let Outcome::Accepted(_) = o else {
+    let Ok(_) = step.outcome else {
         return step;
     };
     let pc = step.pc;
     let result = step.result;
     if count == 1 {
         if result == 254 {
-            return store::refuse(step, Cause::Returned, node);
+            return step.refuse(Cause::Returned, node);
         }
         if pc == first {
-            return store::refuse(step, Cause::Empty, node);
+            return step.refuse(Cause::Empty, node);
         }
         let mark = store::mark_at(work, scope, pc - 1);
-        let word = store::pack(RETURN, result, result + 2, 0);
-        store::write_cell(work, scope, pc, word, mark);
-        return store::advance(step, pc + 1, 0);
+        return code::put(work, step, scope, RETURN, result, result + 2, 0, mark, 0);
     }
-    store::advance(step, pc, 0)
+    step.advance(pc, 0)
 }
 
 // Closure of the prototype that is the result.
+// stays: written out, for `put_bx` asks for `Space`, and in end_fun a global's name is still owed (`Owing`) at this call.
 pub(crate) fn closure(work: &mut [u32], step: Step, scope: Scope, register: u32, mark: u32) -> Step
     requires { Fine work.old scope step × while_going (outcome_of step) ((first_local (nodes_of scope) + live work.old scope step + 2 ≤ top_of scope) × (register < 256)) }
     ensures { Leaf work.old scope step work.new scope result (uses 2 0 0) (sure (closure register mark)) }
 {
-    let o = step.outcome;
-    let Outcome::Accepted(_) = o else {
+    let Ok(_) = step.outcome else {
         return step;
     };
     let pc = step.pc;
     let word = store::pack_bx(CLOSURE, register, step.result as usize);
     store::write_cell(work, scope, pc, word, mark);
-    store::advance(step, pc + 1, register)
+    step.advance(pc + 1, register)
 }

@@ -13,6 +13,7 @@ use meaning::Cause;
 use store::{Scope, Step};
 
 // The marks of an unfinished jump: its a.
+// stays: `put` takes an operand as a number, and `visit_jump` of meaning takes this one as that.
 const JMP_CONTINUE: u32 = instruction::JMP_CONTINUE as u32;
 
 const JMP_BREAK: u32 = instruction::JMP_BREAK as u32;
@@ -23,7 +24,7 @@ fn visit_jump(work: &mut [u32], step: Step, scope: Scope, node: usize, kind: u32
     ensures { Gives work.old scope step work.new result (uses 2 0 0) (fwd (visit_jump node kind mark)) }
 {
     if scope.loops == 0 {
-        return store::refuse(step, Cause::Stray, node);
+        return step.refuse(Cause::Stray, node);
     }
     code::put(work, step, scope, JMP, kind, 0, 0, mark, 0)
 }

@@ -7,17 +7,9 @@ ghost use Rattle.routines.specs.Pieces.{Small};
 
 use crate::MOVE;
 use instruction::OpCode;
-use meaning::Outcome;
 use store::{Scope, Step};
 
 const CALL: u32 = OpCode::Call as u32;
-
-// How many there are in `1..n`.
-fn after_first(n: usize) -> usize
-    ensures { result ≡ n - 1 }
-{
-    if n == 0 { 0 } else { n - 1 }
-}
 
 // visit_call_expr after the callee: a register for the function, and one for each of n arguments.
 pub fn open_call(
@@ -43,8 +35,8 @@ pub fn open_call(
         mark,
     );
     let argument = store::next_register(work, moved, scope, node);
-    let others = store::next_registers(work, argument, scope, node, after_first(n));
-    store::settle(others, function.result)
+    let others = store::next_registers(work, argument, scope, node, n.saturating_sub(1));
+    others.settle(function.result)
 }
 
 // visit_call_expr after the arguments.
@@ -60,8 +52,7 @@ pub fn end_call(
     requires { Fine work.old scope step × Space work.old scope step 0 2 0 × while_going (outcome_of step) ((n < 255) × (function < 256)) }
     ensures { Leaf work.old scope step work.new scope result (both a_register (uses 2 0 0)) (end_call node n function mark) × Small result }
 {
-    let o = step.outcome;
-    let Outcome::Accepted(_) = o else {
+    let Ok(_) = step.outcome else {
         return step;
     };
     let result = store::next_register(work, step, scope, node);

@@ -13,8 +13,7 @@ use crate::names::{declare, name_result};
 use crate::variable_expr::variable;
 use crate::{LOAD_K, LOAD_NIL};
 use instruction::OpCode;
-use meaning::{Outcome, Token};
-use nodes::ABSENT;
+use meaning::Token;
 use store::{Scope, Step};
 
 const CLASS: u32 = OpCode::Class as u32;
@@ -45,9 +44,9 @@ pub fn superclass(tree: &[u8], work: &mut [u32], step: Step, scope: Scope, node:
     ensures { GivesSuper tree.now work.old scope step work.new result node }
 {
     let x = nodes::class_of(tree, work, node, scope.wide);
-    if x.superclass != ABSENT {
+    if let Some(superclass) = x.superclass {
         store::visit(work);
-        return variable(tree, work, step, scope, x.superclass);
+        return variable(tree, work, step, scope, superclass);
     }
     let register = store::next_register(work, step, scope, node);
     code::emit(
@@ -67,14 +66,19 @@ pub fn make_class(work: &mut [u32], step: Step, scope: Scope, class: u32, mark: 
     requires { Fine work.old scope step × Space work.old scope step 0 2 0 × while_going (outcome_of step) ((class < 255) × (result_of step < 256)) }
     ensures { Leaf work.old scope step work.new scope result (uses 2 0 0) (sure (make_class class mark)) }
 {
-    let o = step.outcome;
-    let Outcome::Accepted(_) = o else {
+    let Ok(_) = step.outcome else {
         return step;
     };
-    let pc = step.pc;
-    let word = store::pack(CLASS, class, class + 1, step.result);
-    store::write_cell(work, scope, pc, word, mark);
-    store::advance(step, pc + 1, step.result)
+    code::emit(
+        work,
+        step,
+        scope,
+        CLASS,
+        class,
+        class + 1,
+        step.result,
+        mark,
+    )
 }
 
 // A method that is the result; `op` is ClassMeth or ClassStMeth.
@@ -109,10 +113,9 @@ pub fn end_class(
     requires { Fine work.old scope step × Space work.old scope step 0 2 1 × (token.name < 65536) × while_going (outcome_of step) (class < 255) }
     ensures { Leaf work.old scope step work.new scope result (uses 2 1 0) (end_class node token class) × Small result }
 {
-    let o = step.outcome;
-    let Outcome::Accepted(_) = o else {
+    let Ok(_) = step.outcome else {
         return step;
     };
-    let made = store::settle(step, class);
+    let made = step.settle(class);
     name_result(work, made, scope, node, token)
 }

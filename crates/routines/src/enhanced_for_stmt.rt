@@ -7,13 +7,11 @@ ghost use Rattle.store.specs.Store.{mode_of, outcome_of, pc_of, result_of, while
 ghost use Rattle.store.specs.Promise.{uses, some_registers, both, Space, Leaf};
 ghost use Rattle.routines.specs.Pieces.{tokens_from, HasPairs};
 
-use crate::LOAD_K;
 use crate::loops::{close_loop, continue_goal};
+use code::{ADDI, LOAD_K};
 use instruction::OpCode;
-use meaning::{Literal, Outcome};
+use meaning::Literal;
 use store::{Scope, Step};
-
-const ADDI: u32 = OpCode::Addi as u32;
 
 const LT: u32 = OpCode::Lt as u32;
 
@@ -90,8 +88,7 @@ fn iterate_each(
     ensures { Leaf work.old scope step work.new scope result (both (some_registers n) (uses (3 * n) n 0)) (fwd_code (iterate_each node mark element 0 (tokens_from scope payload.now from n))) }
 {
     let mut last = step;
-    let mut k: usize = 0;
-    while k < n {
+    for k in 0..n {
         let name = nodes::pair(payload, from, k, scope.wide);
         let next = store::declare_parameter(work, last, scope, name, node);
         last = code::emit(
@@ -104,9 +101,8 @@ fn iterate_each(
             k as u32,
             mark,
         );
-        k += 1;
     }
-    store::settle(last, 0)
+    last.settle(0)
 }
 
 // One name names the element, several its parts.
@@ -167,8 +163,7 @@ pub fn head_for_in(
     requires { Fine work.old scope step × Space work.old scope step 0 11 1 × (1 ≤ n) × HasPairs scope payload.now from n × (n < 65536) × while_going (outcome_of step) ((counter + 3 < 255) × (result_of step < 256)) }
     ensures { Leaf work.old scope step work.new scope result (uses 11 1 0) (head_for_in node (tokens_from scope payload.now from n) counter mark) }
 {
-    let o = step.outcome;
-    let Outcome::Accepted(_) = o else {
+    let Ok(_) = step.outcome else {
         return step;
     };
     let sized = code::emit(work, step, scope, LENGTH, counter + 1, step.result, 0, mark);
@@ -211,8 +206,7 @@ pub fn end_for_in(
     requires { Fine work.old scope step × Space work.old scope step 0 4 0 × while_going (outcome_of step) ((first ≤ pc_of step) × (condition + 4 ≤ pc_of step) × (counter < 256)) }
     ensures { Leaf work.old scope step work.new scope result (uses 4 0 0) (sure (end_for_in (mode_of scope) first condition counter mark)) }
 {
-    let o = step.outcome;
-    let Outcome::Accepted(_) = o else {
+    let Ok(_) = step.outcome else {
         return step;
     };
     let pc = step.pc;
@@ -229,5 +223,5 @@ pub fn end_for_in(
         condition + 2,
         mark,
     );
-    store::advance(step, pc + 2, 0)
+    step.advance(pc + 2, 0)
 }

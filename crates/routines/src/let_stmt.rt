@@ -18,7 +18,7 @@ pub fn new_global(work: &mut [u32], step: Step, scope: Scope, node: usize, token
     ensures { Leaf work.old scope step work.new scope result nothing (fwd_number (new_global node token)) }
 {
     if store::is_global_var(work, step, scope, token.name) {
-        return store::refuse(step, Cause::Redefined, node);
+        return step.refuse(Cause::Redefined, node);
     }
     let noted = store::add_global(work, step, scope, token.name);
     store::add_name(work, noted, scope, token.name, node)

@@ -8,7 +8,7 @@ ghost use Rattle.store.specs.Promise.{uses, Space, Leaf};
 ghost use Rattle.routines.specs.Node.{OnNode, GivesStmt};
 
 use crate::RETURN;
-use meaning::{Cause, Outcome};
+use meaning::Cause;
 use store::{Scope, Step};
 
 // fn visit_return_stmt without a value.
@@ -25,16 +25,12 @@ pub fn end_return(work: &mut [u32], step: Step, scope: Scope, node: usize, mark:
     requires { Fine work.old scope step × Space work.old scope step 0 2 0 × while_going (outcome_of step) (result_of step < 255) }
     ensures { Leaf work.old scope step work.new scope result (uses 2 0 0) (end_return node mark) }
 {
-    let o = step.outcome;
-    let Outcome::Accepted(_) = o else {
+    let Ok(_) = step.outcome else {
         return step;
     };
-    let pc = step.pc;
     let result = step.result;
     if result == 254 {
-        return store::refuse(step, Cause::Returned, node);
+        return step.refuse(Cause::Returned, node);
     }
-    let word = store::pack(RETURN, result, result + 2, 0);
-    store::write_cell(work, scope, pc, word, mark);
-    store::advance(step, pc + 1, 0)
+    code::put(work, step, scope, RETURN, result, result + 2, 0, mark, 0)
 }

@@ -6,7 +6,7 @@ ghost use Rattle.store.specs.Promise.{uses, Space, Leaf, a_register, both};
 
 use crate::JMP;
 use instruction::OpCode;
-use meaning::{NO_MARK, Outcome, Token};
+use meaning::{NO_MARK, Token};
 use store::{Scope, Step};
 
 const REGISTER_TRY_CATCH: u32 = OpCode::RegisterTryCatch as u32;
@@ -28,14 +28,8 @@ pub fn end_try_body(work: &mut [u32], step: Step, scope: Scope) -> Step
     requires { Fine work.old scope step × Space work.old scope step 0 4 0 }
     ensures { Leaf work.old scope step work.new scope result (uses 4 0 0) (sure end_try_body) }
 {
-    let o = step.outcome;
-    let Outcome::Accepted(_) = o else {
-        return step;
-    };
-    let pc = step.pc;
-    store::write_cell(work, scope, pc, DEREGISTER_TRY_CATCH, NO_MARK);
-    store::write_cell(work, scope, pc + 1, JMP, NO_MARK);
-    store::advance(step, pc + 2, step.result)
+    let ended = code::emit(work, step, scope, DEREGISTER_TRY_CATCH, 0, 0, 0, NO_MARK);
+    code::emit(work, ended, scope, JMP, 0, 0, 0, NO_MARK)
 }
 
 // visit_try_catch_stmt before the catch part's body.
@@ -62,13 +56,12 @@ pub fn end_try(work: &mut [u32], step: Step, scope: Scope, first: usize, body: u
     requires { Fine work.old scope step × while_going (outcome_of step) ((first ≤ body) × (body < pc_of step)) }
     ensures { Leaf work.old scope step work.new scope result (uses 0 0 0) (sure (end_try first body)) }
 {
-    let o = step.outcome;
-    let Outcome::Accepted(_) = o else {
+    let Ok(_) = step.outcome else {
         return step;
     };
     let pc = step.pc;
     let word = store::pack_bx(REGISTER_TRY_CATCH, 0, body + 2 - first);
     store::write_cell(work, scope, first, word, NO_MARK);
     code::patch_first(work, scope, first, pc, pc - (body + 1));
-    store::settle(step, 0)
+    step.settle(0)
 }

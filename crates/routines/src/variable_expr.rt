@@ -11,7 +11,7 @@ ghost use Rattle.routines.specs.Node.{OnNode, Gives, GivesExpr};
 
 use instruction::OpCode;
 use meaning::{Cause, Token};
-use store::{Found, Scope, Step};
+use store::{Scope, Step};
 
 const GET_UPVAL: u32 = OpCode::GetUpval as u32;
 
@@ -56,7 +56,7 @@ fn visit_outside(work: &mut [u32], step: Step, scope: Scope, node: usize, token:
     if store::is_global_var(work, step, scope, token.name) {
         return named(work, step, scope, GET_GLOBAL, node, token);
     }
-    store::refuse(step, Cause::Undefined, node)
+    step.refuse(Cause::Undefined, node)
 }
 
 // fn visit_variable_expr: the latest local, then a capture.
@@ -70,17 +70,14 @@ fn visit_variable_expr(
     requires { Fine work.old scope step × Space work.old scope step 0 0 0 × (token.name < 65536) }
     ensures { Gives work.old scope step work.new result nothing (fwd (visit_variable node token)) }
 {
-    let local = store::get_var_register(work, scope, token.name);
-    if let Found::At(register) = local {
-        return store::settle(step, register);
+    if let Some(register) = store::get_var_register(work, scope, token.name) {
+        return step.settle(register);
     }
     let sought = store::get_upvalue(work, step, scope, token.name, node);
-    let next = sought.step;
-    let capture = sought.found;
-    let Found::At(index) = capture else {
-        return visit_outside(work, next, scope, node, token);
+    let Some(index) = sought.found else {
+        return visit_outside(work, sought.step, scope, node, token);
     };
-    let register = store::next_register(work, next, scope, node);
+    let register = store::next_register(work, sought.step, scope, node);
     code::emit(
         work,
         register,

@@ -9,8 +9,8 @@ use Rattle.store.proofs.Runs.{due, promised, stays, ran, kept_refl}
 use Rattle.store.proofs.Compose.{moves_then, moves_by}
 use Rattle.store.proofs.Leaving.{left_moves}
 use Rattle.meaning.specs.State.{Proto, and_then, ◌>>=◌, get, set_current, enter_loop, leave_loop}
-use Rattle.meaning.specs.declared.Outcome.{Outcome}
-use Rattle.meaning.specs.declared.Outcome.TheVariants.{Accepted, Refused}
+use Rattle.std.specs.Prelude.{Ok, Err}
+use Rattle.meaning.specs.Outcome.{Outcome}
 use Rattle.forward.specs.Forward.{bind, fwd_unit}
 
 -- ---- blocks
@@ -57,8 +57,8 @@ loop_entered {w} {p} {s} h l =
     }
   where
     runs : (x : Outcome) → s.outcome ≡ x → (ps : List Proto) → run w (looped p) s ps ≡ bind (run w p s ps) (fwd_unit enter_loop)
-    runs (Refused k n) e ps = stays w w p (looped p) s s (fwd_unit enter_loop) k n e e ps
-    runs (Accepted x) e ps = ran w w p (looped p) s s enter_loop ps tt (λ a c. c) x x e e refl refl refl
+    runs (Err why) e ps = stays w w p (looped p) s s (fwd_unit enter_loop) why.cause why.place e e ps
+    runs (Ok x) e ps = ran w w p (looped p) s s enter_loop ps tt (λ a c. c) x x e e refl refl refl
 
 pub loop_left : {w : List ℕ} (p : Scope) {s : Step} → Fine w (looped p) s → Leaf w (looped p) s w p s nothing (fwd_unit leave_loop)
 unfolding state_of open_at leave_loop ◌>>=◌ and_then get set_current
@@ -78,8 +78,8 @@ loop_left {w} p {s} h =
     }
   where
     runs : (x : Outcome) → s.outcome ≡ x → (ps : List Proto) → run w p s ps ≡ bind (run w (looped p) s ps) (fwd_unit leave_loop)
-    runs (Refused k n) e ps = stays w w (looped p) p s s (fwd_unit leave_loop) k n e e ps
-    runs (Accepted x) e ps =
+    runs (Err why) e ps = stays w w (looped p) p s s (fwd_unit leave_loop) why.cause why.place e e ps
+    runs (Ok x) e ps =
         let z : p.loops + 1 - 1 ≡ p.loops = omega arith in
         ran w w (looped p) p s s leave_loop ps tt (λ a c. c) x x e e refl refl (rw z)
 

@@ -12,8 +12,8 @@ use Rattle.store.proofs.Regions.{Same, same_part, same_count, locals_same, block
 use Rattle.store.proofs.Steady.{kept_by, taken_same}
 use Rattle.store.proofs.Runs.{due, promised, goes, stays, ran}
 use Rattle.meaning.specs.State.{Proto, done, and_then, ◌>>=◌, get, set_current, with_blocks, enter_block}
-use Rattle.meaning.specs.declared.Outcome.{Outcome}
-use Rattle.meaning.specs.declared.Outcome.TheVariants.{Accepted, Refused}
+use Rattle.std.specs.Prelude.{Ok, Err}
+use Rattle.meaning.specs.Outcome.{Outcome}
 use Rattle.forward.specs.Forward.{bind, fwd_unit}
 
 -- ---- a new edge: what lies from the globals on is the same but for it
@@ -148,8 +148,8 @@ module _ (w w' : List ℕ) (p : Scope) (s : Step) (fine : Fine w p s) (lim : p.b
       (constants_same w w' s.constants (same_part 0 (3 * s.constants) (omega arith) (omega (arith, fine.constants)) low), globals_same w w' s.globals (omega (arith, fine.globals, fine.constants)) (record { same = λ i a b. g.other i a (omega arith) }), block_open deep, opened_around deep))
 
   block_runs : (o : Outcome) → s.outcome ≡ o → (ps : List Proto) → run w' (deeper p) s ps ≡ bind (run w p s ps) (fwd_unit enter_block)
-  block_runs (Refused k n) e ps = stays w w' p (deeper p) s s (fwd_unit enter_block) k n e e ps
-  block_runs (Accepted x) e ps = ran w w' p (deeper p) s s enter_block ps tt (λ a c. c) x x e e code refl (block_state (due s.outcome fine.nested (goes e)) ps)
+  block_runs (Err why) e ps = stays w w' p (deeper p) s s (fwd_unit enter_block) why.cause why.place e e ps
+  block_runs (Ok x) e ps = ran w w' p (deeper p) s s enter_block ps tt (λ a c. c) x x e e code refl (block_state (due s.outcome fine.nested (goes e)) ps)
     where
       code : tab (inst_at w' (top_of p)) s.pc ≡ tab (inst_at w (top_of p)) s.pc
       code = code_same w w' (top_of p) s.pc (omega (arith, fine.room)) (record { same = λ i a b. g.other i (omega (arith, fine.room)) (omega (arith, fine.room)) })

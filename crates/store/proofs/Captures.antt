@@ -3,7 +3,8 @@ use Rattle.std.proofs.Common.{◌≡◌, ℕ, zero, suc, ◌+◌, ◌-◌, ◌*�
 use mathlib.Core.Bool.{beq}
 use native.Mathlib.Decide.{dec_lt}
 use borrow.Author.Tests.{lt-leb}
-use Rattle.store.specs.declared.Found.TheVariants.{At, Nothing, Full}
+use Rattle.std.specs.Prelude.{Some, Ok, Err}
+use Rattle.store.specs.declared.capture.NoRoom.{NoRoom}
 use Rattle.store.specs.Half.{with_half}
 use Rattle.store.specs.Table.{tab, span}
 use Rattle.store.specs.Layout.{first_edge, first_local, edge, block, first, held, capture_of, capture_word, capture_at}
@@ -47,12 +48,6 @@ index_at x f (suc n) (suc i) l h e =
     rw (tab_front (λ i. capture_of (f i)) n, same_capture x (f 0), ne_eqb x (f 0) (λ e. h 0 (omega arith) (sym e)))
     (ap suc (index_at x (λ i. f (suc i)) n i (omega arith) (λ k l. h (suc k) (omega arith)) e))
 
-pub at_never : (i : ℕ) → At i ≡ Nothing → ⊥
-at_never i g = let z : ◌≡◌ {A = ℕ} 0 1 = cc in omega arith
-
-pub full_never : Full ≡ Nothing → ⊥
-full_never g = let z : ◌≡◌ {A = ℕ} 0 1 = cc in omega arith
-
 -- ---- what is caught
 
 pub caught_refl : (w : List ℕ) (d : ℕ) → Caught w d w
@@ -84,24 +79,24 @@ blocks_high w w' h n a e = span_ext _ _ a e one
 
 -- ---- an equal capture, no room, one more
 
-pub add_old : (w : List ℕ) (d x i : ℕ) → i < held w d → ((k : ℕ) → k < i → capture_word w d k ≡ x → ⊥) → capture_word w d i ≡ x → Added w d x w (At i)
+pub add_old : (w : List ℕ) (d x i : ℕ) → i < held w d → ((k : ℕ) → k < i → capture_word w d k ≡ x → ⊥) → capture_word w d i ≡ x → Added w d x w (Ok i)
 unfolding open_at
-add_old w d x i l h e = record { says = says; small = omega arith; never = λ g. at_never i g; caught = caught_refl w d }
+add_old w d x i l h e = record { says = says; small = omega arith; caught = caught_refl w d }
   where
     idx : capture_index (capture_of x) (tab (capture_at w d) (held w d)) ≡ i
     idx = index_at x (capture_word w d) (held w d) i l h e
 
-    says : (n e l : ℕ) → search_of w n d e l (At i) ≡ add_upvalue (open_at w n d e l) (capture_of x) (around w n d)
+    says : (n e l : ℕ) → search_of w n d e l (Ok (Some i)) ≡ add_upvalue (open_at w n d e l) (capture_of x) (around w n d)
     says n e' l' = simp (idx, tab_length, lt-leb 255 i (omega arith), lt-ltb i (held w d) l)
 
-pub add_full : (w : List ℕ) (d x : ℕ) → held w d ≡ 255 → ((k : ℕ) → k < held w d → capture_word w d k ≡ x → ⊥) → Added w d x w Full
+pub add_full : (w : List ℕ) (d x : ℕ) (full : NoRoom) → held w d ≡ 255 → ((k : ℕ) → k < held w d → capture_word w d k ≡ x → ⊥) → Added w d x w (Err full)
 unfolding open_at
-add_full w d x e h = record { says = says; small = tt; never = full_never; caught = caught_refl w d }
+add_full w d x full e h = record { says = says; small = tt; caught = caught_refl w d }
   where
     idx : capture_index (capture_of x) (tab (capture_at w d) (held w d)) ≡ held w d
     idx = index_none x (capture_word w d) (held w d) h
 
-    says : (n e l : ℕ) → search_of w n d e l Full ≡ add_upvalue (open_at w n d e l) (capture_of x) (around w n d)
+    says : (n e l : ℕ) → search_of w n d e l (Err full) ≡ add_upvalue (open_at w n d e l) (capture_of x) (around w n d)
     says n e' l' = simp (idx, le-leb 255 (held w d) (omega arith))
 
 module _ (w : List ℕ) (d x : ℕ) (tiny : x < 512) (long : 4168 ≤ length w) (deep : d ≤ 7) (ne : ¬ (held w d ≡ 255)) (h : (k : ℕ) → k < held w d → capture_word w d k ≡ x → ⊥) where
@@ -173,12 +168,12 @@ module _ (w : List ℕ) (d x : ℕ) (tiny : x < 512) (long : 4168 ≤ length w) 
         blocks = λ j a. blocks_high w w2 caught.high n (first w j) (first w (suc j));
       })
 
-  new_says : (n e l : ℕ) → search_of w2 n d e l (At (held w d)) ≡ add_upvalue (open_at w n d e l) (capture_of x) (around w n d)
+  new_says : (n e l : ℕ) → search_of w2 n d e l (Ok (Some (held w d))) ≡ add_upvalue (open_at w n d e l) (capture_of x) (around w n d)
   unfolding open_at
   new_says n e l =
       let f = few in
       simp
       (index, captures, tab_length, lt-leb 255 (held w d) (omega arith), le-ltb (held w d) (held w d) (omega arith), other (3072 + 8 * d) (omega arith) (λ z. omega arith), other (3073 + 8 * d) (omega arith) (λ z. omega arith), other (3075 + 8 * d) (omega arith) (λ z. omega arith), blocks_high w w2 caught.high n (first w d) e, around_kept n)
 
-  pub add_new : Added w d x w2 (At (held w d))
-  add_new = record { says = new_says; small = few; never = λ g. at_never (held w d) g; caught = caught }
+  pub add_new : Added w d x w2 (Ok (held w d))
+  add_new = record { says = new_says; small = few; caught = caught }

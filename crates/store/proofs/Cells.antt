@@ -1,28 +1,10 @@
--- The pending instruction's cell: four bytes in a word are found again, and an instruction that is written is read back, the others as they were. Assumes nothing.
-use Rattle.std.proofs.Common.{◌≡◌, ℕ, ◌+◌, ◌*◌, ◌/◌, ◌%◌, ◌<◌, ◌≤◌, List, [], ◌∷◌, ◌++◌, length, get_or, set, refl, ◌∙◌, ap₂, add-one, arith, length-set, get_or-set_other, get_or-set_same}
+-- The pending instruction's cell: an instruction that is written is read back, the others as they were. Assumes nothing.
+use Rattle.std.proofs.Common.{◌≡◌, ℕ, ◌+◌, ◌*◌, ◌<◌, ◌≤◌, List, [], ◌∷◌, ◌++◌, length, get_or, set, ◌∙◌, ap₂, add-one, arith, length-set, get_or-set_other, get_or-set_same}
 use Rattle.store.specs.Table.{tab}
 use Rattle.store.specs.Layout.{cell, mark_cell, unpacked, inst_at}
-use Rattle.store.specs.Cell.{Bytes, Packs, with_inst}
+use Rattle.store.specs.Cell.{with_inst}
 use Rattle.store.proofs.Tables.{tab_suc, tab_ext, tab_set}
 use Rattle.store.proofs.Regions.{Only}
-use Rattle.meaning.specs.Opcode.{inst}
-
--- ---- four bytes in a word
-
-pub unpack : (op a b c : ℕ) → Bytes op a b c → Packs (op + 256 * a + 65536 * b + 16777216 * c) (inst op a b c)
-unpack op a b c h =
-    let x : ℕ = op + 256 * a + 65536 * b + 16777216 * c in
-    let d1 : x / 256 ≡ a + 256 * b + 65536 * c = omega arith in
-    let d2 : x / 65536 ≡ b + 256 * c = omega arith in
-    let d3 : x / 16777216 ≡ c = omega arith in
-    let e1 : x % 256 ≡ op = low op (a + 256 * b + 65536 * c) x h.op_small (omega arith) in
-    let e2 : (a + 256 * b + 65536 * c) % 256 ≡ a = low a (b + 256 * c) (a + 256 * b + 65536 * c) h.a_small (omega arith) in
-    let e3 : (b + 256 * c) % 256 ≡ b = low b c (b + 256 * c) h.b_small refl in
-    let e4 : c % 256 ≡ c = omega arith in
-    record { is = λ m. rw (d1, d2, d3, e1, e2, e3, e4) }
-  where
-    low : (x y z : ℕ) → x < 256 → z ≡ x + 256 * y → z % 256 ≡ x
-    low x y z h e = omega arith
 
 -- ---- the words of one instruction
 

@@ -14,8 +14,8 @@ use Rattle.store.proofs.Tables.{tab_length}
 use Rattle.meaning.specs.State.{State, Proto, get}
 use Rattle.meaning.specs.declared.Instruction.{Instruction}
 use Rattle.meaning.specs.declared.Cause.{Cause}
-use Rattle.meaning.specs.declared.Outcome.{Outcome}
-use Rattle.meaning.specs.declared.Outcome.TheVariants.{Accepted, Refused}
+use Rattle.std.specs.Prelude.{Ok, Err}
+use Rattle.meaning.specs.Outcome.{Outcome}
 use Rattle.forward.specs.Forward.{Config, config, Run, stopped, going, bind, sure, give}
 use Rattle.forward.proofs.Calls.{Seen, seen, Known, finally, read, chain}
 use Rattle.forward.proofs.Opened.{answers_get}
@@ -100,14 +100,14 @@ abbrev pub seen_of : Step → Seen
 seen_of s = record { code = s.pc; result = s.result }
 
 known_by : (o : Outcome) (c : Config) (s : Seen) → s.code ≡ length c.code → s.result ≡ c.result → Known (run_by o c) s
-known_by (Accepted x) c s h k =
+known_by (Ok x) c s h k =
     record { size = λ d e. h ∙ ap (λ (y : Config). length y.code) (same d e); value = λ d e. k ∙ ap (λ (y : Config). y.result) (same d e) }
   where
     same : (d : Config) → going c ≡ going d → c ≡ d
     same d e = cc
-known_by (Refused x y) c s h k = record { size = λ d e. absurd (apart d e); value = λ d e. absurd (apart d e) }
+known_by (Err why) c s h k = record { size = λ d e. absurd (apart d e); value = λ d e. absurd (apart d e) }
   where
-    apart : (d : Config) → stopped x y ≡ going d → ⊥
+    apart : (d : Config) → stopped why.cause why.place ≡ going d → ⊥
     apart d e = let z : ◌≡◌ {A = ℕ} 0 1 = cc in omega arith
 
 pub known : (w : List ℕ) (p : Scope) (s : Step) (ps : List Proto) → Known (run w p s ps) (seen_of s)
@@ -128,8 +128,8 @@ leaf_read {w} {w1} {w2} {p} {q} {t} {s} {s1} {s2} f g n d b x y =
 
 result_by_cases : (o : Outcome) (l : List Instruction) (r r' : ℕ) (t : State) → run_by o (config l r' t) ≡ bind (run_by o (config l r t)) (sure (give r'))
 unfolding bind
-result_by_cases (Accepted x) l r r' t = refl
-result_by_cases (Refused k n) l r r' t = refl
+result_by_cases (Ok x) l r r' t = refl
+result_by_cases (Err why) l r r' t = refl
 
 by_result : (w : List ℕ) (p : Scope) (s : Step) (r : ℕ) (ps : List Proto) → run w p (with_result s r) ps ≡ bind (run w p s ps) (sure (give r))
 unfolding run config_of state_of
@@ -153,8 +153,8 @@ settled {w} {p} s r small h =
     }
   where
     limit : (o : Outcome) → r < result_limit o
-    limit (Accepted x) = omega arith
-    limit (Refused k n) = small
+    limit (Ok x) = omega arith
+    limit (Err why) = small
 
 -- refuse: at once, or before
 refused_runs : (w : List ℕ) (p : Scope) (s : Step) (k : Cause) (n : ℕ) (ps : List Proto) → run w p (refused_step s k n) ps ≡ bind (run w p s ps) (λ c. stopped k n)
@@ -162,19 +162,19 @@ unfolding run bind
 refused_runs w p s k n ps = cases s.outcome (config_of w p (refused_step s k n) ps) (config_of w p s ps)
   where
     cases : (o : Outcome) (c d : Config) → run_by (refused_by o k n) c ≡ bind (run_by o d) (λ c. stopped k n)
-    cases (Accepted x) c d = refl
-    cases (Refused x y) c d = refl
+    cases (Ok x) c d = refl
+    cases (Err why) c d = refl
 
 pub refused_leaf : {w : List ℕ} {p : Scope} (s : Step) (k : Cause) (n : ℕ) (u : Cost) → Fine w p s → Leaf w p s w p (refused_step s k n) u (λ c. stopped k n)
 refused_leaf {w} {p} s k n u h = record { moves = moves s.outcome refl; runs = refused_runs w p s k n; image = λ o ps i. image s.outcome refl o ps i }
   where
     moves : (o : Outcome) → s.outcome ≡ o → Moves w p s w p (refused_step s k n) u
-    moves (Accepted x) e = refused_moves s k n u h e
-    moves (Refused x y) e = rw (← (refused_again s k n e)) (absorbed u h e)
+    moves (Ok x) e = refused_moves s k n u h e
+    moves (Err why) e = rw (← (refused_again s k n e)) (absorbed u h e)
 
     image : (x : Outcome) → s.outcome ≡ x → (o : List ℕ) (ps : List Proto) → Image p o s ps → Image p o (refused_step s k n) ps
-    image (Accepted x) e = image_none p s (refused_step s k n) (refused_outcome s k n e)
-    image (Refused x y) e = image_same p s (refused_step s k n) (sym (ap (λ (z : Step). z.outcome) (refused_again s k n e))) refl
+    image (Ok x) e = image_none p s (refused_step s k n) (refused_outcome s k n e)
+    image (Err why) e = image_same p s (refused_step s k n) (sym (ap (λ (z : Step). z.outcome) (refused_again s k n e))) refl
 
 -- a question to the state, whose answer the words give
 pub told_of : {A : Type 0} (w : List ℕ) (p : Scope) (s : Step) (f : State → A) (a : A) → ((ps : List Proto) → f (state_of w p s ps) ≡ a) → Tells w p s a (get f)
@@ -182,8 +182,8 @@ unfolding run config_of
 told_of {A} w p s f a h ps = answers_get (run w p s ps) f a (λ c e. told s.outcome c e)
   where
     told : (o : Outcome) (c : Config) → run_by o (config_of w p s ps) ≡ going c → f c.state ≡ a
-    told (Accepted x) c e = let g : config_of w p s ps ≡ c = cc in sym (ap (λ (y : Config). f y.state) g) ∙ h ps
-    told (Refused x y) c e = absurd (let z : ◌≡◌ {A = ℕ} 0 1 = cc in omega arith)
+    told (Ok x) c e = let g : config_of w p s ps ≡ c = cc in sym (ap (λ (y : Config). f y.state) g) ∙ h ps
+    told (Err why) c e = absurd (let z : ◌≡◌ {A = ℕ} 0 1 = cc in omega arith)
 
 -- the number of open loops of the current function, which refusal 11 asks for
 pub loops_told : (w : List ℕ) (p : Scope) (s : Step) → Tells w p s p.loops (get (λ t. t.current.loops))

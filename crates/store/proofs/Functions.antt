@@ -19,16 +19,16 @@ use Rattle.store.proofs.Blocks.{Opened, opened_edge, opened_top, opened_blocks, 
 use Rattle.meaning.specs.State.{Proto, refused, done, refuse, if_then, fresh, enter_function}
 use Rattle.meaning.specs.declared.Cause.{Cause}
 use Rattle.meaning.specs.declared.Cause.TheVariants.{Nesting}
-use Rattle.meaning.specs.declared.Outcome.{Outcome}
-use Rattle.meaning.specs.declared.Outcome.TheVariants.{Accepted, Refused}
+use Rattle.std.specs.Prelude.{Ok, Err}
+use Rattle.meaning.specs.Outcome.{Outcome}
 use Rattle.forward.specs.Forward.{bind, fwd_unit, add_none}
 
 -- ---- a function is entered: a frame, then an edge
 
 -- nothing is due of a step that is refused now
 never_due : (o : Outcome) (k : Cause) (n : ℕ) (P : Type 0) → while_going (refused_by o k n) P
-never_due (Accepted x) k n P = tt
-never_due (Refused x y) k n P = tt
+never_due (Ok x) k n P = tt
+never_due (Err why) k n P = tt
 
 module _ (w w1 : List ℕ) (p : Scope) (s : Step) (name : ℕ) (fine : Fine w p s) (deep : p.depth ≤ 7) (lim : p.block < p.nodes + 10) (framed : Framed w (p.depth + 1) name p.block p.loops w1) where
   abbrev pub entered_words : List ℕ
@@ -163,8 +163,8 @@ module _ (w w1 : List ℕ) (p : Scope) (s : Step) (name : ℕ) (fine : Fine w p 
       record { moves = entered_moves s (promised s.outcome (λ z. omega arith)) fine refl refl refl (λ z. z); runs = runs s.outcome refl; image = λ o ps i. i }
     where
       runs : (o : Outcome) → s.outcome ≡ o → (ps : List Proto) → run w' (inner p) s ps ≡ bind (run w p s ps) (fwd_unit (enter_function node name))
-      runs (Refused k n) e ps = stays w w' p (inner p) s s (fwd_unit (enter_function node name)) k n e e ps
-      runs (Accepted x) e ps =
+      runs (Err why) e ps = stays w w' p (inner p) s s (fwd_unit (enter_function node name)) why.cause why.place e e ps
+      runs (Ok x) e ps =
           ran w w' p (inner p) s s (enter_function node name) ps tt (λ a c. c) x x e e
           (code_same w w' (top_of p) s.pc (omega (arith, fine.room)) (record { same = λ i a b. entered_opened.other i (omega (arith, fine.room)) (omega (arith, fine.room)) })) refl (entered_state l node ps)
 
@@ -174,8 +174,8 @@ module _ (w w1 : List ℕ) (p : Scope) (s : Step) (name : ℕ) (fine : Fine w p 
       record { moves = entered_moves (refused_step s Nesting node) (never_due s.outcome Nesting node _) out.moves.fine refl refl refl out.moves.back; runs = runs s.outcome refl; image = out.image }
     where
       runs : (o : Outcome) → s.outcome ≡ o → (ps : List Proto) → run w' (inner p) (refused_step s Nesting node) ps ≡ bind (run w p s ps) (fwd_unit (enter_function node name))
-      runs (Refused k n) on ps = stays w w' p (inner p) s (refused_step s Nesting node) (fwd_unit (enter_function node name)) k n on (rw on) ps
-      runs (Accepted x) on ps = ran_out w w' p (inner p) s (refused_step s Nesting node) (enter_function node name) ps add_none x Nesting node on (refused_outcome s Nesting node on) (too_deep e node ps)
+      runs (Err why) on ps = stays w w' p (inner p) s (refused_step s Nesting node) (fwd_unit (enter_function node name)) why.cause why.place on (rw on) ps
+      runs (Ok x) on ps = ran_out w w' p (inner p) s (refused_step s Nesting node) (enter_function node name) ps add_none x Nesting node on (refused_outcome s Nesting node on) (too_deep e node ps)
 
   enters_by : (r : Step) (node : ℕ) → r.pc ≡ s.pc → Leaf w p s w' (inner p) r nothing (fwd_unit (enter_function node name)) → Enters w p s w' r node name
   enters_by r node e leaf =

@@ -10,8 +10,8 @@ use Rattle.store.proofs.Regions.{constants_same, globals_same}
 use Rattle.store.proofs.Runs.{due, promised, goes, kept_in, stays, ran}
 use Rattle.store.proofs.Leaving.{popped_same, popped_edge, popped_rises, popped_code, sound_left, left_around}
 use Rattle.meaning.specs.State.{Proto, done, close_function}
-use Rattle.meaning.specs.declared.Outcome.{Outcome}
-use Rattle.meaning.specs.declared.Outcome.TheVariants.{Accepted, Refused}
+use Rattle.std.specs.Prelude.{Ok, Err}
+use Rattle.meaning.specs.Outcome.{Outcome}
 use Rattle.forward.specs.Forward.{bind, fwd_unit}
 
 -- what leave_block asks, where a function's last block is left
@@ -68,8 +68,8 @@ module _ {w w' : List ℕ} {p : Scope} {r : Step} (fine : Fine w (inner p) r) (h
       (closed_around deep, constants_same w w' r.constants (record { same = λ i a b. word i (omega (arith, fine.constants)) }), globals_same w w' r.globals (omega (arith, fine.globals, fine.constants)) (record { same = λ i a b. word i (omega arith) }))
 
   closed_by : (o : Outcome) → r.outcome ≡ o → (ps : List Proto) → run w' p r ps ≡ bind (run w (inner p) r ps) (fwd_unit close_function)
-  closed_by (Refused k n) e ps = stays w w' (inner p) p r r (fwd_unit close_function) k n e e ps
-  closed_by (Accepted x) e ps =
+  closed_by (Err why) e ps = stays w w' (inner p) p r r (fwd_unit close_function) why.cause why.place e e ps
+  closed_by (Ok x) e ps =
       let d = due r.outcome fine.nested (goes e) in
       ran w w' (inner p) p r r close_function ps tt (λ a c. c) x x e e (popped_code p sound g r.pc (omega (arith, fine.room))) refl (closed_state (omega arith) ps)
 

@@ -11,8 +11,8 @@ use Rattle.store.proofs.Regions.{Same, locals_same, blocks_same, constants_same,
 use Rattle.store.proofs.Steady.{kept_by, taken_same}
 use Rattle.store.proofs.Runs.{due, promised, goes, stays, ran}
 use Rattle.meaning.specs.State.{Proto, done, and_then, ◌>>=◌, get, set_current, with_blocks, leave_block, rest}
-use Rattle.meaning.specs.declared.Outcome.{Outcome}
-use Rattle.meaning.specs.declared.Outcome.TheVariants.{Accepted, Refused}
+use Rattle.std.specs.Prelude.{Ok, Err}
+use Rattle.meaning.specs.Outcome.{Outcome}
 use Rattle.forward.specs.Forward.{bind, fwd_unit}
 
 -- ---- the words after popping
@@ -139,8 +139,8 @@ module _ {w w' : List ℕ} {p : Scope} {r : Step} (fine : Fine w (deeper p) r) (
       (constants_same w w' r.constants (record { same = λ i a b. word p fine.sound g i (omega (arith, fine.constants)) }), globals_same w w' r.globals (omega (arith, fine.globals, fine.constants)) (record { same = λ i a b. word p fine.sound g i (omega arith) }), left_open deep, left_around deep))
 
   left_by : (o : Outcome) → r.outcome ≡ o → (ps : List Proto) → run w' p r ps ≡ bind (run w (deeper p) r ps) (fwd_unit leave_block)
-  left_by (Refused k n) e ps = stays w w' (deeper p) p r r (fwd_unit leave_block) k n e e ps
-  left_by (Accepted x) e ps =
+  left_by (Err why) e ps = stays w w' (deeper p) p r r (fwd_unit leave_block) why.cause why.place e e ps
+  left_by (Ok x) e ps =
       ran w w' (deeper p) p r r leave_block ps tt (λ a c. c) x x e e (popped_code p fine.sound g r.pc (omega (arith, fine.room))) refl (left_state (due r.outcome fine.nested (goes e)) ps)
 
   pub left_runs : (ps : List Proto) → run w' p r ps ≡ bind (run w (deeper p) r ps) (fwd_unit leave_block)

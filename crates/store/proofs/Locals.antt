@@ -16,7 +16,7 @@ use Rattle.store.proofs.Runs.{promised, ran}
 use Rattle.store.proofs.Compose.{taken_few}
 use Rattle.store.proofs.Links.{latest_hit, latest_miss}
 use Rattle.meaning.specs.State.{Local, Proto, done, and_then, ◌>>=◌, get, set_current, with_local, with_blocks, allocate_register}
-use Rattle.meaning.specs.declared.Outcome.TheVariants.{Accepted}
+use Rattle.std.specs.Prelude.{Ok}
 use Rattle.forward.specs.Forward.{fwd_unit}
 
 -- local i is pushed as l; its block's edge stands at `at`
@@ -283,7 +283,7 @@ module _ (w w' : List ℕ) (p : Scope) (s : Step) (l : Local) (fine : Fine w p s
       (rw
       (constants_same w w' s.constants (record { same = λ i c e. low_other i (omega (arith, fine.constants)) }), globals_same w w' s.globals (omega (arith, fine.globals, fine.constants)) (record { same = λ i c e. low_other i e }), local_open, local_around))
 
-  pub local_leaf : (y : ℕ) → s.outcome ≡ Accepted y → Leaf w p s w' p s a_local (fwd_unit (allocate_register l.name l.register))
+  pub local_leaf : (y : ℕ) → s.outcome ≡ Ok y → Leaf w p s w' p s a_local (fwd_unit (allocate_register l.name l.register))
   local_leaf y on =
       let r = local_room deep room in
       record {

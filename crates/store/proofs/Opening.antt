@@ -1,6 +1,9 @@
 -- Scopes that are opened: the main function's on words that held anything, and that of a function inside another.
-use Rattle.std.proofs.Common.{◌≡◌, ℕ, suc, ◌+◌, ◌*◌, ◌/◌, ◌%◌, ◌<◌, ◌≤◌, List, [], ◌∷◌, length, get_or, set, sym, refl, ap, ◌∙◌, ap₂, arith, length-set, get_or-set_other, get_or-set_same}
-use native.Mathlib.Decide.{ℕ_discrete}
+use Rattle.std.proofs.Common.{◌≡◌, ℕ, suc, ◌+◌, ◌-◌, ◌*◌, ◌/◌, ◌%◌, ◌<◌, ◌≤◌, List, [], ◌∷◌, ◌++◌, length, get_or, take, drop, set, sym, refl, ap, ◌∙◌, ap₂, arith, length-set, get_or-set_other, get_or-set_same}
+use native.Mathlib.Decide.{ℕ_discrete, dec_lt}
+use borrow.Rule.Slice.PartMut.{put_mid}
+use lib.ListN.{replicate, length-append, length-drop, get_or-append}
+use Rattle.std.proofs.lemmas.List.{get_or-append_right, get_or-drop, get_or-replicate, get_or-take, length-replicate, length-take-le}
 use Rattle.store.specs.Table.{tab, stack, span}
 use Rattle.store.specs.Layout.{first_edge, top, first_head, beyond, all_words, edge, local_at, block, latest, head}
 use Rattle.store.specs.Store.{open_at, around, state_of, config_of, run, main_scope, first_step, Linked, Sound, Fine}
@@ -8,65 +11,53 @@ use Rattle.store.specs.Promise.{taken, Space}
 use Rattle.store.specs.Opening.{Zeroed, Framed, Begun}
 use Rattle.store.proofs.Tables.{span_more, span_none}
 use Rattle.store.proofs.Halves.{half_even, half_odd}
-use Rattle.store.proofs.Regions.{frame}
 use Rattle.meaning.specs.Lower.{start}
 use Rattle.forward.specs.Forward.{config, going}
 
--- ---- words that are cleared, one a turn
+-- ---- words that are cleared: s is what stands in their place
 
-pub zeroed_none : (w : List ℕ) (a : ℕ) → Zeroed w a a w
-zeroed_none w a = record { same = refl; zeros = λ i h k. absurd (omega arith); other = λ i h. refl }
-
-pub zeroed_more : {w w1 : List ℕ} {a i : ℕ} → a ≤ i → i < length w → Zeroed w a i w1 → Zeroed w a (i + 1) (set w1 i 0)
-zeroed_more {w} {w1} {a} {i} l k g =
-    record {
-      same = length-set w1 i 0 ∙ g.same;
-      zeros = λ j x y. zeros j x y (ℕ_discrete j i);
-      other = λ j x. get_or-set_other w1 i j 0 0 (λ e. let z = x (omega arith) in omega arith) ∙ g.other j (λ y. let z = x y in omega arith);
-    }
+zeroed_fill : (w s : List ℕ) (a b : ℕ) → a ≤ b → b ≤ length w → s ≡ replicate (length (take (b - a) (drop a w))) 0 → Zeroed w a b (put_mid a (b - a) w s)
+zeroed_fill w s a b le fits e = record { same = same; zeros = zeros; other = λ i h. other i h (dec_lt i a) }
   where
-    zeros : (j : ℕ) → a ≤ j → j < i + 1 → Dec (j ≡ i) → get_or (set w1 i 0) j 0 ≡ 0
-    zeros j x y (yes e) = rw e (get_or-set_same w1 i 0 0 (omega (arith, g.same)))
-    zeros j x y (no e) = get_or-set_other w1 i j 0 0 e ∙ g.zeros j x (omega arith)
+    front : length (take a w) ≡ a
+    front = length-take-le a w (omega arith)
 
--- ---- a frame
+    part : length s ≡ b - a
+    part = ap length e ∙ length-replicate (length (take (b - a) (drop a w))) 0 ∙ length-take-le (b - a) (drop a w) (omega (arith, length-drop a w))
 
--- its five words, at a
-abbrev pub frame_words : (w : List ℕ) (a name block loops : ℕ) → List ℕ
-frame_words w a name block loops = set (set (set (set (set w a name) (a + 1) 0) (a + 2) 0) (a + 3) block) (a + 4) loops
+    back : List ℕ
+    back = drop (b - a) (drop a w)
+
+    same : length (take a w ++ (s ++ back)) ≡ length w
+    same = simp (length-append, length-drop) (omega (arith, front, part))
+
+    after : (i : ℕ) → a ≤ i → get_or (take a w ++ (s ++ back)) i 0 ≡ get_or (s ++ back) (i - a) 0
+    after i h = get_or-append_right (take a w) (s ++ back) a i 0 front h
+
+    zeros : (i : ℕ) → a ≤ i → i < b → get_or (take a w ++ (s ++ back)) i 0 ≡ 0
+    zeros i h k =
+        after i h
+        ∙ get_or-append s back 0 (i - a) (omega (arith, part))
+        ∙ ap (λ l. get_or l (i - a) 0) e
+        ∙ get_or-replicate _ (i - a) 0 0 (omega (arith, length-take-le (b - a) (drop a w) (omega (arith, length-drop a w))))
+
+    other : (i : ℕ) → (a ≤ i → b ≤ i) → Dec (i < a) → get_or (take a w ++ (s ++ back)) i 0 ≡ get_or w i 0
+    other i h (yes k) = get_or-append (take a w) (s ++ back) 0 i (omega (arith, front)) ∙ get_or-take a w i 0 k
+    other i h (no k) =
+        let l = h (omega arith) in
+        let there : a + (b - a + (i - a - (b - a))) ≡ i = omega arith in
+        after i (omega arith)
+        ∙ get_or-append_right s back (b - a) (i - a) 0 part (omega arith)
+        ∙ get_or-drop (b - a) (drop a w) (i - a - (b - a)) 0
+        ∙ get_or-drop a w (b - a + (i - a - (b - a))) 0
+        ∙ ap (λ j. get_or w j 0) there
+
+pub zeroed_by : (w s : List ℕ) (x y a b : ℕ) → x ≡ a → y ≡ b → x ≤ y → y ≤ length w → s ≡ replicate (length (take (y - x) (drop x w))) 0 → Zeroed w a b (put_mid x (y - x) w s)
+zeroed_by w s x y a b p q le fits e = rw (sym p, sym q) (zeroed_fill w s x y le fits e)
 
 -- a word stays under a store to another
 under : (w : List ℕ) (i v j : ℕ) {x : ℕ} → ¬ (j ≡ i) → get_or w j 0 ≡ x → get_or (set w i v) j 0 ≡ x
 under w i v j ne e = get_or-set_other w i j v 0 ne ∙ e
-
-pub framed : (w : List ℕ) (j name block loops : ℕ) → 3077 + 8 * j ≤ length w → Framed w j name block loops (frame_words w (3072 + 8 * j) name block loops)
-framed w j name block loops fits =
-    let a : ℕ = 3072 + 8 * j in
-    let w1 = set w a name in
-    let w2 = set w1 (a + 1) 0 in
-    let w3 = set w2 (a + 2) 0 in
-    let w4 = set w3 (a + 3) block in
-    let w5 = set w4 (a + 4) loops in
-    let l1 = length-set w a name in
-    let l2 = length-set w1 (a + 1) 0 in
-    let l3 = length-set w2 (a + 2) 0 in
-    let l4 = length-set w3 (a + 3) block in
-    let l5 = length-set w4 (a + 4) loops in
-    let r : get_or w5 (a + 1) 0 ≡ 0 =
-    under w4 (a + 4) loops (a + 1) (omega arith) (under w3 (a + 3) block (a + 1) (omega arith) (under w2 (a + 2) 0 (a + 1) (omega arith) (get_or-set_same w1 (a + 1) 0 0 (omega arith)))) in
-    let h : get_or w5 (a + 2) 0 ≡ 0 = under w4 (a + 4) loops (a + 2) (omega arith) (under w3 (a + 3) block (a + 2) (omega arith) (get_or-set_same w2 (a + 2) 0 0 (omega arith))) in
-    let f : get_or w5 (a + 3) 0 ≡ block = under w4 (a + 4) loops (a + 3) (omega arith) (get_or-set_same w3 (a + 3) block 0 (omega arith)) in
-    record {
-      same = l5 ∙ l4 ∙ l3 ∙ l2 ∙ l1;
-      name_is =
-          under w4 (a + 4) loops a (omega arith) (under w3 (a + 3) block a (omega arith) (under w2 (a + 2) 0 a (omega arith) (under w1 (a + 1) 0 a (omega arith) (get_or-set_same w a name 0 (omega arith)))));
-      registers_none = ap (λ x. x % 256) (sym (frame w5 j 1 (3073 + 8 * j) (omega arith)) ∙ r);
-      held_none = ap (λ x. x % 256) (sym (frame w5 j 2 (3074 + 8 * j) (omega arith)) ∙ h);
-      first_is = sym (frame w5 j 3 (3075 + 8 * j) (omega arith)) ∙ f;
-      saved_is = sym (frame w5 j 4 (3076 + 8 * j) (omega arith)) ∙ get_or-set_same w4 (a + 4) loops 0 (omega arith);
-      other = λ i k.
-          under w4 (a + 4) loops i (λ e. let z = k (omega arith) in omega arith) (under w3 (a + 3) block i (λ e. let z = k (omega arith) in omega arith) (under w2 (a + 2) 0 i (λ e. let z = k (omega arith) in omega arith) (under w1 (a + 1) 0 i (λ e. let z = k (omega arith) in omega arith) (get_or-set_other w a i name 0 (λ e. let z = k (omega arith) in omega arith)))));
-    }
 
 -- ---- the start
 

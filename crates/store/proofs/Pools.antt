@@ -1,6 +1,9 @@
 -- Constants and globals: a table grows by one, and nothing else that the words stand for changes.
-use Rattle.std.proofs.Common.{◌≡◌, ℕ, zero, suc, ◌+◌, ◌-◌, ◌*◌, ◌/◌, ◌<◌, ◌≤◌, Bool, true, false, ◌&&◌, eqb, List, [], ◌∷◌, ◌++◌, length, set, sym, refl, ap, ◌∙◌, ap₂, add-one, arith, length-set, get_or-set_other, get_or-set_same, eq-eqb, ne_eqb}
+use Rattle.std.proofs.Common.{◌≡◌, ℕ, zero, suc, ◌+◌, ◌-◌, ◌*◌, ◌/◌, ◌<◌, ◌≤◌, Bool, true, false, ◌&&◌, eqb, List, [], ◌∷◌, ◌++◌, length, get_or, set, sym, refl, ap, ◌∙◌, ap₂, add-one, arith, length-set, get_or-set_other, get_or-set_same, eq-eqb, ne_eqb}
 use native.Mathlib.Decide.{ℕ_discrete}
+use Rattle.std.specs.Prelude.{MatchBool, ◌≢◌, Ok}
+use Rattle.std.specs.List.{range_with_len, HoldsAt, AllWithin}
+use Rattle.std.proofs.lemmas.List.FromFn.{length-range_with_len, get_or-range_with_len}
 use Rattle.store.specs.declared.Step.{Step}
 use Rattle.store.specs.declared.Scope.{Scope}
 use Rattle.store.specs.Half.{with_half}
@@ -18,7 +21,6 @@ use Rattle.store.proofs.Compose.{told_of}
 use Rattle.meaning.specs.Constant.{Constant}
 use Rattle.meaning.specs.State.{State, Proto, refused, done, refuse, if_then, add_constant, add_global, among, is_single, is_global, is_global_context, is_global_var}
 use Rattle.meaning.specs.declared.Cause.TheVariants.{Constants}
-use Rattle.meaning.specs.declared.Outcome.TheVariants.{Accepted}
 use Rattle.forward.specs.Forward.{fwd_number, fwd_unit, give}
 use Rattle.forward.proofs.Opened.{with_constant}
 
@@ -52,7 +54,7 @@ constant_here w i kind high low fits =
     let l = get_or-set_same w2 (3 * i + 2) low 0 (omega arith) in
     rw (k, h, l)
 
-module _ (w : List ℕ) (p : Scope) (s : Step) (fine : Fine w p s) (shallow : p.depth ≤ 7) (x : ℕ) (on : s.outcome ≡ Accepted x) where
+module _ (w : List ℕ) (p : Scope) (s : Step) (fine : Fine w p s) (shallow : p.depth ≤ 7) (x : ℕ) (on : s.outcome ≡ Ok x) where
   -- no index is left
   out_of_constants : (node : ℕ) (v : Constant) → s.constants ≡ 1024 → (ps : List Proto) → add_constant node v (state_of w p s ps) ≡ refused Constants node
   unfolding state_of
@@ -127,7 +129,7 @@ module _ (w : List ℕ) (p : Scope) (s : Step) (fine : Fine w p s) (shallow : p.
 only_half : (w : List ℕ) (k v : ℕ) → Only w (with_half w k v) (k / 2) (k / 2 + 1)
 only_half w k v = record { length = length_half w k v; other = λ i h. word_other w k i v (λ e. let l = h (omega arith) in omega arith) }
 
-module _ (w : List ℕ) (p : Scope) (s : Step) (fine : Fine w p s) (shallow : p.depth ≤ 7) (x : ℕ) (on : s.outcome ≡ Accepted x) (room : s.globals ≤ s.constants) (name : ℕ) (small : name < 65536) where
+module _ (w : List ℕ) (p : Scope) (s : Step) (fine : Fine w p s) (shallow : p.depth ≤ 7) (x : ℕ) (on : s.outcome ≡ Ok x) (room : s.globals ≤ s.constants) (name : ℕ) (small : name < 65536) where
   abbrev global_words : List ℕ
   global_words = with_half w (8336 + s.globals) name
 
@@ -202,19 +204,34 @@ pub context_told : (w : List ℕ) (p : Scope) (s : Step) → Sound w p → Tells
 unfolding is_global_context state_of
 context_told w p s h = told_of w p s (λ t. is_global t.current t.outer) (global_scope p) (λ ps. global_is w p.nodes p.depth p.block p.loops h.main)
 
--- the walk down the names
-pub among_none : (w : List ℕ) (name i : ℕ) → i ≤ 0 → among name (stack (global_at w) i) ≡ false
-among_none w name i h = let e : i ≡ 0 = omega arith in rw (e, stack_none (global_at w))
+-- the names, whichever way they are passed
+among_some : (f : ℕ → ℕ) (name n k : ℕ) → k < n → name ≡ f k → among name (stack f n) ≡ true
+among_some f name zero k h e = absurd (omega arith)
+among_some f name (suc n) k h e = rw (stack_suc f n) (by (ℕ_discrete name (f n)) (λ l. among_some f name n k l e))
+  where
+    by : Dec (name ≡ f n) → (k < n → among name (stack f n) ≡ true) → among name (f n ∷ stack f n) ≡ true
+    by (yes d) there = rw (eq-eqb name (f n) d)
+    by (no d) there = rw (ne_eqb name (f n) d) (there (below (ℕ_discrete k n)))
+      where
+        below : Dec (k ≡ n) → k < n
+        below (yes u) = absurd (d (e ∙ ap f u))
+        below (no u) = omega arith
 
-pub among_hit : (w : List ℕ) (name i : ℕ) → 0 < i → name ≡ global_at w (i - 1) → among name (stack (global_at w) i) ≡ true
-among_hit w name i h e =
-    let n : i ≡ suc (i - 1) = omega arith in
-    ap (λ k. among name (stack (global_at w) k)) n ∙ rw (stack_suc (global_at w) (i - 1), eq-eqb name (global_at w (i - 1)) e)
+among_none : (f : ℕ → ℕ) (name n : ℕ) → ((k : ℕ) → k < n → name ≡ f k → ⊥) → among name (stack f n) ≡ false
+among_none f name zero h = rw (stack_none f)
+among_none f name (suc n) h = rw (stack_suc f n, ne_eqb name (f n) (h n (omega arith))) (among_none f name n (λ k l. h k (omega arith)))
 
-pub among_miss : (w : List ℕ) (name i : ℕ) → 0 < i → ¬ (name ≡ global_at w (i - 1)) → among name (stack (global_at w) (i - 1)) ≡ among name (stack (global_at w) i)
-among_miss w name i h e =
-    let n : i ≡ suc (i - 1) = omega arith in
-    sym (ap (λ k. among name (stack (global_at w) k)) n ∙ rw (stack_suc (global_at w) (i - 1), ne_eqb name (global_at w (i - 1)) e))
+pub among_by : (f : ℕ → ℕ) (name n : ℕ) (r : Bool)
+    → MatchBool r ((k : ℕ) × (k < length (range_with_len 0 n)) × HoldsAt (λ i. f i ≡ name) (range_with_len 0 n) k) (AllWithin (λ i. f i ≢ name) (range_with_len 0 n) 0 (length (range_with_len 0 n)))
+    → r ≡ among name (stack f n)
+among_by f name n true h =
+    let l = length-range_with_len 0 n in
+    let k : h.0 < n = omega (arith, h.1) in
+    let at : get_or (range_with_len 0 n) h.0 0 ≡ h.0 = omega (arith, get_or-range_with_len 0 n h.0 0 k) in
+    sym (among_some f name n h.0 k (sym (ap f (sym at) ∙ h.2 0)))
+among_by f name n false h =
+    let l = length-range_with_len 0 n in
+    sym (among_none f name n (λ k m e. let at : get_or (range_with_len 0 n) k 0 ≡ k = omega (arith, get_or-range_with_len 0 n k 0 m) in h k 0 (omega arith) (omega arith) (ap f at ∙ sym e)))
 
 pub global_told : (w : List ℕ) (p : Scope) (s : Step) (name : ℕ) (r : Bool) → r ≡ among name (stack (global_at w) s.globals) → Tells w p s r (is_global_var name)
 unfolding is_global_var state_of

@@ -14,7 +14,7 @@ use Rattle.store.proofs.Refusals.{refused_outcome, refused_moves}
 use Rattle.meaning.specs.State.{State, Proto, refused, done, and_then, ◌>>=◌, ◌>>◌, get, pure, refuse, if_then, set_current, with_registers, next_register}
 use Rattle.meaning.specs.Expressions.{next_registers}
 use Rattle.meaning.specs.declared.Cause.TheVariants.{Registers}
-use Rattle.meaning.specs.declared.Outcome.TheVariants.{Accepted}
+use Rattle.std.specs.Prelude.{Ok}
 use Rattle.forward.specs.Forward.{fwd_number, fwd_zero, give, give_zero}
 
 -- ---- the definition: the state with n registers more
@@ -97,7 +97,7 @@ module _ (w w' : List ℕ) (p : Scope) (s : Step) (v : ℕ) (fine : Fine w p s) 
       rw
       (ek, eg, constants_same w w' s.constants (below 0 (3 * s.constants) (omega (arith, fine.constants)) only), globals_same w w' s.globals (omega (arith, fine.globals, fine.constants)) (above 4168 4688 (omega arith) only), registers_open, registers_around)
 
-  pub registers_moves : (k x : ℕ) → k < 1024 → s.outcome ≡ Accepted x → Moves w p s w' p (with_result s k) (some_registers v)
+  pub registers_moves : (k x : ℕ) → k < 1024 → s.outcome ≡ Ok x → Moves w p s w' p (with_result s k) (some_registers v)
   registers_moves k x small on =
       record {
         fine = fine_step (with_result s k) (fine_words fine (sound_clear fine.sound only clear firsts) edge_kept) fine.nested (omega arith) fine.constants fine.globals refl (omega arith) (rw on small);
@@ -123,7 +123,7 @@ module _ (w w' : List ℕ) (p : Scope) (s : Step) (v : ℕ) (fine : Fine w p s) 
   register_next node one ne ps =
       register_done node (state_of w p s ps) ne ∙ ap (λ t. done (registers w p.depth) t) (sym (rw one at (registers_state (with_result s (registers w p.depth)) refl refl ps)))
 
-  pub register_leaf : (node x : ℕ) → v ≡ 1 → s.outcome ≡ Accepted x → ¬ (registers w p.depth ≡ 255) → Leaf w p s w' p (with_result s (registers w p.depth)) a_register (fwd_number (next_register node))
+  pub register_leaf : (node x : ℕ) → v ≡ 1 → s.outcome ≡ Ok x → ¬ (registers w p.depth ≡ 255) → Leaf w p s w' p (with_result s (registers w p.depth)) a_register (fwd_number (next_register node))
   register_leaf node x one on ne =
       record {
         moves = rw one at (registers_moves (registers w p.depth) x (omega (arith, below_256 (get_or w (3073 + 8 * p.depth) 0))) on);
@@ -136,7 +136,7 @@ module _ (w w' : List ℕ) (p : Scope) (s : Step) (v : ℕ) (fine : Fine w p s) 
   unfolding state_of open_at
   registers_next node fits ps = registers_done node v (state_of w p s ps) fits ∙ ap (λ t. done tt t) (sym (registers_state (with_result s 0) refl refl ps))
 
-  pub registers_leaf : (node x : ℕ) → s.outcome ≡ Accepted x → registers w p.depth + v ≤ 255 → Leaf w p s w' p (with_result s 0) (some_registers v) (fwd_zero (next_registers node v))
+  pub registers_leaf : (node x : ℕ) → s.outcome ≡ Ok x → registers w p.depth + v ≤ 255 → Leaf w p s w' p (with_result s 0) (some_registers v) (fwd_zero (next_registers node v))
   registers_leaf node x on fits =
       record {
         moves = registers_moves 0 x (omega arith) on;
@@ -146,7 +146,7 @@ module _ (w w' : List ℕ) (p : Scope) (s : Step) (v : ℕ) (fine : Fine w p s) 
 
 -- ---- no register is left
 
-module _ (w : List ℕ) (p : Scope) (s : Step) (fine : Fine w p s) (x : ℕ) (on : s.outcome ≡ Accepted x) where
+module _ (w : List ℕ) (p : Scope) (s : Step) (fine : Fine w p s) (x : ℕ) (on : s.outcome ≡ Ok x) where
   out_of_one : (node : ℕ) → registers w p.depth ≡ 255 → (ps : List Proto) → next_register node (state_of w p s ps) ≡ refused Registers node
   unfolding state_of open_at
   out_of_one node h ps = register_full node (state_of w p s ps) h

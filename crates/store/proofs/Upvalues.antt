@@ -1,8 +1,8 @@
 -- get_upvalue: the search outward from the current function, as a step of the definition.
 use Rattle.std.proofs.Common.{◌≡◌, ℕ, ◌+◌, ◌%◌, ◌≤◌, List, sym, refl, ap, ◌∙◌, arith}
-use mathlib.Core.Option.{Option, none, some}
-use Rattle.store.specs.declared.Found.{Found}
-use Rattle.store.specs.declared.Found.TheVariants.{At, Nothing, Full}
+use mathlib.Core.Option as maybe
+use Rattle.std.specs.Prelude.{Option, None, Some, Result, Ok, Err}
+use Rattle.store.specs.declared.capture.NoRoom.{NoRoom}
 use Rattle.store.specs.declared.Step.{Step}
 use Rattle.store.specs.declared.Scope.{Scope}
 use Rattle.store.specs.Layout.{first_edge, first, edge}
@@ -17,16 +17,16 @@ use Rattle.store.proofs.Searching.{caught_first, caught_saved, caught_registers}
 use Rattle.meaning.specs.State.{Proto, search_outward, get_upvalue}
 use Rattle.meaning.specs.declared.Cause.{Cause}
 use Rattle.meaning.specs.declared.Cause.TheVariants.{Captures}
-use Rattle.meaning.specs.declared.Outcome.TheVariants.{Accepted, Refused}
+use Rattle.meaning.specs.Outcome.{refusal}
 use Rattle.forward.specs.Forward.{going, stopped, at, Answers}
 use Rattle.forward.proofs.Opened.{with_functions, answers_stopped, upvalue_not_found, upvalue_full, upvalue_found}
 
 -- refused at entry
-pub upvalue_absorbed : {w : List ℕ} {p : Scope} {s : Step} (node name : ℕ) {k : Cause} {n : ℕ} → Fine w p s → s.outcome ≡ Refused k n → Told w p s w p s nothing none (get_upvalue node name)
+pub upvalue_absorbed : {w : List ℕ} {p : Scope} {s : Step} (node name : ℕ) {k : Cause} {n : ℕ} → Fine w p s → s.outcome ≡ Err (refusal k n) → Told w p s w p s nothing maybe.none (get_upvalue node name)
 upvalue_absorbed {w} {p} {s} node name {k} {n} h e =
-    record { moves = absorbed nothing h e; tells = λ ps. rw (run_stopped w p s ps k n e) (answers_stopped k n (get_upvalue node name) none); image = λ o ps i. i }
+    record { moves = absorbed nothing h e; tells = λ ps. rw (run_stopped w p s ps k n e) (answers_stopped k n (get_upvalue node name) maybe.none); image = λ o ps i. i }
 
-module _ (w w' : List ℕ) (p : Scope) (s : Step) (fine : Fine w p s) (deep : p.depth ≤ 7) (name : ℕ) (f : Found) (sought : Sought w p.nodes p.depth name w' f) where
+module _ (w w' : List ℕ) (p : Scope) (s : Step) (fine : Fine w p s) (deep : p.depth ≤ 7) (name : ℕ) (f : Result (Option ℕ) NoRoom) (sought : Sought w p.nodes p.depth name w' f) where
   caught : Caught w p.depth w'
   caught = sought.caught
 
@@ -85,31 +85,30 @@ module _ (w w' : List ℕ) (p : Scope) (s : Step) (fine : Fine w p s) (deep : p.
   says : search_of w' p.nodes p.depth p.block p.loops f ≡ search_outward name (open_at w p.nodes p.depth p.block p.loops) (around w p.nodes p.depth)
   says = sought.says p.block p.loops
 
-  tells_nothing : (node : ℕ) (ps : List Proto) → f ≡ Nothing → Answers (going (config_of w p s ps)) (get_upvalue node name) none (going (config_of w' p s ps))
+  tells_nothing : (node : ℕ) (ps : List Proto) → f ≡ Ok None → Answers (going (config_of w p s ps)) (get_upvalue node name) maybe.none (going (config_of w' p s ps))
   unfolding config_of state_of
   tells_nothing node ps e =
       rw (sought.unchanged e) (upvalue_not_found node name (config_of w p s ps) (sym (ap (λ x. search_of w' p.nodes p.depth p.block p.loops x) (sym e) ∙ says)))
 
-  tells_found : (node i : ℕ) (ps : List Proto) → f ≡ At i → Answers (going (config_of w p s ps)) (get_upvalue node name) (some i) (going (config_of w' p s ps))
+  tells_found : (node i : ℕ) (ps : List Proto) → f ≡ Ok (Some i) → Answers (going (config_of w p s ps)) (get_upvalue node name) (maybe.some i) (going (config_of w' p s ps))
   unfolding config_of state_of
   tells_found node i ps e =
       rw (caught_config ps)
       (upvalue_found node name (config_of w p s ps) i (open_at w' p.nodes p.depth p.block p.loops) (around w' p.nodes p.depth) (sym (ap (λ x. search_of w' p.nodes p.depth p.block p.loops x) (sym e) ∙ says)))
 
-  tells_full : (node : ℕ) (a : Option ℕ) (ps : List Proto) → f ≡ Full → Answers (going (config_of w p s ps)) (get_upvalue node name) a (stopped Captures node)
+  tells_full : (node : ℕ) (a : maybe.Option ℕ) (full : NoRoom) (ps : List Proto) → f ≡ Err full → Answers (going (config_of w p s ps)) (get_upvalue node name) a (stopped Captures node)
   unfolding config_of state_of
-  tells_full node a ps e = upvalue_full node name (config_of w p s ps) a (sym (ap (λ x. search_of w' p.nodes p.depth p.block p.loops x) (sym e) ∙ says))
+  tells_full node a full ps e = upvalue_full node name (config_of w p s ps) a (sym (ap (λ x. search_of w' p.nodes p.depth p.block p.loops x) (sym e) ∙ says))
 
-  pub upvalue_told : (node x : ℕ) → s.outcome ≡ Accepted x → (f ≡ Full → ⊥) → Told w p s w' p s nothing (option_of f) (get_upvalue node name)
-  upvalue_told node x on nf = record { moves = caught_moves; tells = λ ps. rw (run_going w p s ps x on, run_going w' p s ps x on) (tells ps f refl); image = λ o ps i. i }
+  pub upvalue_told : (node x : ℕ) → s.outcome ≡ Ok x → (g : Option ℕ) → f ≡ Ok g → Told w p s w' p s nothing (option_of g) (get_upvalue node name)
+  upvalue_told node x on g e = record { moves = caught_moves; tells = λ ps. rw (run_going w p s ps x on, run_going w' p s ps x on) (tells ps g e); image = λ o ps i. i }
     where
-      tells : (ps : List Proto) (g : Found) → f ≡ g → Answers (going (config_of w p s ps)) (get_upvalue node name) (option_of g) (going (config_of w' p s ps))
-      tells ps Nothing e = tells_nothing node ps e
-      tells ps (At i) e = tells_found node i ps e
-      tells ps Full e = absurd (nf e)
+      tells : (ps : List Proto) (g : Option ℕ) → f ≡ Ok g → Answers (going (config_of w p s ps)) (get_upvalue node name) (option_of g) (going (config_of w' p s ps))
+      tells ps None e = tells_nothing node ps e
+      tells ps (Some i) e = tells_found node i ps e
 
-  pub upvalue_none : (node x : ℕ) → s.outcome ≡ Accepted x → f ≡ Full → Told w p s w' p (refused_step s Captures node) nothing none (get_upvalue node name)
-  upvalue_none node x on e =
+  pub upvalue_none : (node x : ℕ) (full : NoRoom) → s.outcome ≡ Ok x → f ≡ Err full → Told w p s w' p (refused_step s Captures node) nothing maybe.none (get_upvalue node name)
+  upvalue_none node x full on e =
       record {
         moves =
             record {
@@ -120,6 +119,6 @@ module _ (w w' : List ℕ) (p : Scope) (s : Step) (fine : Fine w p s) (deep : p.
               longer = omega arith;
               still = λ z. edge_kept p.block;
             };
-        tells = λ ps. rw (run_going w p s ps x on, run_stopped w' p (refused_step s Captures node) ps Captures node (refused_outcome s Captures node on)) (tells_full node none ps e);
+        tells = λ ps. rw (run_going w p s ps x on, run_stopped w' p (refused_step s Captures node) ps Captures node (refused_outcome s Captures node on)) (tells_full node maybe.none full ps e);
         image = image_none p s (refused_step s Captures node) (refused_outcome s Captures node on);
       }

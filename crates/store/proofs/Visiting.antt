@@ -1,5 +1,5 @@
 -- One visit more is counted: a word of main's frame that nothing else stands on, so all that the words stand for stays.
-use Rattle.std.proofs.Common.{◌≡◌, ℕ, suc, ◌+◌, ◌-◌, ◌*◌, ◌%◌, ◌≤◌, List, length, get_or, set, refl, ap, arith, length-set, get_or-set_other, get_or-set_same}
+use Rattle.std.proofs.Common.{◌≡◌, ℕ, suc, ◌+◌, ◌-◌, ◌*◌, ◌%◌, ◌≤◌, List, get_or, refl, ap, arith}
 use Rattle.store.specs.declared.Step.{Step}
 use Rattle.store.specs.declared.Scope.{Scope}
 use Rattle.store.specs.Layout.{registers, first, held, edge}
@@ -9,16 +9,8 @@ use Rattle.store.proofs.Regions.{Only, below, above, constants_same, globals_sam
 use Rattle.store.proofs.Runs.{promised}
 use Rattle.store.proofs.Steady.{Clear, sound_clear, kept_clear, clear_edges, clear_blocks, fine_words, taken_by}
 use Rattle.meaning.specs.State.{Proto}
-use Rattle.meaning.specs.declared.Outcome.{Outcome}
-use Rattle.meaning.specs.declared.Outcome.TheVariants.{Accepted, Refused}
-
-pub ticked : (w : List ℕ) (v : ℕ) → 3144 ≤ length w → v ≡ (get_or w 3077 0 + 1) % 4294967296 → Ticked w (set w 3077 v)
-ticked w v h e =
-    record {
-      same = length-set w 3077 v;
-      counts = let z = get_or-set_same w 3077 v 0 (omega arith) in omega (arith, z, e);
-      other = λ i n. get_or-set_other w 3077 i v 0 n;
-    }
+use Rattle.std.specs.Prelude.{Ok, Err}
+use Rattle.meaning.specs.Outcome.{Outcome}
 
 module _ {w w' : List ℕ} {p : Scope} {s : Step} (fine : Fine w p s) (t : Ticked w w') where
   only : Only w w' 3077 3078
@@ -87,5 +79,5 @@ module _ {w w' : List ℕ} {p : Scope} {s : Step} (fine : Fine w p s) (t : Ticke
   ticked_runs ps = cases s.outcome (λ d. ticked_config d ps) fine.nested
     where
       cases : (o : Outcome) → (p.depth ≤ 7 → config_of w' p s ps ≡ config_of w p s ps) → while_going o (p.depth ≤ 7) → run_by o (config_of w' p s ps) ≡ run_by o (config_of w p s ps)
-      cases (Accepted x) h d = ap (λ c. run_by (Accepted x) c) (h d)
-      cases (Refused k n) h d = refl
+      cases (Ok x) h d = ap (λ c. run_by (Ok x) c) (h d)
+      cases (Err why) h d = refl

@@ -1,33 +1,31 @@
 -- What the searches promise: of locals by their name, of captures, of the functions around.
 use Rattle.std.specs.Prelude.{◌≡◌, ℕ, zero, suc, ◌+◌, ◌*◌, ◌<◌, ◌≤◌, cond, List, length, ◌==◌, nat_lt, slice_index}
-use Rattle.std.proofs.Math.Option.{Option, none, some}
-use Rattle.store.specs.declared.Found.{Found}
-use Rattle.store.specs.declared.Found.TheVariants.{At, Nothing, Full}
+use Rattle.std.specs.Prelude.{Option, None, Some, Result, Ok, Err, IfOk}
+use Rattle.std.proofs.Math.Option as maybe
+use Rattle.store.specs.declared.capture.NoRoom.{NoRoom}
 use Rattle.store.specs.Layout.{all_words, first, edge, capture_of}
 use Rattle.store.specs.Store.{open_at, around, Linked}
 use Rattle.meaning.specs.State.{Local, Search, not_found, full, found, add_upvalue, search_outward}
 
--- what was found as the definition has it; where a capture does not fit, the step is refused and this is not asked
-abbrev pub option_of : Found → Option ℕ
-option_of (At i) = some i
-option_of Nothing = none
-option_of Full = none
+-- what was found, as the definition has it
+abbrev pub option_of : Option ℕ → maybe.Option ℕ
+option_of (Some i) = maybe.some i
+option_of None = maybe.none
 
--- the same the other way: a search of locals is never full
-abbrev pub found_of : Option ℕ → Found
-found_of none = Nothing
-found_of (some i) = At i
+-- the same the other way
+abbrev pub found_of : maybe.Option ℕ → Option ℕ
+found_of maybe.none = None
+found_of (maybe.some i) = Some i
 
 -- a register or an index is below 255
-abbrev pub in_byte : Found → Type 0
-in_byte (At i) = i < 255
-in_byte Nothing = Unit {0}
-in_byte Full = Unit {0}
+abbrev pub in_byte : Option ℕ → Type 0
+in_byte (Some i) = i < 255
+in_byte None = Unit {0}
 
 -- the latest of the locals from a up to n with that name, or else o
-unfoldable pub seek : ℕ → (ℕ → Local) → (a n : ℕ) → Option ℕ → Option ℕ
+unfoldable pub seek : ℕ → (ℕ → Local) → (a n : ℕ) → maybe.Option ℕ → maybe.Option ℕ
 seek name f a zero o = o
-seek name f a (suc n) o = cond (nat_lt n a) o (cond (name == (f n).name) (some (f n).register) (seek name f a n o))
+seek name f a (suc n) o = cond (nat_lt n a) o (cond (name == (f n).name) (maybe.some (f n).register) (seek name f a n o))
 
 -- what a walk along the links up to `end` needs: the locals of some blocks are linked, and `end` is the edge of one of them
 pub record Walkable (w : List ℕ) (n end : ℕ) : Type 0 where
@@ -57,26 +55,29 @@ pub record Caught (w : List ℕ) (d : ℕ) (w' : List ℕ) : Type 0 where
   pub counts : (j : ℕ) → d < j → j < 9 → slice_index w' (3074 + 8 * j) ≡ slice_index w (3074 + 8 * j)
   pub above : (i : ℕ) → 3144 + 128 * suc d ≤ i → i < 4168 → slice_index w' i ≡ slice_index w i
 
--- what was found, with the words after it, in function d and around it
-abbrev pub search_of : List ℕ → (n d e l : ℕ) → Found → Search
-search_of w n d e l Nothing = not_found
-search_of w n d e l Full = full
-search_of w n d e l (At i) = found i (open_at w n d e l) (around w n d)
+-- what was found, or that a capture does not fit, with the words after it, in function d and around it
+abbrev pub search_of : List ℕ → (n d e l : ℕ) → Result (Option ℕ) NoRoom → Search
+search_of w n d e l (Ok None) = not_found
+search_of w n d e l (Ok (Some i)) = found i (open_at w n d e l) (around w n d)
+search_of w n d e l (Err no_room) = full
+
+-- a capture that is added is found, or does not fit
+abbrev pub added_of : Result ℕ NoRoom → Result (Option ℕ) NoRoom
+added_of (Ok i) = Ok (Some i)
+added_of (Err no_room) = Err no_room
 
 -- function d captures x; there may be any number of nodes, and function d's blocks and loops may end anywhere
-pub record Added (w : List ℕ) (d x : ℕ) (w' : List ℕ) (r : Found) : Type 0 where
-  pub says : (n e l : ℕ) → search_of w' n d e l r ≡ add_upvalue (open_at w n d e l) (capture_of x) (around w n d)
-  pub small : in_byte r
-  -- a capture that is added is found, or does not fit
-  pub never : r ≡ Nothing → ⊥
+pub record Added (w : List ℕ) (d x : ℕ) (w' : List ℕ) (r : Result ℕ NoRoom) : Type 0 where
+  pub says : (n e l : ℕ) → search_of w' n d e l (added_of r) ≡ add_upvalue (open_at w n d e l) (capture_of x) (around w n d)
+  pub small : IfOk r (λ i. i < 255)
   pub caught : Caught w d w'
 
 -- the search outward from function d
-pub record Sought (w : List ℕ) (n d name : ℕ) (w' : List ℕ) (r : Found) : Type 0 where
+pub record Sought (w : List ℕ) (n d name : ℕ) (w' : List ℕ) (r : Result (Option ℕ) NoRoom) : Type 0 where
   pub says : (e l : ℕ) → search_of w' n d e l r ≡ search_outward name (open_at w n d e l) (around w n d)
-  pub small : in_byte r
+  pub small : IfOk r in_byte
   pub caught : Caught w d w'
-  pub unchanged : r ≡ Nothing → w' ≡ w
+  pub unchanged : r ≡ Ok None → w' ≡ w
 
 -- what the search reads: the blocks of the functions 0 to d
 pub record Ready (w : List ℕ) (n d : ℕ) : Type 0 where

@@ -1,5 +1,5 @@
 -- What the words, a step and a scope stand for: the definition's State and the pending code. This is the abstraction that every contract cites.
-use Rattle.std.specs.Prelude.{◌≡◌, ℕ, zero, suc, ◌+◌, ◌*◌, ◌%◌, ◌<◌, ◌≤◌, Bool, not, ◌&&◌, List, [], ◌∷◌, length, take, ◌==◌, slice_index}
+use Rattle.std.specs.Prelude.{◌≡◌, ℕ, zero, suc, ◌+◌, ◌*◌, ◌%◌, ◌<◌, ◌≤◌, Bool, not, ◌&&◌, List, [], ◌∷◌, length, take, ◌==◌, slice_index, Ok, Err}
 use Rattle.store.specs.declared.Step.{Step}
 use Rattle.store.specs.declared.Scope.{Scope}
 use Rattle.store.specs.Table.{tab, stack, span}
@@ -8,8 +8,7 @@ use Rattle.meaning.specs.Images.{inst_tag}
 use Rattle.meaning.specs.Image.{proto_bytes}
 use Rattle.meaning.specs.State.{Open, Proto, State}
 use Rattle.meaning.specs.declared.Cause.{Cause}
-use Rattle.meaning.specs.declared.Outcome.{Outcome}
-use Rattle.meaning.specs.declared.Outcome.TheVariants.{Accepted, Refused}
+use Rattle.meaning.specs.Outcome.{Outcome, refusal}
 use Rattle.forward.specs.Forward.{Config, config, Run, stopped, going}
 
 -- ---- what a scope and a step hold: specs outside this crate name it so, and how the two records are laid out is said here alone
@@ -21,6 +20,14 @@ nodes_of p = p.nodes
 -- the first word above the pending code
 abbrev pub top_of : Scope → ℕ
 top_of p = top p.nodes
+
+-- instruction i has its cell in the words, below the top
+abbrev pub HasCell : List ℕ → Scope → ℕ → Type 0
+HasCell w p i = (top_of p ≤ length w) × (2 * i + 2 ≤ top_of p) × (nodes_of p ≤ 32768)
+
+-- the first n instructions have theirs
+abbrev pub HasCells : List ℕ → Scope → ℕ → Type 0
+HasCells w p n = (top_of p ≤ length w) × (2 * n ≤ top_of p) × (nodes_of p ≤ 32768)
 
 -- the functions around the current one
 abbrev pub depth_of : Scope → ℕ
@@ -101,8 +108,8 @@ config_of w p s ps = config (tab (inst_at w (top_of p)) s.pc) s.result (state_of
 
 -- a refusal by its cause and node, else the configuration
 abbrev pub run_by : Outcome → Config → Run
-run_by (Accepted written) c = going c
-run_by (Refused cause node) c = stopped cause node
+run_by (Ok written) c = going c
+run_by (Err why) c = stopped why.cause why.place
 
 -- a refused step stands for its refusal, any other for the pending code, the result register and the State
 unfoldable pub run : List ℕ → Scope → Step → List Proto → Run
@@ -146,7 +153,7 @@ global_scope p = main_alone p.depth p.block
 
 -- where the lowering starts: nothing is written, pending or stored
 abbrev pub first_step : Step
-first_step = record { outcome = Accepted 0; pc = 0; constants = 0; globals = 0; functions = 0; result = 0 }
+first_step = record { outcome = Ok 0; pc = 0; constants = 0; globals = 0; functions = 0; result = 0 }
 
 -- so many instructions, and this result
 abbrev pub advanced : Step → (pc result : ℕ) → Step
@@ -166,17 +173,17 @@ global_more s = record { outcome = s.outcome; pc = s.pc; constants = s.constants
 
 -- one prototype more, whose index is the result: the prototypes' bytes end at `end`, and its code, from `first` on, is cut off
 abbrev pub prototype_more : Step → (first end : ℕ) → Step
-prototype_more s first end = record { outcome = Accepted end; pc = first; constants = s.constants; globals = s.globals; functions = s.functions + 1; result = s.functions }
+prototype_more s first end = record { outcome = Ok end; pc = first; constants = s.constants; globals = s.globals; functions = s.functions + 1; result = s.functions }
 
 -- refused now, or before
 abbrev pub refused_by : Outcome → Cause → ℕ → Outcome
-refused_by (Accepted written) cause node = Refused cause node
-refused_by (Refused cause node) cause' node' = Refused cause node
+refused_by (Ok written) cause node = Err (refusal cause node)
+refused_by (Err why) cause' node' = Err why
 
 -- the result of a refused step: 0, or as it was where it was refused before
 abbrev pub result_by : Outcome → ℕ → ℕ
-result_by (Accepted written) r = 0
-result_by (Refused cause node) r = r
+result_by (Ok written) r = 0
+result_by (Err why) r = r
 
 -- a step that is refused now: its counts stay; one that was refused before stays as it is
 abbrev pub refused_step : Step → Cause → ℕ → Step
@@ -185,13 +192,13 @@ refused_step s k n =
 
 -- not refused so far
 abbrev pub goes_on : Outcome → Type 0
-goes_on (Accepted written) = Unit {0}
-goes_on (Refused cause node) = ⊥
+goes_on (Ok written) = Unit {0}
+goes_on (Err why) = ⊥
 
 -- a fact that is due only while nothing is refused
 abbrev pub while_going : Outcome → Type 0 → Type 0
-while_going (Accepted written) P = P
-while_going (Refused cause node) P = Unit {0}
+while_going (Ok written) P = P
+while_going (Err why) P = Unit {0}
 
 -- ---- the output: it holds the finished prototypes where they fit; they are counted always
 
@@ -203,8 +210,8 @@ pub record Written (tag : ℕ) (o : List ℕ) (written functions : ℕ) (ps : Li
 
 -- the same while nothing is refused; of a refused step's output nothing is said
 abbrev pub image_by : (tag : ℕ) → Outcome → List ℕ → ℕ → List Proto → Type 0
-image_by tag (Accepted written) o functions ps = Written tag o written functions ps
-image_by tag (Refused cause node) o functions ps = Unit {0}
+image_by tag (Ok written) o functions ps = Written tag o written functions ps
+image_by tag (Err why) o functions ps = Unit {0}
 
 -- the output holds the prototypes ps, as the step counts them, with marks of the scope's width
 abbrev pub Image : Scope → List ℕ → Step → List Proto → Type 0
@@ -212,8 +219,8 @@ Image p o s ps = image_by (code_tag p) s.outcome o s.functions ps
 
 -- the bytes of the finished prototypes, 0 where a step is refused
 abbrev pub written_by : Outcome → ℕ
-written_by (Accepted written) = written
-written_by (Refused cause node) = 0
+written_by (Ok written) = written
+written_by (Err why) = 0
 
 -- ---- what every function keeps, refused or not
 
@@ -261,8 +268,8 @@ pub record Sound (w : List ℕ) (p : Scope) : Type 0 where
 
 -- a result is a register, which is below 255, or the index of a constant or a prototype; 0 once a step is refused
 abbrev pub result_limit : Outcome → ℕ
-result_limit (Accepted written) = 1024
-result_limit (Refused cause node) = 255
+result_limit (Ok written) = 1024
+result_limit (Err why) = 255
 
 -- what every function is given and gives back: the words in their scope, and a step whose counts keep to 01's limits
 pub record Fine (w : List ℕ) (p : Scope) (s : Step) : Type 0 where

@@ -8,7 +8,6 @@ ghost use Rattle.store.specs.Promise.{nothing, Leaf, Popped};
 
 use crate::layout::{EDGES, LOCALS};
 use crate::local::{bucket, set_head};
-use crate::scopes::deeper;
 use crate::{Scope, Step};
 
 // fn enter_block: the scope inside.
@@ -18,7 +17,7 @@ pub fn enter_block(work: &mut [u32], scope: Scope) -> Scope
 {
     let at = EDGES + scope.nodes + scope.block;
     work[at + 1] = work[at];
-    deeper(scope)
+    scope.deeper()
 }
 
 // fn leave_block, and a function's last block: the locals of the block inside `scope` are popped, the latest first, refused or not.
@@ -29,9 +28,8 @@ pub fn leave_block(work: &mut [u32], scope: Scope)
     let nodes = scope.nodes;
     let at = EDGES + nodes + scope.block;
     let from = work[at] as usize;
-    let mut i = work[at + 1] as usize;
-    while from < i {
-        i -= 1;
+    let to = work[at + 1] as usize;
+    for i in (from..to).rev() {
         let x = work[LOCALS + 2 * nodes + i];
         let b = bucket((x % 65536) as usize, nodes);
         set_head(work, nodes, b, x / 65536);

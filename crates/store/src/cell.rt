@@ -2,7 +2,7 @@
 ghost use Rattle.std.specs.Prelude.{◌≡◌, ◌+◌, ◌*◌, ◌<◌, ◌≤◌, length, set, slice_index, slice_set};
 ghost use Rattle.meaning.specs.Opcode.{inst, inst_bx, back, Jmp};
 ghost use Rattle.store.specs.Layout.{cell, mark_cell, unpacked, inst_at};
-ghost use Rattle.store.specs.Store.{nodes_of, top_of};
+ghost use Rattle.store.specs.Store.{nodes_of, top_of, HasCell};
 ghost use Rattle.store.specs.Cell.{Bytes, Packs, Wrote};
 
 use crate::Scope;
@@ -46,10 +46,11 @@ pub fn unpacked(x: u32, mark: u32) -> Instruction
         a: (x / 256 % 256) as u8,
         b: (x / 65536 % 256) as u8,
         c: (x / 16777216 % 256) as u8,
-        mark: mark,
+        mark,
     }
 }
 
+// stays: the five below read or write a word, a mark or both at the one place that `cell` tells: a parameter for which would be no plainer.
 // Where the packed word of instruction i stands.
 fn cell(scope: Scope, i: usize) -> usize
     requires { (2 * i + 2 ≤ top_of scope) × (nodes_of scope ≤ 32768) }
@@ -60,7 +61,7 @@ fn cell(scope: Scope, i: usize) -> usize
 
 // Instruction i is written, by its packed word and its mark.
 pub fn write_cell(work: &mut [u32], scope: Scope, i: usize, word: u32, mark: u32)
-    requires { (top_of scope ≤ length work.old) × (2 * i + 2 ≤ top_of scope) × (nodes_of scope ≤ 32768) }
+    requires { HasCell work.old scope i }
     ensures { Wrote work.old (top_of scope) i word mark work.new }
 {
     let at = cell(scope, i);
@@ -70,7 +71,7 @@ pub fn write_cell(work: &mut [u32], scope: Scope, i: usize, word: u32, mark: u32
 
 // Its packed word alone is set anew.
 pub fn set_word(work: &mut [u32], scope: Scope, i: usize, word: u32)
-    requires { (top_of scope ≤ length work.old) × (2 * i + 2 ≤ top_of scope) × (nodes_of scope ≤ 32768) }
+    requires { HasCell work.old scope i }
     ensures { work.new ≡ slice_set work.old (cell (top_of scope) i) word }
 {
     let at = cell(scope, i);
@@ -79,7 +80,7 @@ pub fn set_word(work: &mut [u32], scope: Scope, i: usize, word: u32)
 
 // Its packed word.
 pub fn word_at(work: &[u32], scope: Scope, i: usize) -> u32
-    requires { (top_of scope ≤ length work.now) × (2 * i + 2 ≤ top_of scope) × (nodes_of scope ≤ 32768) }
+    requires { HasCell work.now scope i }
     ensures { result ≡ slice_index work.now (cell (top_of scope) i) }
 {
     let at = cell(scope, i);
@@ -88,7 +89,7 @@ pub fn word_at(work: &[u32], scope: Scope, i: usize) -> u32
 
 // Its mark.
 pub fn mark_at(work: &[u32], scope: Scope, i: usize) -> u32
-    requires { (top_of scope ≤ length work.now) × (2 * i + 2 ≤ top_of scope) × (nodes_of scope ≤ 32768) }
+    requires { HasCell work.now scope i }
     ensures { result ≡ slice_index work.now (mark_cell (top_of scope) i) }
 {
     let at = cell(scope, i);
@@ -97,7 +98,7 @@ pub fn mark_at(work: &[u32], scope: Scope, i: usize) -> u32
 
 // Instruction i.
 pub fn inst_at(work: &[u32], scope: Scope, i: usize) -> Instruction
-    requires { (top_of scope ≤ length work.now) × (2 * i + 2 ≤ top_of scope) × (nodes_of scope ≤ 32768) }
+    requires { HasCell work.now scope i }
     ensures { result ≡ inst_at work.now (top_of scope) i }
 {
     unpacked(word_at(work, scope, i), mark_at(work, scope, i))

@@ -4,9 +4,8 @@ ghost use Rattle.store.specs.Store.{inner, Fine};
 ghost use Rattle.store.specs.Opening.{Enters};
 
 use crate::layout::EDGES;
-use crate::scopes::inner;
 use crate::start::open_frame;
-use crate::{Entered, Scope, Step, refuse};
+use crate::{Entered, Scope, Step};
 
 // fn enter_function: a ninth is refused, and has a scope of its own all the same, in which nothing happens any more.
 pub fn enter_function(
@@ -30,9 +29,9 @@ pub fn enter_function(
     );
     let at = EDGES + scope.nodes + block;
     work[at + 1] = work[at];
-    let inside = inner(scope);
+    let inside = scope.inner();
     if depth == 7 {
-        let refused = refuse(step, meaning::Cause::Nesting, node);
+        let refused = step.refuse(meaning::Cause::Nesting, node);
         return Entered {
             step: refused,
             scope: inside,

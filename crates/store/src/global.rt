@@ -10,14 +10,13 @@ ghost use Rattle.store.specs.Promise.{a_global, Leaf, Tells};
 
 use crate::half::{half_at, set_half};
 use crate::layout::GLOBALS;
-use crate::steps::global_more;
 use crate::{Scope, Step};
 
 // The main function, with its first block alone.
 pub(crate) fn main_alone(depth: usize, block: usize) -> bool
     ensures { result ≡ main_alone depth block }
 {
-    if depth == 0 { block == 1 } else { false }
+    depth == 0 && block == 1
 }
 
 // fn is_global_context
@@ -32,14 +31,7 @@ pub fn is_global_var(work: &[u32], step: Step, scope: Scope, name: usize) -> boo
     requires { Fine work.now scope step }
     ensures { (result ≡ among name (stack (global_at work.now) step.globals)) × Tells work.now scope step result (is_global_var name) }
 {
-    let mut i = step.globals;
-    while 0 < i {
-        i -= 1;
-        if name == half_at(work, GLOBALS + i) as usize {
-            return true;
-        }
-    }
-    false
+    (0..step.globals).any(|i| half_at(work, GLOBALS + i) as usize == name)
 }
 
 // self.globals.insert(..)
@@ -48,9 +40,9 @@ pub fn add_global(work: &mut [u32], step: Step, scope: Scope, name: usize) -> St
     ensures { Leaf work.old scope step work.new scope result a_global (fwd_unit (add_global name)) }
 {
     let o = step.outcome;
-    let meaning::Outcome::Accepted(_) = o else {
+    let Ok(_) = o else {
         return step;
     };
     set_half(work, GLOBALS + step.globals, name as u32);
-    global_more(step)
+    step.global_more()
 }

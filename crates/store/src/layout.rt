@@ -1,6 +1,15 @@
 // Where the parts of the work area begin; specs/Layout has the table. To EDGES a word for each node is added where it is used, to LOCALS two.
+// stays: the area is fixed memory that the caller lends, a slice of words with counts, links and halves in them; there is no heap for a Vec or a map.
+// stays: `nodes ≤ 32768` in each clause: as an invariant of Scope it would ask more of those who make one by `Scope::main`, which takes any number.
 ghost use Rattle.std.specs.Prelude.{◌≡◌, ◌≤◌};
 ghost use Rattle.store.specs.Layout.{top, first_head, beyond};
+
+// Kinds of constants, in the first of a constant's three words.
+pub const NUMBER: u32 = 1;
+
+pub const TEXT: u32 = 2;
+
+pub const OTHER: u32 = 3;
 
 // Word 0 of a frame, which has eight: the function's name.
 pub const NAMES: usize = 3072;

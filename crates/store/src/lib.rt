@@ -25,18 +25,17 @@ pub use constant::{add_constant, add_name};
 pub use count::{visit, visits};
 pub use function::enter_function;
 pub use global::{add_global, is_global_context, is_global_var};
-pub use layout::{HELD, NAMES, REGISTERS};
+pub use layout::{HELD, NAMES, NUMBER, REGISTERS, TEXT};
 pub use local::{allocate_register, declare_parameter, get_var_register};
 pub use register::{next_register, next_registers};
-pub use scopes::{inner, looped, main_scope};
 pub use start::begin;
-pub use steps::{advance, prototype_more, refuse, settle};
 
+// stays: `work`, `step` and `scope` side by side, and `Fine` of them in each contract: code/src/lib.rt says what a struct of them would cost.
 // Where the lowering stands: the outcome so far (accepted with the bytes of the finished prototypes), how many instructions are pending,
 // constants, globals and finished prototypes there are, and the register of the last result.
 #[derive(Clone, Copy)]
 pub struct Step {
-    pub outcome: meaning::Outcome,
+    pub outcome: Result<usize, meaning::Refusal>,
     pub pc: usize,
     pub constants: usize,
     pub globals: usize,
@@ -44,6 +43,7 @@ pub struct Step {
     pub result: u32,
 }
 
+// stays: `mode` and `wide` are numbers, since `Scope::main` takes any and `Begun` (specs/Opening) speaks of any.
 // What is lexical: the number of nodes, which fixes the layout; of functions around the current one; of open blocks; of the current function's open loops; the mode of the call; and whether the marks have four bytes.
 #[derive(Clone, Copy)]
 pub struct Scope {
@@ -55,19 +55,11 @@ pub struct Scope {
     pub wide: usize,
 }
 
-// What a search gives: a register or an index, nothing, or a capture that does not fit.
-#[derive(Clone, Copy)]
-pub enum Found {
-    At(u32),
-    Nothing,
-    Full,
-}
-
-// A step with what it found.
+// A step with what it found: the index of a capture, or nothing.
 #[derive(Clone, Copy)]
 pub struct Lookup {
     pub step: Step,
-    pub found: Found,
+    pub found: Option<u32>,
 }
 
 // A step with the scope inside.

@@ -13,7 +13,7 @@ ghost use Rattle.store.specs.Search.{option_of, found_of, in_byte, seek, Walkabl
 use crate::half::{half_at, set_half};
 use crate::layout::{EDGES, FIRSTS, LOCAL_REGISTERS, LOCALS, first_head};
 use crate::register::next_register;
-use crate::{Found, Scope, Step};
+use crate::{Scope, Step};
 
 // The bucket of a name.
 pub(crate) fn bucket(name: usize, nodes: usize) -> usize
@@ -40,8 +40,9 @@ pub(crate) fn set_head(work: &mut [u32], nodes: usize, b: usize, v: u32)
     set_half(work, first_head(nodes) + b, v);
 }
 
+// stays: both loops go along links, not up a range; so does that of `unlink`.
 // The register of the latest of the locals from `start` up to `end` with that name.
-pub(crate) fn look(work: &[u32], nodes: usize, start: usize, end: usize, name: usize) -> Found
+pub(crate) fn look(work: &[u32], nodes: usize, start: usize, end: usize, name: usize) -> Option<u32>
     requires { Walkable work.now nodes end }
     ensures { result ≡ found_of (seek name (local_at work.now nodes) start end none) }
 {
@@ -55,15 +56,15 @@ pub(crate) fn look(work: &[u32], nodes: usize, start: usize, end: usize, name: u
         let x = work[base + (i - 1)];
         let its = (x % 65536) as usize;
         if its == name {
-            return Found::At(half_at(work, LOCAL_REGISTERS + (i - 1)) % 255);
+            return Some(half_at(work, LOCAL_REGISTERS + (i - 1)) % 255);
         }
         i = (x / 65536) as usize;
     }
-    Found::Nothing
+    None
 }
 
 // fn get_var_register: a local of the current function.
-pub fn get_var_register(work: &[u32], scope: Scope, name: usize) -> Found
+pub fn get_var_register(work: &[u32], scope: Scope, name: usize) -> Option<u32>
     requires { Sound work.now scope }
     ensures { ((s : Step) → Tells work.now scope s (option_of result) (get_var_register name)) × in_byte result }
 {
@@ -104,7 +105,7 @@ pub fn allocate_register(work: &mut [u32], step: Step, scope: Scope, name: usize
     ensures { Leaf work.old scope step work.new scope step a_local (fwd_unit (allocate_register name register)) }
 {
     let o = step.outcome;
-    let meaning::Outcome::Accepted(_) = o else {
+    let Ok(_) = o else {
         return;
     };
     let nodes = scope.nodes;

@@ -2,26 +2,13 @@
 ghost use Rattle.std.specs.Prelude.{◌≡◌, ◌≤◌, length};
 ghost use Rattle.store.specs.Layout.{all_words};
 ghost use Rattle.store.specs.Store.{first_step};
-ghost use Rattle.store.specs.Opening.{Zeroed, Framed, Begun};
+ghost use Rattle.store.specs.Opening.{Framed, Begun};
 
 use crate::Step;
 use crate::layout::{EDGES, NAMES, VISITS, beyond, top};
-use crate::steps::first_step;
 
 // Where main's first block ends.
 const SECOND_EDGE: usize = EDGES + 1;
-
-// The words from `from` up to `to` are 0.
-fn zero(work: &mut [u32], from: usize, to: usize)
-    requires { (from ≤ to) × (to ≤ length work.old) }
-    ensures { Zeroed work.old from to work.new }
-{
-    let mut i = from;
-    while i < to {
-        work[i] = 0;
-        i += 1;
-    }
-}
 
 // The frame of the function at `depth`.
 pub(crate) fn open_frame(work: &mut [u32], depth: usize, name: u32, block: u32, loops: u32)
@@ -42,9 +29,9 @@ pub fn begin(work: &mut [u32], nodes: usize) -> Step
     ensures { (result ≡ first_step) × Begun work.old nodes work.new }
 {
     work[VISITS] = 1;
-    zero(work, top(nodes), beyond(nodes));
+    work[top(nodes)..beyond(nodes)].fill(0);
     work[EDGES + nodes] = 0;
     work[SECOND_EDGE + nodes] = 0;
     open_frame(work, 0, 65535, 0, 0);
-    first_step()
+    Step::first()
 }

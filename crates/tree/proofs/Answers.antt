@@ -13,8 +13,8 @@ use Rattle.meaning.specs.Grammar.{wide_marks, shape_at}
 use Rattle.meaning.specs.Tree.{kids_of, all_kids, tree_at, parent_of, depth_of, depth_at}
 use Rattle.meaning.specs.Check.{framed, unless, work_for, checked_work, checked_fields, checked_tree}
 use Rattle.meaning.specs.declared.Cause.TheVariants.{Frame, Many, Shape, Tree, Depth, Work}
-use Rattle.meaning.specs.declared.Outcome.{Outcome}
-use Rattle.meaning.specs.declared.Outcome.TheVariants.{Accepted, Refused}
+use Rattle.std.specs.Prelude.{Ok, Err}
+use Rattle.meaning.specs.Outcome.{Outcome, refusal}
 use Rattle.meaning.proofs.Lists.{lowest_all, lowest_same}
 use Rattle.meaning.proofs.Modes.{fields_0}
 use Rattle.meaning.proofs.FieldLaws.{whole_true, whole_false, fields_whole, fields_cut}
@@ -91,20 +91,20 @@ module _ (fs : List Field) (l : List ℕ) (n : ℕ) (v : Shapely fs l n) where
 -- ---- refusals 1 and 2
 
 module _ (s : List ℕ) (work n after : ℕ) (en : n ≡ length (fields s)) (ea : after ≡ length (left s)) where
-  pub no_fields : n ≡ 0 → Refused Frame n ≡ checked_tree 0 s work
+  pub no_fields : n ≡ 0 → Err (refusal Frame n) ≡ checked_tree 0 s work
   unfolding checked_tree framed
   no_fields e = simp (← en, e)
 
-  pub cut_off : (after ≡ 0 → ⊥) → Refused Frame n ≡ checked_tree 0 s work
+  pub cut_off : (after ≡ 0 → ⊥) → Err (refusal Frame n) ≡ checked_tree 0 s work
   unfolding checked_tree framed
   cut_off h = simp (← en, ← ea, ne_eqb after 0 h) (go (ltb 0 n))
     where
-      go : (b : Bool) → Refused Frame n ≡ cond (b && false) (cond (ltb 32768 n) (Refused Many 32768) (checked_fields 0 (fields s) work)) (Refused Frame n)
+      go : (b : Bool) → Err (refusal Frame n) ≡ cond (b && false) (cond (ltb 32768 n) (Err (refusal Many 32768)) (checked_fields 0 (fields s) work)) (Err (refusal Frame n))
       go true = refl
       go false = refl
 
   module _ (h : n ≡ 0 → ⊥) (e : after ≡ 0) where
-    pub too_many : 32768 < n → Refused Many 32768 ≡ checked_tree 0 s work
+    pub too_many : 32768 < n → Err (refusal Many 32768) ≡ checked_tree 0 s work
     unfolding checked_tree framed
     too_many l = simp (← en, ← ea, lt-ltb 0 n (omega arith), eq-eqb after 0 e, lt-ltb 32768 n l)
 
@@ -129,11 +129,11 @@ module _ (fs : List Field) (work n : ℕ) (en : n ≡ length fs) where
   checked_at = rw en (sym (fields_0 fs work))
 
 module _ (n work : ℕ) where
-  pub no_work : work < 12288 + 16 * n → Refused Work 0 ≡ checked_work n work
+  pub no_work : work < 12288 + 16 * n → Err (refusal Work 0) ≡ checked_work n work
   unfolding checked_work work_for
   no_work h = simp (lt-ltb work (12288 + 16 * n) h)
 
-  pub all_well : 12288 + 16 * n ≤ work → Accepted n ≡ checked_work n work
+  pub all_well : 12288 + 16 * n ≤ work → Ok n ≡ checked_work n work
   unfolding checked_work work_for
   all_well h = simp (le-ltb work (12288 + 16 * n) h)
 

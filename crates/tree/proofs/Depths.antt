@@ -14,7 +14,9 @@ use borrow.Author.Tests.{eqb-true, eqb-false}
 use Rattle.meaning.specs.Base.{lowest_by, lowest}
 use Rattle.meaning.specs.Tree.{depth_by}
 use Rattle.meaning.proofs.Kids.{depth_last, depth_step}
-use Rattle.tree.specs.Scratch.{Beyond, Owned, Linked, parent_in, next_depth, depth_in}
+use Rattle.std.specs.Prelude.{Option, None, Some}
+use Rattle.tree.specs.Scratch.{some_below, first, Beyond, Owned, Linked, parent_in, next_depth, depth_in}
+use Rattle.tree.proofs.First.{below_yes, below_no}
 use Rattle.tree.proofs.Words.{beyond_refl, beyond_then, beyond_set}
 
 -- no node is deeper than the fuel
@@ -30,12 +32,12 @@ depth_fuel parent last (suc f) c = go (eqb c last) (depth_fuel parent last f (pa
 abbrev shallow : List ℕ → ℕ → ℕ → Bool
 shallow l n k = leb (depth_in l n k) 128
 
-pub record Deep (l₀ l : List ℕ) (n c deep : ℕ) : Type 0 where
+pub record Deep (l₀ l : List ℕ) (n c : ℕ) (deep : Option ℕ) : Type 0 where
   pub within : c ≤ n
   pub beyond : Beyond n l₀ l
   pub below : (k : ℕ) → k < c → get_or l k 0 ≡ get_or l₀ k 0
   pub known : (k : ℕ) → c ≤ k → k < n → get_or l k 0 ≡ depth_in l₀ n k
-  pub found : deep ≡ lowest_by (shallow l₀ n) (n - c) c
+  pub found : deep ≡ some_below n (lowest_by (shallow l₀ n) (n - c) c)
 
 module _ (l₀ : List ℕ) (n : ℕ) (o : Owned l₀ n) where
   up : (c : ℕ) → c < n - 1 → (c < parent_in l₀ c) × (parent_in l₀ c ≤ n - 1)
@@ -56,20 +58,20 @@ module _ (l₀ : List ℕ) (n : ℕ) (o : Owned l₀ n) where
   unfolding depth_in
   in_few c = depth_fuel (parent_in l₀) (n - 1) n c
 
-  pub deep_start : Deep l₀ l₀ n n n
+  pub deep_start : Deep l₀ l₀ n n None
   unfolding lowest_by
   deep_start = record {
     within = omega arith;
     beyond = beyond_refl n l₀;
     below = λ k h. refl;
     known = λ k a b. absurd (omega arith);
-    found = rw none_left;
+    found = rw none_left (below_no n n (omega arith));
   }
     where
       none_left : n - n ≡ 0
       none_left = omega arith
 
-  module _ (l : List ℕ) (c deep : ℕ) (v : Deep l₀ l n c deep) where
+  module _ (l : List ℕ) (c : ℕ) (deep : Option ℕ) (v : Deep l₀ l n c deep) where
     -- the parent of node c - 1, whose word is its depth
     module _ (h : suc (c - 1) < n) (some : 0 < c) where
       word : get_or l (c - 1) 0 ≡ get_or l₀ (c - 1) 0
@@ -102,7 +104,7 @@ module _ (l₀ : List ℕ) (n : ℕ) (o : Owned l₀ n) where
             omega (arith, above h some, in_step (c - 1) (omega arith))
 
     -- one node further down
-    pub deep_more : 0 < c → (d deep' : ℕ) → d ≡ next_depth l n (c - 1) → deep' ≡ cond (leb d 128) deep (c - 1) → Deep l₀ (set l (c - 1) d) n (c - 1) deep'
+    pub deep_more : 0 < c → (d : ℕ) (deep' : Option ℕ) → d ≡ next_depth l n (c - 1) → deep' ≡ cond (leb d 128) deep (Some (c - 1)) → Deep l₀ (set l (c - 1) d) n (c - 1) deep'
     unfolding lowest_by
     deep_more some d deep' ed e = record {
       within = omega (arith, v.within);
@@ -112,7 +114,8 @@ module _ (l₀ : List ℕ) (n : ℕ) (o : Owned l₀ n) where
           (λ (q : c - 1 ≡ k). rw (← q) (get_or-set_same l (c - 1) d 0 (omega (arith, v.within, v.beyond.size, o.room)) ∙ depth))
           (λ (q : c - 1 < k). get_or-set_other l (c - 1) k d 0 (λ r. omega arith) ∙ v.known k (omega arith) b)
           (eq-or-lt_of_le a);
-      found = e ∙ rw (v.found, depth) (rw one_more (ap (λ (k : ℕ). cond (shallow l₀ n (c - 1)) (lowest_by (shallow l₀ n) (n - c) k) (c - 1)) (sym again)));
+      found = e ∙ ap (λ (x : ℕ). cond (leb x 128) deep (Some (c - 1))) depth ∙ step (shallow l₀ n (c - 1))
+          ∙ rw one_more (ap (λ (k : ℕ). some_below n (cond (shallow l₀ n (c - 1)) (lowest_by (shallow l₀ n) (n - c) k) (c - 1))) (sym again));
     }
       where
         depth : d ≡ depth_in l₀ n (c - 1)
@@ -124,10 +127,14 @@ module _ (l₀ : List ℕ) (n : ℕ) (o : Owned l₀ n) where
         again : suc (c - 1) ≡ c
         again = omega arith
 
+        step : (b : Bool) → cond b deep (Some (c - 1)) ≡ some_below n (cond b (lowest_by (shallow l₀ n) (n - c) c) (c - 1))
+        step true = v.found
+        step false = below_yes n (c - 1) (omega (arith, v.within))
+
     -- at node 0
-    pub deep_end : c ≤ 0 → deep ≡ lowest (shallow l₀ n) n
-    unfolding lowest
-    deep_end h = let q : c ≡ 0 = omega arith in v.found ∙ rw q (ap (λ (k : ℕ). lowest_by (shallow l₀ n) k 0) (all n))
+    pub deep_end : c ≤ 0 → deep ≡ first (shallow l₀ n) n
+    unfolding first lowest
+    deep_end h = let q : c ≡ 0 = omega arith in v.found ∙ rw q (ap (λ (k : ℕ). some_below n (lowest_by (shallow l₀ n) k 0)) (all n))
       where
         all : (m : ℕ) → m - 0 ≡ m
         all m = omega arith

@@ -13,8 +13,11 @@ use borrow.Author.Tests.{ltb-true, lt-ltb, le-leb, leb-true, not-true, eqb-true,
 use Rattle.meaning.specs.Fields.{word_at}
 use Rattle.meaning.specs.Grammar.{any, expr, bounds, bound, inside, names, lawful}
 use Rattle.meaning.proofs.Lists.{tail_part, and_left, and_right, false_true, all_to, all_below}
-use Rattle.tree.specs.Rows.{row_list, first_rows, row_at, kind_in, next_in, flow_in, next_left, next_row, fits_row}
-use Rattle.tree.specs.Starts.{start_list, first_in, size_in, children_in, low_in, high_in, like, led, reaches, lead, says, formed, Start}
+use Rattle.std.specs.Prelude.{None, Some}
+use Rattle.tree.specs.Rows.{number, flow_of, first_rows, row_at, kind_in, next_in, flow_in, next_left, next_row, fits_row}
+use Rattle.tree.specs.Starts.{never, starts, like, led, reaches, lead, says, formed, Right}
+use Rattle.tree.specs.declared.starts.Form.{Form}
+use Rattle.tree.specs.declared.starts.Start.{Start}
 use Rattle.tree.specs.Scratch.{tags_in, note_word, note_row}
 use Rattle.tree.proofs.Payloads.{Fitting, fitting_start, fitting_more, fitting_stop, fitting_end}
 
@@ -237,36 +240,41 @@ module _ (r size c low high : ℕ) (e : says r size c low high ≡ true) where
             let g : word_at (drop 2 (drop (2 * n) p)) 0 ≡ x = ap (λ (m : List ℕ). word_at m 0) (drop-drop 2 (2 * n) p) ∙ word_drop (2 * n + 2) p ∙ ap (word_at p) z ∙ sym ex in
             last_child l₀ i r p l₁ (drop 2 (drop (2 * n) p)) _ v (after l₀ i r p l₀ (drop (2 * n) p) passed.0 passed.2 expr (expr ∷ []) (kinds 2 q) two) (omega (arith, rest_size, length-drop 2 (drop (2 * n) p))) ok₂ l' (rw g eo₂) (rw g el₂)
 
-pub start_says : (start : ℕ) → Start start → size_in start < 65536 → says (first_in start) (size_in start) (children_in start) (low_in start) (high_in start) ≡ true
+pub form_says : (start : Start) → Right start → (f : Form) → start.form ≡ Some f → says start.row f.size f.children f.low f.high ≡ true
 unfolding formed
-start_says start s h = s.form h
+form_says start r f e = ap (formed start.row) (sym e) ∙ r.form
 
 -- ---- the table: one test for each width
 
 start_right : (wide : Bool) (tag : ℕ) → Bool
 start_right wide tag =
-    let start = get_or (start_list wide) tag 0 in
-    (eqb (first_in start) (get_or (first_rows wide) tag 0) && ltb (first_in start) 122) && cond (ltb (size_in start) 65536) (formed start) true
+    let start = get_or (starts wide) tag never in
+    (eqb start.row (get_or (first_rows wide) tag 0) && ltb start.row 122) && formed start.row start.form
 
 all_right : (wide : Bool) → all_to (start_right wide) 30 ≡ true
-unfolding all_to start_right start_list first_rows row_list formed says like led reaches bound bounds
+unfolding all_to start_right first_rows number flow_of formed says like led reaches bound bounds
 all_right true = refl
 all_right false = refl
 
 module _ (wide : Bool) (tag : ℕ) (h : tag < 30) where
-  abbrev it : ℕ
-  it = get_or (start_list wide) tag 0
+  abbrev it : Start
+  it = get_or (starts wide) tag never
 
   right : start_right wide tag ≡ true
   right = all_below (start_right wide) 30 tag (all_right wide) h
 
-  pub start_row : first_in it ≡ get_or (first_rows wide) tag 0
+  pub start_row : it.row ≡ get_or (first_rows wide) tag 0
   unfolding start_right
-  start_row = eqb-true _ _ (and_left _ _ (and_left (eqb (first_in it) (get_or (first_rows wide) tag 0) && ltb (first_in it) 122) _ right))
+  start_row = eqb-true _ _ (and_left _ _ (and_left (eqb it.row (get_or (first_rows wide) tag 0) && ltb it.row 122) _ right))
 
-  pub start_is : Start it
+  pub start_is : Right it
   unfolding start_right
   start_is = record {
-    low = ltb-true (first_in it) 122 (and_right (eqb (first_in it) (get_or (first_rows wide) tag 0)) _ (and_left (eqb (first_in it) (get_or (first_rows wide) tag 0) && ltb (first_in it) 122) _ right));
-    form = λ q. rw (lt-ltb (size_in it) 65536 q) at (and_right (eqb (first_in it) (get_or (first_rows wide) tag 0) && ltb (first_in it) 122) _ right);
+    low = ltb-true it.row 122 (and_right (eqb it.row (get_or (first_rows wide) tag 0)) _ (and_left (eqb it.row (get_or (first_rows wide) tag 0) && ltb it.row 122) _ right));
+    form = and_right (eqb it.row (get_or (first_rows wide) tag 0) && ltb it.row 122) _ right;
   }
+
+-- a start without a form
+pub plain_right : (r : ℕ) → r < 122 → Right (record { row = r; form = None })
+unfolding formed
+plain_right r h = record { low = h; form = refl }

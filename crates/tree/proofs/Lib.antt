@@ -5,6 +5,7 @@ pub mod Noted
 pub mod Payloads
 pub mod Forms
 pub mod Shapes
+pub mod First
 pub mod Depths
 pub mod Parents
 pub mod Answers

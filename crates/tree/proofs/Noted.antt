@@ -11,7 +11,8 @@ use borrow.Author.Tests.{leb-true, le-leb, eqb-true, eqb-false}
 use Rattle.meaning.specs.Fields.{header}
 use Rattle.meaning.specs.Check.{checked_tree, checked}
 use Rattle.meaning.specs.declared.Cause.TheVariants.{Mode}
-use Rattle.meaning.specs.declared.Outcome.TheVariants.{Accepted, Refused}
+use Rattle.std.specs.Prelude.{Ok, Err}
+use Rattle.meaning.specs.Outcome.{refusal}
 use Rattle.meaning.proofs.Accepted.{accepted}
 use Rattle.tree.specs.Used.{used, zeroed, with_offsets, scratch_after}
 
@@ -46,12 +47,12 @@ zeroed_at n l k h =
     ap (λ (m : ℕ). get_or (zeroed n l) m 0) (sym e) ∙ get_or-append-add (replicate n 0) (drop n l) (k - n) 0 ∙ get_or-drop n l (k - n) 0 ∙ ap (λ (m : ℕ). get_or l m 0) f
 
 -- where n nodes are accepted in a work area that was the scratch, all their offsets stand at its end
-module _ (mode : ℕ) (s l : List ℕ) (n : ℕ) (e : checked mode s (length l) ≡ Accepted n) where
+module _ (mode : ℕ) (s l : List ℕ) (n : ℕ) (e : checked mode s (length l) ≡ Ok n) where
   mode_low : mode ≤ 1
   unfolding checked
   mode_low = go (leb mode 1) refl e
     where
-      go : (b : Bool) → leb mode 1 ≡ b → cond b (checked_tree mode s (length l)) (Refused Mode 0) ≡ Accepted n → mode ≤ 1
+      go : (b : Bool) → leb mode 1 ≡ b → cond b (checked_tree mode s (length l)) (Err (refusal Mode 0)) ≡ Ok n → mode ≤ 1
       go true q f = leb-true mode 1 q
       go false q f = absurd (let z : ◌≡◌ {A = ℕ} 0 1 = cc in omega arith)
 

@@ -17,8 +17,8 @@ use Rattle.meaning.specs.Grammar.{shape_at}
 use Rattle.meaning.specs.Tree.{tree_at, depth_at}
 use Rattle.meaning.specs.Check.{framed, unless, work_for, checked_work, current, current_at, checked_fields, checked_tree, checked}
 use Rattle.meaning.specs.declared.Cause.TheVariants.{Frame, Many, Shape, Tree, Depth, Work, Retired}
-use Rattle.meaning.specs.declared.Outcome.{Outcome}
-use Rattle.meaning.specs.declared.Outcome.TheVariants.{Accepted, Refused}
+use Rattle.std.specs.Prelude.{Ok, Err}
+use Rattle.meaning.specs.Outcome.{Outcome, refusal}
 use Rattle.meaning.specs.Answer.{answer}
 use Rattle.meaning.specs.declared.Answer.{Answer}
 use Rattle.meaning.proofs.Lists.{lowest_found, lowest_none}
@@ -34,7 +34,7 @@ late : (fs : List Field) (work : ℕ) → early (owners fs work) ≡ false
 unfolding early unless checked_work
 late fs work = go (ltb (lowest (tree_at fs) (length fs - 1)) (length fs - 1)) (ltb (lowest (depth_at fs) (length fs)) (length fs)) (ltb work (work_for (length fs)))
   where
-    go : (a b c : Bool) → early (cond a (Refused Tree (lowest (tree_at fs) (length fs - 1))) (cond b (Refused Depth (lowest (depth_at fs) (length fs))) (cond c (Refused Work 0) (Accepted (length fs))))) ≡ false
+    go : (a b c : Bool) → early (cond a (Err (refusal Tree (lowest (tree_at fs) (length fs - 1)))) (cond b (Err (refusal Depth (lowest (depth_at fs) (length fs)))) (cond c (Err (refusal Work 0)) (Ok (length fs))))) ≡ false
     go true b c = refl
     go false true c = refl
     go false false true = refl
@@ -44,8 +44,8 @@ over_fields : (fs : List Field) (work : ℕ) → retired_over fs (checked_fields
 unfolding retired_over checked_fields unless early
 over_fields fs work = ap (retired_over fs) (fields_0 fs work) ∙ go (ltb (lowest (shape_at fs) (length fs)) (length fs))
   where
-    go : (b : Bool) → retired_over fs (cond b (Refused Shape (lowest (shape_at fs) (length fs))) (owners fs work))
-        ≡ cond b (Refused Shape (lowest (shape_at fs) (length fs))) (unless Retired (current_at 1 fs) (length fs) (owners fs work))
+    go : (b : Bool) → retired_over fs (cond b (Err (refusal Shape (lowest (shape_at fs) (length fs)))) (owners fs work))
+        ≡ cond b (Err (refusal Shape (lowest (shape_at fs) (length fs)))) (unless Retired (current_at 1 fs) (length fs) (owners fs work))
     go true = refl
     go false = rw (late fs work) refl
 
@@ -53,8 +53,8 @@ over_tree : (s : List ℕ) (work : ℕ) → retired_over (fields s) (checked_tre
 unfolding checked_tree retired_over early
 over_tree s work = go (framed s) (ltb 32768 (length (fields s)))
   where
-    go : (a b : Bool) → retired_over (fields s) (cond a (cond b (Refused Many 32768) (checked_fields 0 (fields s) work)) (Refused Frame (length (fields s))))
-        ≡ cond a (cond b (Refused Many 32768) (checked_fields 1 (fields s) work)) (Refused Frame (length (fields s)))
+    go : (a b : Bool) → retired_over (fields s) (cond a (cond b (Err (refusal Many 32768)) (checked_fields 0 (fields s) work)) (Err (refusal Frame (length (fields s)))))
+        ≡ cond a (cond b (Err (refusal Many 32768)) (checked_fields 1 (fields s) work)) (Err (refusal Frame (length (fields s))))
     go false b = refl
     go true true = refl
     go true false = over_fields (fields s) work
@@ -99,7 +99,7 @@ module _ (s t : List ℕ) (i : ℕ) (v : Sought s t i) where
       none = below_more (λ (j : ℕ). current_at 1 (fields s) j ≡ true) i v.none (here ∙ rw (ne_eqb (get_or t 0 0) 0x1D q) refl);
     }
 
-    pub sought_found : (o : Outcome) → early o ≡ false → get_or t 0 0 ≡ 0x1D → Refused Retired i ≡ retired_over (fields s) o
+    pub sought_found : (o : Outcome) → early o ≡ false → get_or t 0 0 ≡ 0x1D → Err (refusal Retired i) ≡ retired_over (fields s) o
     unfolding retired_over current
     sought_found o e q = let below = walk_below s i t v.walk w in
         rw e (unless_yes Retired (current_at 1 (fields s)) (length (fields s)) i o (sym (lowest_found _ _ i below v.none (here ∙ rw q refl))) below)

@@ -9,6 +9,7 @@ use Rattle.meaning.specs.Fields.{word_at}
 use Rattle.meaning.specs.Grammar.{lawful}
 use Rattle.meaning.proofs.Lists.{tail_part}
 use Rattle.meaning.proofs.FieldLaws.{from}
+use Rattle.tree.specs.declared.rows.Row.{Row}
 use Rattle.tree.specs.Rows.{row_at, kind_in, ends_in, next_left, next_row, fits_row}
 use Rattle.tree.specs.Scratch.{tags_in, note_word, note_row}
 use Rattle.tree.proofs.Table.{row_low}
@@ -77,7 +78,7 @@ module _ (l₀ : List ℕ) (i first : ℕ) (p l q : List ℕ) (at left : ℕ) (v
   abbrev Done : Bool → List ℕ → Type 0
   Done r l' = record { fits : r ≡ fits_row (lawful (tags_in l₀) i) first 0 p; noted : l' ≡ note_row (lawful (tags_in l₀) i) l₀ i first 0 p }
 
-  pub fitting_end : (row : ℕ) → row ≡ row_at at → length q ≡ 0 → Done (ends_in row) l
+  pub fitting_end : (row : Row) → row ≡ row_at at → length q ≡ 0 → Done (ends_in row) l
   fitting_end row er h =
       let e = row_end (lawful (tags_in l₀) i) l i at left q h in
       record { fits = ap ends_in er ∙ e.0 ∙ sym v.fit; noted = e.1 ∙ sym v.notes }
@@ -88,7 +89,7 @@ module _ (l₀ : List ℕ) (i first : ℕ) (p l q : List ℕ) (at left : ℕ) (v
       record { fits = e.0 ∙ sym v.fit; noted = e.1 ∙ sym v.notes }
 
   -- a word w at a row, found lawful or not
-  module _ (two : 2 ≤ length q) (w row : ℕ) (ew : w ≡ word_at q 0) (er : row ≡ row_at at) (l' : List ℕ) where
+  module _ (two : 2 ≤ length q) (w : ℕ) (row : Row) (ew : w ≡ word_at q 0) (er : row ≡ row_at at) (l' : List ℕ) where
     is : (r : Bool) → r ≡ lawful (tags_in l) i (kind_in row) w → lawful (tags_in l₀) i (kind_in (row_at at)) (word_at q 0) ≡ r
     is r e = sym (e ∙ rw (v.tags, ew, er))
 

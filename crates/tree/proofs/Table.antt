@@ -12,7 +12,7 @@ use lib.Dec.{eqb, ltb}
 use borrow.Author.Tests.{eqb-true, ne_eqb, ltb-true}
 use Rattle.meaning.specs.Grammar.{Item, one, perhaps, many, counted, never, names, grammar, items_of, spread_kinds, spread, items_in, is_program, items_for, ones, copies, ends, kind_of, due_after, fits, kids}
 use Rattle.meaning.proofs.Lists.{lt_or_le, and_left, and_right, false_true, eq_list, list_is, all_true, nth_true, same, same_is, all_to, all_below}
-use Rattle.tree.specs.Rows.{row_list, first_rows, row_at, kind_in, next_in, done_in, flow_in, ends_in, next_left, next_row, fits_row, kids_row, start_of}
+use Rattle.tree.specs.Rows.{number, flow_of, end_of, first_rows, row_at, kind_in, next_in, done_in, flow_in, ends_in, next_left, next_row, fits_row, kids_row, start_of}
 
 -- ---- tests that compute
 
@@ -234,7 +234,7 @@ module _ (r : ℕ) where
       && cond (eqb flow 0) (cond (plain here) (all_true alone) (all_true within)) (cond (eqb flow 1) (all_true counts) (all_true last))
 
 rows_ok : all_to ok_row 122 ≡ true
-unfolding all_to ok_row common alone within counts last all_true same spot spots all_spots tags widened fresh is_among spread spread_kinds spots_of in_group at_items fixed null plain uncounted eq_list eq_items ctor args row_list grammar ends kind_of due_after
+unfolding all_to ok_row common alone within counts last all_true same spot spots all_spots tags widened fresh is_among spread spread_kinds spots_of in_group at_items fixed null plain uncounted eq_list eq_items ctor args number flow_of end_of grammar ends kind_of due_after
 rows_ok = refl
 
 -- ---- what the test says

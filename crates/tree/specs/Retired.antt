@@ -5,7 +5,7 @@ use Rattle.meaning.specs.Fields.{Field}
 use Rattle.meaning.specs.Check.{unless, current_at}
 use Rattle.meaning.specs.Answer.{answer}
 use Rattle.meaning.specs.declared.Cause.TheVariants.{Retired}
-use Rattle.meaning.specs.declared.Outcome.{Outcome}
+use Rattle.meaning.specs.Outcome.{Outcome}
 
 -- 1 Frame, 2 Many or 3 Shape
 unfoldable pub early : Outcome → Bool

@@ -1,13 +1,21 @@
 -- What the scratch holds: a word for each node, its tag and 256 times who has it as a child. That is 0 where no node has, i + 1 where node i
 -- has it once, 65,535 where it is a child more than once. Only contracts of inner functions cite this; proofs/Parents.antt proves that the
 -- words say what `count` and `parent_of` say.
-use Rattle.std.specs.Prelude.{◌≡◌, Bool, ◌&&◌, cond, List, [], ◌∷◌, map, ℕ, suc, ◌+◌, ◌-◌, ◌*◌, ◌/◌, ◌%◌, ◌<◌, ◌≤◌, length, get_or, set, drop, leb, ltb, eqb}
+use Rattle.std.specs.Prelude.{◌≡◌, Bool, ◌&&◌, cond, Option, None, Some, List, [], ◌∷◌, map, ℕ, suc, ◌+◌, ◌-◌, ◌*◌, ◌/◌, ◌%◌, ◌<◌, ◌≤◌, length, get_or, set, drop, leb, ltb, eqb}
 use Rattle.meaning.specs.Base.{lowest}
 use Rattle.meaning.specs.Fields.{Field, field_at, fields, left}
 use Rattle.meaning.specs.Grammar.{names, lawful, items_for, fits, tags_of}
 use Rattle.meaning.specs.Tree.{kids_of, depth_by}
 use Rattle.tree.specs.Used.{few}
 use Rattle.tree.specs.Rows.{row_at, kind_in, next_left, next_row}
+
+-- a number, if it is below n
+abbrev pub some_below : (n k : ℕ) → Option ℕ
+some_below n k = cond (ltb k n) (Some k) None
+
+-- the lowest number below n at which p fails, if there is one
+unfoldable pub first : (p : ℕ → Bool) → (n : ℕ) → Option ℕ
+first p n = some_below n (lowest p n)
 
 -- the tags that the words hold
 abbrev pub tags_in : List ℕ → List ℕ
@@ -72,12 +80,12 @@ last_tag fs = (field_at fs (length fs - 1)).tag
 
 -- what one walk over a file that judges by a width finds, and leaves in the scratch: the whole fields, the bytes after them, and, where refusals 1
 -- and 2 are passed, the lowest wrong shape
-pub record Found (wide : Bool) (tree l : List ℕ) (count after wrong : ℕ) : Type 0 where
+pub record Found (wide : Bool) (tree l : List ℕ) (count after : ℕ) (wrong : Option ℕ) : Type 0 where
   pub whole_fields : count ≡ length (fields tree)
   pub bytes_after : after ≡ length (left tree)
   pub room : few count ≤ length l
-  pub misshapen : after ≡ 0 → count ≤ 32768 → wrong < count → wrong ≡ lowest (shape_by wide (fields tree)) count
-  pub shapely : after ≡ 0 → count ≤ 32768 → count ≤ wrong → (count ≡ lowest (shape_by wide (fields tree)) count) × Entered wide (fields tree) l
+  pub shapes : after ≡ 0 → count ≤ 32768 → wrong ≡ first (shape_by wide (fields tree)) count
+  pub shapely : after ≡ 0 → count ≤ 32768 → wrong ≡ None → Entered wide (fields tree) l
 
 -- the word says that its node is a child exactly once, and of which
 unfoldable pub once : ℕ → Bool

@@ -1,167 +1,183 @@
-// Where the telling of a payload starts, by its tag. A start is one number:
-//     its row, the first of the tag, in the lowest eight bits
-//     SIZE      times the bytes of a payload that has the tag's form; NO_FORM: no payload has
-//     CHILDREN  times the words at the form's end that are expressions
-//     LOW       the form's first word is not 0
-//     HIGH      times the highest that it may be
-// Most nodes have a form, and are told without going from row to row: a first word, any words, and expressions. Where a payload may have two lengths, the
-// longer one has the form. specs/Starts.antt has the same table, and proofs/Forms.antt proves that the forms say what the rows say.
+// Where the telling of a payload starts, by its tag: the tag's first row, and the form that most of its payloads have. Most nodes have a form, and are
+// told without going from row to row. Where a payload may have two lengths, the longer one has the form. proofs/Forms.antt proves that the forms say
+// what the rows say.
 ghost use Rattle.std.specs.Prelude.{◌≡◌};
+ghost use Rattle.meaning.specs.Grammar.{is_program};
 ghost use Rattle.tree.specs.Rows.{start_of};
-ghost use Rattle.tree.specs.Starts.{start_list, first_in, Start};
+ghost use Rattle.tree.specs.Starts.{Right};
 
-use fields::as_size;
+// So many bytes: a first word from `low` to `high`, any words, and at the end `children` expressions.
+#[derive(Clone, Copy)]
+pub(crate) struct Form {
+    pub(crate) size: usize,
+    pub(crate) low: usize,
+    pub(crate) high: usize,
+    pub(crate) children: usize,
+}
 
-pub(crate) const SIZE: usize = 256;
+#[derive(Clone, Copy)]
+pub(crate) struct Start {
+    pub(crate) row: usize,
+    pub(crate) form: Option<Form>,
+}
 
-pub(crate) const CHILDREN: usize = 33554432;
+macro_rules! by_rows {
+    ($row:literal) => {
+        Start { row: $row, form: None }
+    };
+}
 
-pub(crate) const LOW: usize = 134217728;
-
-pub(crate) const HIGH: usize = 268435456;
-
-const ANY: usize = 65535 * HIGH;
-
-const NAME: usize = 65534 * HIGH;
-
-const OP: usize = LOW + 2 * HIGH;
-
-const OP12: usize = LOW + 12 * HIGH;
-
-// no payload is as long
-const NO_FORM: usize = 65536 * SIZE;
+macro_rules! form {
+    ($row:literal, $size:literal, $low:literal..=$high:literal, $children:literal) => {
+        Start { row: $row, form: Some(Form { size: $size, low: $low, high: $high, children: $children }) }
+    };
+}
 
 // The start of each tag but a program's, from 00 on; row 0 for a number that is no tag.
-pub(crate) const STARTS: [usize; 30] = [
+static STARTS: [Start; 30] = [
     // 00: no tag
-    0 + NO_FORM,
+    by_rows!(0),
     // 01 number
-    2 + 8 * SIZE + ANY,
+    form!(2, 8, 0..=65535, 0),
     // 02 text
-    6 + 2 * SIZE + ANY,
+    form!(6, 2, 0..=65535, 0),
     // 03 other literal
-    7 + 2 * SIZE + ANY,
+    form!(7, 2, 0..=65535, 0),
     // 04 variable
-    8 + 4 * SIZE + NAME,
+    form!(8, 4, 0..=65534, 0),
     // 05 unary
-    10 + 6 * SIZE + OP + 1 * CHILDREN,
+    form!(10, 6, 1..=2, 1),
     // 06 binary
-    13 + 8 * SIZE + OP12 + 2 * CHILDREN,
+    form!(13, 8, 1..=12, 2),
     // 07 logical
-    17 + 8 * SIZE + OP + 2 * CHILDREN,
+    form!(17, 8, 1..=2, 2),
     // 08 call
-    21 + NO_FORM,
+    by_rows!(21),
     // 09 function
-    24 + NO_FORM,
+    by_rows!(24),
     // 0A: no tag
-    0 + NO_FORM,
-    0 + NO_FORM,
-    0 + NO_FORM,
-    0 + NO_FORM,
-    0 + NO_FORM,
-    0 + NO_FORM,
+    by_rows!(0),
+    by_rows!(0),
+    by_rows!(0),
+    by_rows!(0),
+    by_rows!(0),
+    by_rows!(0),
     // 10 expression
-    28 + 2 * SIZE + ANY + 1 * CHILDREN,
+    form!(28, 2, 0..=65535, 1),
     // 11 let
-    29 + 6 * SIZE + NAME + 1 * CHILDREN,
+    form!(29, 6, 0..=65534, 1),
     // 12 block
-    32 + NO_FORM,
+    by_rows!(32),
     // 13 while
-    33 + NO_FORM,
+    by_rows!(33),
     // 14 for
-    36 + NO_FORM,
+    by_rows!(36),
     // 15 for-in
-    41 + NO_FORM,
+    by_rows!(41),
     // 16 break
-    48 + 2 * SIZE + ANY,
+    form!(48, 2, 0..=65535, 0),
     // 17 continue
-    49 + 2 * SIZE + ANY,
+    form!(49, 2, 0..=65535, 0),
     // 18 return
-    50 + 4 * SIZE + ANY + 1 * CHILDREN,
+    form!(50, 4, 0..=65535, 1),
     // 19 if
-    52 + NO_FORM,
+    by_rows!(52),
     // 1A elif
-    59 + NO_FORM,
+    by_rows!(59),
     // 1B try
-    61 + NO_FORM,
+    by_rows!(61),
     // 1C function statement
-    65 + NO_FORM,
+    by_rows!(65),
     // 1D class
-    71 + NO_FORM,
+    by_rows!(71),
 ];
 
 // The same in a tree of wide marks: tags that have no mark share their rows.
-pub(crate) const WIDE_STARTS: [usize; 30] = [
+// stays: a table of its own: 17 of 30 starts differ, so that one table of pairs would be no shorter, and each start in it no plainer.
+static WIDE_STARTS: [Start; 30] = [
     // 00: no tag
-    0 + NO_FORM,
+    by_rows!(0),
     // 01 number
-    2 + 8 * SIZE + ANY,
+    form!(2, 8, 0..=65535, 0),
     // 02 text
-    6 + 2 * SIZE + ANY,
+    form!(6, 2, 0..=65535, 0),
     // 03 other literal
-    7 + 2 * SIZE + ANY,
+    form!(7, 2, 0..=65535, 0),
     // 04 variable
-    78 + 6 * SIZE + NAME,
+    form!(78, 6, 0..=65534, 0),
     // 05 unary
-    80 + 8 * SIZE + OP + 1 * CHILDREN,
+    form!(80, 8, 1..=2, 1),
     // 06 binary
-    82 + 10 * SIZE + OP12 + 2 * CHILDREN,
+    form!(82, 10, 1..=12, 2),
     // 07 logical
-    84 + 10 * SIZE + OP + 2 * CHILDREN,
+    form!(84, 10, 1..=2, 2),
     // 08 call
-    86 + NO_FORM,
+    by_rows!(86),
     // 09 function
-    88 + NO_FORM,
+    by_rows!(88),
     // 0A: no tag
-    0 + NO_FORM,
-    0 + NO_FORM,
-    0 + NO_FORM,
-    0 + NO_FORM,
-    0 + NO_FORM,
-    0 + NO_FORM,
+    by_rows!(0),
+    by_rows!(0),
+    by_rows!(0),
+    by_rows!(0),
+    by_rows!(0),
+    by_rows!(0),
     // 10 expression
-    28 + 2 * SIZE + ANY + 1 * CHILDREN,
+    form!(28, 2, 0..=65535, 1),
     // 11 let
-    92 + 8 * SIZE + NAME + 1 * CHILDREN,
+    form!(92, 8, 0..=65534, 1),
     // 12 block
-    32 + NO_FORM,
+    by_rows!(32),
     // 13 while
-    94 + NO_FORM,
+    by_rows!(94),
     // 14 for
-    95 + NO_FORM,
+    by_rows!(95),
     // 15 for-in
-    96 + NO_FORM,
+    by_rows!(96),
     // 16 break
-    106 + 4 * SIZE + ANY,
+    form!(106, 4, 0..=65535, 0),
     // 17 continue
-    107 + 4 * SIZE + ANY,
+    form!(107, 4, 0..=65535, 0),
     // 18 return
-    108 + 6 * SIZE + ANY + 1 * CHILDREN,
+    form!(108, 6, 0..=65535, 1),
     // 19 if
-    109 + NO_FORM,
+    by_rows!(109),
     // 1A elif
-    59 + NO_FORM,
+    by_rows!(59),
     // 1B try
-    110 + NO_FORM,
+    by_rows!(110),
     // 1C function statement
-    113 + NO_FORM,
+    by_rows!(113),
     // 1D class
-    120 + NO_FORM,
+    by_rows!(120),
 ];
 
-// The start of a node: the last node is a program, and no other is. The contract alone reads whether marks have four bytes, as the starts say.
-pub(crate) fn start_of(starts: &[usize; 30], four: bool, tag: u8, last: bool) -> usize
-    requires { starts.now ≡ start_list four }
-    ensures { (first_in result ≡ start_of four tag last) × Start result }
+static NEVER: Start = by_rows!(0);
+
+static PROGRAM: Start = by_rows!(77);
+
+// stays: tags are bytes, since any byte of a file may stand for one, and the grammar (meaning/specs) has the numbers.
+fn is_program(tag: u8) -> bool
+    ensures { result ≡ is_program tag }
+{
+    tag == 0x1E || tag == 0x3E
+}
+
+// stays: two facts of a node that pick its start, as the definition asks them (`start_of wide tag last`): a closure would ask the same.
+// The start of a node, by the width of marks: the last node is a program, and no other is.
+#[inline]
+pub(crate) fn start_of(wide: bool, tag: u8, last: bool) -> &'static Start
+    ensures { (result.now.row ≡ start_of wide tag last) × Right result.now }
 {
     if last {
-        if (tag == 0x1E) | (tag == 0x3E) {
-            return 77 + NO_FORM;
-        }
-        return NO_FORM;
+        return if is_program(tag) { &PROGRAM } else { &NEVER };
     }
-    if tag < 0x1E {
-        return starts[as_size(tag)];
+    if 0x1E <= tag {
+        return &NEVER;
     }
-    NO_FORM
+    if wide {
+        &WIDE_STARTS[usize::from(tag)]
+    } else {
+        &STARTS[usize::from(tag)]
+    }
 }

@@ -1,14 +1,12 @@
 -- Literals as the enum has them. Beside `constant_of` (meaning/specs/Constant), which says what each case stands for, these fix the case.
-use Rattle.std.specs.Prelude.{ℕ, cond, List, eqb}
-use Rattle.std.proofs.Math.Option.{Option, none, some}
+use Rattle.std.specs.Prelude.{ℕ, cond, List, eqb, Option, None, Some}
+use Rattle.std.proofs.Math.Option as maybe
 use Rattle.std.specs.Float.{binary64}
 use Rattle.std.specs.Float.Ieee.{nan_bits, of_bits}
 use Rattle.meaning.specs.Read.{at, bits}
 use Rattle.meaning.specs.Constant.{Constant, number, text, other, constant_of, small}
 use Rattle.meaning.specs.declared.Literal.{Literal}
 use Rattle.meaning.specs.declared.Literal.TheVariants.{Number, NotANumber, Text, Other}
-use Rattle.values.specs.declared.literal.Immediate.{Immediate}
-use Rattle.values.specs.declared.literal.Immediate.TheVariants.{Is, Not}
 
 -- 64 bits: a number, but for a NaN's, which have a case of their own
 unfoldable pub number_of : (bits : ℕ) → Literal
@@ -22,17 +20,17 @@ literal_of tag ws = cond (eqb tag 0x01) (number_of (bits ws)) (cond (eqb tag 0x0
 unfoldable pub constant_at : (tag : ℕ) → (words : List ℕ) → Constant
 constant_at tag ws = cond (eqb tag 0x01) (number (bits ws)) (cond (eqb tag 0x02) (text (at ws 0)) (other (at ws 0)))
 
--- a number from 0 to 255 or none, as the enum has it
-abbrev pub small_as : Option ℕ → Immediate
-small_as none = Not
-small_as (some k) = Is k
+-- a number from 0 to 255 or none, as the code has it
+abbrev pub small_as : maybe.Option ℕ → Option ℕ
+small_as maybe.none = None
+small_as (maybe.some k) = Some k
 
 -- the number from 0 to 255 that a constant equals by IEEE 754's comparison, if any
-abbrev pub small_constant : Constant → Immediate
+abbrev pub small_constant : Constant → Option ℕ
 small_constant (number bits) = small_as (small bits)
-small_constant (text name) = Not
-small_constant (other word) = Not
+small_constant (text name) = None
+small_constant (other word) = None
 
 -- the same of a literal, by what it stands for
-abbrev pub small_of : Literal → Immediate
+abbrev pub small_of : Literal → Option ℕ
 small_of l = small_constant (constant_of l)

@@ -5,4 +5,4 @@ mod answer;
 mod literal;
 
 pub use answer::{answer_of, cause_number};
-pub use literal::{Immediate, bits_at, literal_of, number_of, small};
+pub use literal::{bits_at, literal_of, number_of, small};

@@ -23,7 +23,7 @@ use Rattle.meaning.specs.Walker.{Walking, stopped, walked, code_of, fair, rises,
 use Rattle.meaning.specs.declared.Cause.{Cause}
 use Rattle.meaning.specs.declared.Cause.TheVariants.{Prototype, Decision, Order, Visits}
 use Rattle.meaning.specs.declared.Instruction.{Instruction}
-use Rattle.meaning.specs.declared.Outcome.TheVariants.{Accepted}
+use Rattle.std.specs.Prelude.{Ok}
 use Rattle.meaning.specs.declared.WalkAnswer.{WalkAnswer}
 use Rattle.meaning.proofs.Lists.{lt_or_le, lowest_all}
 use Rattle.meaning.proofs.Images.Back.{taken_is}
@@ -34,7 +34,8 @@ use Rattle.reader.proofs.Scanned.{inst_size_small}
 use Rattle.reader.proofs.Marking.{code_length}
 use Rattle.reader.proofs.Answered.{outcome_of, accepted_taken}
 use Rattle.walk.specs.declared.route.Walked.{Walked}
-use Rattle.walk.specs.Route.{Walkable, Decisions, Rising, Told}
+use Rattle.walk.specs.Code.{Walkable, Decisions, Rising}
+use Rattle.walk.specs.Route.{Told}
 
 -- decisions that are fair
 pub all_fair : (ds : List ℕ) → length ds ≤ lowest (fair ds) (length ds) → Decisions ds
@@ -165,7 +166,7 @@ module _ (im : Image) (tag q : ℕ) (r : List ℕ) (l : Located im tag q r) wher
 
 module _ (tag : ℕ) (s : List ℕ) (q : ℕ) (a : Asked) where
   -- an accepted image: all facts hold, and the walk is that of its value
-  pub read_taken : (m : ℕ) → outcome_of tag s ≡ Accepted m → (broken (image_of tag (fields s)) ≡ none) × (walk_in (image_of tag (fields s)) q a ≡ walk_read (read_as tag s) q a)
+  pub read_taken : (m : ℕ) → outcome_of tag s ≡ Ok m → (broken (image_of tag (fields s)) ≡ none) × (walk_in (image_of tag (fields s)) q a ≡ walk_read (read_as tag s) q a)
   read_taken m e =
       let t = accepted_taken tag s m e in
       let k = taken_is tag s t.0 t.1 in (

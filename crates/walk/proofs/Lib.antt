@@ -1,4 +1,5 @@
 -- Laws that the functions' proofs cite.
+pub mod Firsts
 pub mod Strikes
 pub mod Onward
 pub mod Moves

@@ -10,7 +10,7 @@ use lib.Dec.{eqb, ltb}
 use borrow.Author.Tests.{eqb-true, eqb-false, eq-eqb, ne_eqb, ltb-true, lt-ltb}
 use Rattle.meaning.specs.State.{among}
 use Rattle.meaning.proofs.Lists.{and_left, and_right, lt_or_le}
-use Rattle.walk.specs.Route.{Rising}
+use Rattle.walk.specs.Code.{Rising}
 
 -- the test of the code: m strikes are behind
 abbrev pub next_is : List ℕ → (m steps : ℕ) → Bool

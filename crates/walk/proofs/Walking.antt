@@ -5,12 +5,14 @@ use mathlib.Core.Bool.{Bool, true, false, not, ◌&&◌, ◌||◌, cond}
 use mathlib.Core.Logic.{◌⊎◌, inl, inr, ⊎_elim}
 use mathlib.Core.List.{List, [], ◌∷◌, ◌++◌, append_assoc, append-nil}
 use Prim.Native.Nat.{ℕ, zero, suc, ◌+◌, ◌-◌, ◌*◌, ◌<◌, ◌≤◌}
-use native.Mathlib.Nat.{zero-mul}
 use native.Mathlib.Omega.{arith}
 use lib.ListN.{length, get_or, set, drop, replicate, length-append, length-set}
 use lib.Seq.{get_or-set_same, get_or-set_other, ext_get_or}
 use lib.Dec.{eqb, ltb}
-use borrow.Author.Tests.{eqb-true, eqb-false, ne_eqb, ltb-true, ltb-false, not-true}
+use borrow.Author.Tests.{eqb-true, eqb-false, ne_eqb, ltb-true, ltb-false, lt-ltb, not-true}
+use Rattle.std.specs.declared.option.Option.{Option}
+use Rattle.std.specs.declared.option.Option.TheVariants.{Some, None}
+use Rattle.std.specs.Option.{is_some, unwrap_or}
 use Rattle.meaning.specs.Fields.{word_at}
 use Rattle.meaning.specs.Opcode.{bx}
 use Rattle.meaning.specs.State.{among}
@@ -18,14 +20,16 @@ use Rattle.meaning.specs.Steps.{inst_at}
 use Rattle.meaning.specs.Paths.{Point, start, Path, steps_of, stop, step_from, path, visited, visits_from, visits}
 use Rattle.meaning.specs.declared.Instruction.{Instruction}
 use Rattle.meaning.specs.declared.Ending.{Ending}
-use Rattle.meaning.specs.declared.Ending.TheVariants.{Failed, Handlers}
+use Rattle.meaning.specs.declared.Ending.TheVariants.{AtReturn, NoDecision, NoBudget, Failed, Handlers}
 use Rattle.meaning.proofs.Lists.{and_left, and_right, false_true, lt_or_le}
 use Rattle.meaning.proofs.Images.Lawful.{handler_in}
 use Rattle.reader.specs.Laid.{code_in}
 use Rattle.reader.proofs.Marking.{opcode_there, bx_there}
 use Rattle.walk.specs.declared.route.Walked.{Walked}
-use Rattle.walk.specs.Turn.{undecided, handled, goes_on, ends_as, onward, registered_after, registered}
-use Rattle.walk.specs.Route.{Walkable, Decisions, Rising, Told}
+use Rattle.walk.specs.Turn.{undecided, handled, goes_on, ends_as, ending, onward, registered_after, registered}
+use Rattle.walk.specs.Code.{Walkable, Decisions, Rising}
+use Rattle.walk.specs.Route.{Told}
+use Rattle.walk.proofs.Firsts.{not_below}
 use Rattle.walk.proofs.Strikes.{next_is, Ahead, ahead_start, among_is, ahead_more}
 use Rattle.walk.proofs.Onward.{jump_far, onward_in}
 use Rattle.walk.proofs.Moves.{standing, moves, goes_so, ends_so, path_goes}
@@ -107,26 +111,67 @@ module _ (o : ℕ) (s decided within : Bool) (h : ℕ) (t : goes_on o s decided 
       go false true e f = f
       go false false e f = absurd (false_true e)
 
+-- ---- how a turn ends
+
+abbrev ends_by : (r n w s g a b : Bool) → Option Ending
+ends_by r n w s g a b = cond r (Some AtReturn) (cond n (Some NoDecision) (cond (not w) (Some NoBudget) (cond (s && not a) (Some Failed) (cond (not s && (g && not b)) (Some Handlers) None))))
+
+abbrev goes_by : (r n w s g a b : Bool) → Bool
+goes_by r n w s g a b = not r && (not n && (w && ((not s || a) && (s || (not g || b)))))
+
+none_goes : (r n w s g a b : Bool) → ends_by r n w s g a b ≡ None → goes_by r n w s g a b ≡ true
+none_goes true n w s g a b q = absurd (false_true (sym (ap is_some q)))
+none_goes false true w s g a b q = absurd (false_true (sym (ap is_some q)))
+none_goes false false false s g a b q = absurd (false_true (sym (ap is_some q)))
+none_goes false false true true g true b q = refl
+none_goes false false true true g false b q = absurd (false_true (sym (ap is_some q)))
+none_goes false false true false true a true q = refl
+none_goes false false true false true a false q = absurd (false_true (sym (ap is_some q)))
+none_goes false false true false false a b q = refl
+
+some_ends : (r n w s g a b : Bool) (e : Ending) → ends_by r n w s g a b ≡ Some e → (goes_by r n w s g a b ≡ false) × (e ≡ cond r AtReturn (cond n NoDecision (cond (not w) NoBudget (cond s Failed Handlers))))
+some_ends true n w s g a b e q = (refl, sym (ap (λ (o : Option Ending). unwrap_or o AtReturn) q))
+some_ends false true w s g a b e q = (refl, sym (ap (λ (o : Option Ending). unwrap_or o AtReturn) q))
+some_ends false false false s g a b e q = (refl, sym (ap (λ (o : Option Ending). unwrap_or o AtReturn) q))
+some_ends false false true true g true b e q = absurd (false_true (ap is_some q))
+some_ends false false true true g false b e q = (refl, sym (ap (λ (o : Option Ending). unwrap_or o AtReturn) q))
+some_ends false false true false true a true e q = absurd (false_true (ap is_some q))
+some_ends false false true false true a false e q = (refl, sym (ap (λ (o : Option Ending). unwrap_or o AtReturn) q))
+some_ends false false true false false a b e q = absurd (false_true (ap is_some q))
+
+none_registered : (h : ℕ) → eqb h 0 ≡ not (ltb 0 h)
+none_registered zero = refl
+none_registered (suc h) = rw (lt-ltb 0 (suc h) (omega arith)) (ne_eqb (suc h) 0 (λ e. omega arith))
+
+module _ (o : ℕ) (s decided within : Bool) (h : ℕ) where
+  ending_is : ending o s decided within h ≡ ends_by (eqb o 20) (undecided o s decided) within s (eqb o 48) (ltb 0 h) (ltb h 256)
+  ending_is = ap₂ (λ (x y : Bool).
+      (let e : Option Ending = cond (eqb o 20) (Some AtReturn) (cond (undecided o s decided) (Some NoDecision) (cond (not within) (Some NoBudget) (cond (s && x) (Some Failed) (cond (not s && (eqb o 48 && y)) (Some Handlers) None)))) in e))
+      (none_registered h) (not_below 256 h)
+
+  pub on_none : ending o s decided within h ≡ None → goes_on o s decided within h ≡ true
+  on_none q = none_goes (eqb o 20) (undecided o s decided) within s (eqb o 48) (ltb 0 h) (ltb h 256) (sym ending_is ∙ q)
+
+  pub on_some : (e : Ending) → ending o s decided within h ≡ Some e → (goes_on o s decided within h ≡ false) × (e ≡ ends_as o s decided within)
+  on_some e q = some_ends (eqb o 20) (undecided o s decided) within s (eqb o 48) (ltb 0 h) (ltb h 256) e (sym ending_is ∙ q)
+
 -- ---- a turn
 
 -- steps from these places, then the path p
 abbrev after : List ℕ → Path → Path
 after done p = record { left = done ++ p.left; stood = p.stood; ended = p.ended }
 
--- the walk stands at i with k decisions used, m strikes behind it, and the first h of `hs` registered; s tells whether a failure strikes now. `done` are the
--- places that it left
-pub record Walking (s : List ℕ) (tag span at n : ℕ) (ds ss : List ℕ) (budget room : ℕ) (vis hs : List ℕ) (h i k m steps o : ℕ) (struck : Bool) : Type 0 where
+-- the walk stands at i with k decisions used, m strikes behind it, and the first h of `hs` registered. `done` are the places that it left
+pub record Walking (s : List ℕ) (tag span at n : ℕ) (ds ss : List ℕ) (budget room : ℕ) (vis hs : List ℕ) (h i k m steps : ℕ) : Type 0 where
   pub done : List ℕ
   pub count : length done ≡ steps
   pub within : steps ≤ budget
   pub here : i < n
   pub used : k ≤ length ds
-  pub opcode : o ≡ get_or s (at + i * span + 3) 0
   pub full : length hs ≡ 256
   pub most : h ≤ 256
   pub inside : (t : ℕ) → t < h → get_or hs t 0 < n
   pub ahead : Ahead ss m steps
-  pub strikes : struck ≡ next_is ss m steps
   pub size : length vis ≡ room
   pub marks : (j : ℕ) → get_or vis j 0 ≡ cond (among j done || eqb j i) 1 0
   pub rest : path budget (code_in s tag span at n) ss (start ds) ≡ after done (path (budget - steps) (code_in s tag span at n) ss (standing i (drop k ds) steps (registered hs h)))
@@ -142,20 +187,18 @@ module _ (s : List ℕ) (tag span at n : ℕ) (v : Walkable s tag span at n) (ds
   abbrev code : List Instruction
   code = code_in s tag span at n
 
-  pub walking_start : (vis₀ hs : List ℕ) → n ≤ room → length vis₀ ≡ room → vis₀ ≡ replicate room 0 → length hs ≡ 256 → (o : ℕ) → o ≡ get_or s (at + 3) 0 → (b : Bool) → b ≡ next_is ss 0 0
-      → Walking s tag span at n ds ss budget room (set vis₀ 0 1) hs 0 0 0 0 0 o b
-  walking_start vis₀ hs h e z f o q b eb = record {
+  pub walking_start : (vis₀ hs : List ℕ) → n ≤ room → length vis₀ ≡ room → vis₀ ≡ replicate room 0 → length hs ≡ 256
+      → Walking s tag span at n ds ss budget room (set vis₀ 0 1) hs 0 0 0 0 0
+  walking_start vis₀ hs h e z f = record {
     done = [];
     count = refl;
     within = omega arith;
     here = v.some;
     used = omega arith;
-    opcode = q ∙ ap (λ (m : ℕ). get_or s m 0) (let z : at + 3 ≡ at + 0 * span + 3 = omega (arith, zero-mul span) in z);
     full = f;
     most = omega arith;
     inside = λ t l. absurd (omega arith);
     ahead = ahead_start ss;
-    strikes = eb;
     size = length-set vis₀ 0 1 ∙ e;
     marks = λ j. ⊎_elim
         (λ (r : j ≡ 0). rw (r) (get_or-set_same vis₀ 0 1 0 (omega (arith, v.some))))
@@ -173,7 +216,7 @@ module _ (s : List ℕ) (tag span at n : ℕ) (v : Walkable s tag span at n) (ds
       zero_at (suc r) zero = refl
       zero_at (suc r) (suc j) = zero_at r j
 
-  module _ (vis hs : List ℕ) (h i k m steps o : ℕ) (struck : Bool) (t : Walking s tag span at n ds ss budget room vis hs h i k m steps o struck) where
+  module _ (vis hs : List ℕ) (h i k m steps : ℕ) (t : Walking s tag span at n ds ss budget room vis hs h i k m steps) (o : ℕ) (eo : o ≡ get_or s (at + i * span + 3) 0) (struck : Bool) (es : struck ≡ next_is ss m steps) where
     abbrev x : Instruction
     x = inst_at code i
 
@@ -184,10 +227,10 @@ module _ (s : List ℕ) (tag span at n : ℕ) (v : Walkable s tag span at n) (ds
     whole = path budget code ss (start ds)
 
     op : x.opcode ≡ o
-    op = opcode_there s tag span at n i t.here ∙ sym t.opcode
+    op = opcode_there s tag span at n i t.here ∙ sym eo
 
     strikes_now : among steps ss ≡ struck
-    strikes_now = among_is ss rising m steps t.ahead ∙ sym t.strikes
+    strikes_now = among_is ss rising m steps t.ahead ∙ sym es
 
     -- the walk ends here
     module _ (stops : goes_on o struck (ltb k (length ds)) (ltb steps budget) h ≡ false) where
@@ -284,9 +327,8 @@ module _ (s : List ℕ) (tag span at n : ℕ) (v : Walkable s tag span at n) (ds
             (moves x ds k i steps hs h o w d t.used t.full ss struck ed strikes_now op wide) on)
             ∙ ap (λ (p : Point). step_from now_at (path (budget - (steps + 1)) code ss p)) (rw (eh, en, ek, ei) refl)
 
-        pub walking_more : n ≤ room → (o' : ℕ) → o' ≡ get_or s (at + i' * span + 3) 0 → (b : Bool) → b ≡ next_is ss m' (steps + 1)
-            → Walking s tag span at n ds ss budget room (set vis i' 1) hs' h' i' k' m' (steps + 1) o' b
-        walking_more fits o' eo b eb =
+        pub walking_more : n ≤ room → Walking s tag span at n ds ss budget room (set vis i' 1) hs' h' i' k' m' (steps + 1)
+        walking_more fits =
             let within = ltb-true steps budget (is_within o struck (ltb k (length ds)) (ltb steps budget) h on) in
             record {
               done = t.done ++ i ∷ [];
@@ -294,12 +336,10 @@ module _ (s : List ℕ) (tag span at n : ℕ) (v : Walkable s tag span at n) (ds
               within = omega arith;
               here = omega (arith, inside_again, ei);
               used = used_again;
-              opcode = eo;
               full = full_again;
               most = handlers_again.0;
               inside = handlers_again.1;
-              ahead = rw em (subst (λ (c : Bool). Ahead ss (cond c (m + 1) m) (steps + 1)) (sym t.strikes) (ahead_more ss rising m steps t.ahead (next_is ss m steps) refl));
-              strikes = eb;
+              ahead = rw em (subst (λ (c : Bool). Ahead ss (cond c (m + 1) m) (steps + 1)) (sym es) (ahead_more ss rising m steps t.ahead (next_is ss m steps) refl));
               size = length-set vis i' 1 ∙ t.size;
               marks = λ u. marked u (eqb u i') refl;
               rest = t.rest ∙ ap (after t.done) (stepped within) ∙ after_step t.done now_at _;

@@ -1,5 +1,7 @@
 -- A turn of the walk in numbers: o is the opcode where it stands, s whether a failure strikes at this step.
-use Rattle.std.specs.Prelude.{ℕ, zero, suc, ◌+◌, ◌-◌, Bool, not, ◌&&◌, ◌||◌, cond, List, [], ◌∷◌, get_or, eqb, ltb}
+use Rattle.std.specs.Prelude.{ℕ, zero, suc, ◌+◌, ◌-◌, Bool, not, ◌&&◌, ◌||◌, cond, List, [], ◌∷◌, get_or, eqb, ltb, leb}
+use Rattle.std.specs.declared.option.Option.{Option}
+use Rattle.std.specs.declared.option.Option.TheVariants.{Some, None}
 use Rattle.meaning.specs.Steps.{target}
 use Rattle.meaning.specs.Paths.{landing}
 use Rattle.meaning.specs.declared.Ending.{Ending}
@@ -24,6 +26,15 @@ ends_as o s decided within =
     (cond (undecided o s decided) NoDecision
     (cond (not within) NoBudget
     (cond s Failed Handlers)))
+
+-- how it ends before the step, if it does
+abbrev pub ending : (o : ℕ) → (s decided within : Bool) → (h : ℕ) → Option Ending
+ending o s decided within h =
+    cond (eqb o 20) (Some AtReturn)
+    (cond (undecided o s decided) (Some NoDecision)
+    (cond (not within) (Some NoBudget)
+    (cond (s && eqb h 0) (Some Failed)
+    (cond (not s && (eqb o 48 && leb 256 h)) (Some Handlers) None))))
 
 -- where opcode o at index i goes on to, with w in b and c, and the decision d
 abbrev pub onward : (o w i d : ℕ) → ℕ

@@ -1,6 +1,8 @@
 // The walk of a prototype by recorded decisions and failures (document 02, E4 and E8): which instructions a run visited, and how it ended.
 #![tactic(auto)]
 
+mod code;
+mod handlers;
 mod lent;
 mod route;
 mod turn;
@@ -14,7 +16,9 @@ ghost use Rattle.meaning.specs.Reader.{broken, image_tag};
 ghost use Rattle.meaning.specs.Walker.{asked, walk_in, walk_image, ending_number, walk_answer, lent_bytes};
 ghost use Rattle.reader.specs.Laid.{Ordered};
 
-use meaning::{Cause, Ending, Outcome, WalkAnswer};
+use code::Code;
+use lent::Recorded;
+use meaning::{Cause, Ending, Refusal, WalkAnswer};
 use route::Walked;
 
 // A refusal has 0 for the three last numbers.
@@ -33,13 +37,7 @@ fn refusal(cause: Cause, place: usize) -> WalkAnswer
 fn ending_number(e: Ending) -> u64
     ensures { result ≡ ending_number e }
 {
-    match e {
-        Ending::AtReturn => 0,
-        Ending::NoDecision => 1,
-        Ending::NoBudget => 2,
-        Ending::Failed => 3,
-        Ending::Handlers => 4,
-    }
+    e as u64
 }
 
 fn arrival(w: Walked) -> WalkAnswer
@@ -70,28 +68,37 @@ fn walk_taken(
     ensures visited { visited.new ≡ lent_bytes (walk_in (image_of tag (fields image.now)) q (asked decisions.now strikes.now «budget» (length visited.old))) (length visited.old) }
     ensures within { result.steps ≤ «budget» }
 {
-    let size = 3 + reader::inst_size(tag);
     let part = reader::prototype(image, tag, q);
     if !reader::heads(part) {
         return refusal(Cause::Prototype, 0);
     }
-    let over = lent::first_over(decisions);
-    if over < decisions.len() {
+    if let Some(over) = lent::first_over(decisions) {
         return refusal(Cause::Decision, over);
     }
-    let fallen = lent::first_fallen(strikes);
-    if fallen < strikes.len() {
+    if let Some(fallen) = lent::first_fallen(strikes) {
         return refusal(Cause::Order, fallen);
     }
-    let n = fields::word(part, 11);
-    if visited.len() < n {
+    let count = fields::word(part, 11);
+    if visited.len() < count {
         return refusal(Cause::Visits, 0);
     }
-    let at = 13 + fields::word(part, 9) * 5;
-    arrival(route::walk_code(part, tag, size, at, n, decisions, strikes, budget, visited))
+    let code = Code {
+        part,
+        tag,
+        span: 3 + reader::inst_size(tag),
+        at: 13 + fields::word(part, 9) * 5,
+        count,
+    };
+    let run = Recorded {
+        decisions,
+        strikes,
+        budget,
+    };
+    arrival(route::walk_code(&code, &run, visited))
 }
 
 // The walk of a prototype, `budget` steps at most, a failure striking at each step whose number is among `strikes`: a lent byte is 1 exactly where an instruction was visited, whatever it was before.
+// stays: the parameters stand one by one, as in C's call of it.
 pub fn walk(
     image: &[u8],
     prototype: u64,
@@ -104,11 +111,11 @@ pub fn walk(
     ensures visited { visited.new ≡ lent_bytes (walk_image (image_tag image.now) image.now «prototype» decisions.now strikes.now «budget» (length visited.old)) (length visited.old) }
     ensures within { result.steps ≤ «budget» }
 {
-    lent::clear(visited);
+    visited.fill(0);
     let outcome = reader::read(image);
     match outcome {
-        Outcome::Refused(cause, place) => refusal(cause, place),
-        Outcome::Accepted(_) => {
+        Err(Refusal { cause, place }) => refusal(cause, place),
+        Ok(_) => {
             let tag = reader::image_tag(image);
             let q = prototype as usize;
             walk_taken(image, tag, q, decisions, strikes, budget, visited)

@@ -1,11 +1,12 @@
 -- The bytes of an image's parts: of a list they are those of its parts, one after the other; and how many they are. Assumes nothing.
-use mathlib.Core.Path.{◌≡◌, refl, sym, ap, ap₂, ◌∙◌}
+use mathlib.Core.Path.{◌≡◌, refl, sym, ap, ◌∙◌}
 use mathlib.Core.Bool.{Bool, true, false}
 use mathlib.Core.List.{List, [], ◌∷◌, ◌++◌, append_assoc, append-nil}
 use Prim.Native.Nat.{ℕ, ◌+◌, ◌*◌, ◌/◌, ◌%◌}
 use native.Mathlib.Omega.{arith}
 use lib.ListN.{length, length-append}
 use borrow.Author.Tests.{eq-eqb, ne_eqb}
+use Rattle.std.specs.Int.{to_be_bytes, byte_at, w32, w64}
 use lib.Dec.{eqb}
 use mir.Val.{bool_byte}
 use Rattle.meaning.specs.Constant.{Constant, number, text, other}
@@ -51,31 +52,27 @@ pub captures_size : (cs : List Capture) → length (capture_bytes cs) ≡ 5 * le
 captures_size [] = refl
 captures_size (c ∷ cs) = let e = captures_size cs in omega (arith, e)
 
--- ---- a number's eight bytes, by the two halves of its bits
+-- ---- the four bytes of a mark, the eight of a number
 
-same_word : (m n : ℕ) → m / 256 % 256 ≡ n / 256 % 256 → m % 256 ≡ n % 256 → word m ≡ word n
-same_word m n p q = cc
+pub four_bytes : (x : ℕ) → to_be_bytes w32 x ≡ word (x / 65536) ++ word x
+four_bytes x =
+    let a : byte_at 3 x ≡ x / 65536 / 256 % 256 = omega arith in
+    let b : byte_at 2 x ≡ x / 65536 % 256 = omega arith in
+    let c : byte_at 1 x ≡ x / 256 % 256 = omega arith in
+    let d : byte_at 0 x ≡ x % 256 = omega arith in
+    cc
 
-pub number_words : (b : ℕ)
-    → (word (b / 4294967296 / 65536) ++ word (b / 4294967296)) ++ (word (b % 4294967296 / 65536) ++ word (b % 4294967296)) ≡ number_bytes b
-number_words b =
-    let e1 : word (b / 4294967296 / 65536) ≡ word (b / 281474976710656) = same_word _ _ (omega arith) (omega arith) in
-    let e3 : word (b % 4294967296 / 65536) ≡ word (b / 65536) = same_word _ _ (omega arith) (omega arith) in
-    let e4 : word (b % 4294967296) ≡ word b = same_word _ _ (omega arith) (omega arith) in
-    ap₂ (λ x y. (x ++ word (b / 4294967296)) ++ y) e1 (ap₂ (λ x y. x ++ y) e3 e4)
-
--- a field's tag and length, then four bytes and four
-pub number_field : (b : ℕ)
-    → ((0x44 ∷ word 8) ++ (word (b / 4294967296 / 65536) ++ word (b / 4294967296))) ++ (word (b % 4294967296 / 65536) ++ word (b % 4294967296)) ≡ field 0x44 (number_bytes b)
-number_field b = ap (λ x. (0x44 ∷ word 8) ++ x) (number_words b)
+pub eight_bytes : (b : ℕ) → to_be_bytes w64 b ≡ number_bytes b
+eight_bytes b =
+    let h : byte_at 7 b ≡ b / 281474976710656 / 256 % 256 = omega arith in
+    let f : byte_at 5 b ≡ b / 4294967296 / 256 % 256 = omega arith in
+    let d : byte_at 3 b ≡ b / 65536 / 256 % 256 = omega arith in
+    cc
 
 -- ---- an instruction by its tag
 
 pub wide_size : (tag : ℕ) → tag ≡ 0x47 → inst_size tag ≡ 8
 wide_size tag e = rw (eq-eqb tag 0x47 e)
-
-pub narrow_size : (tag : ℕ) → (tag ≡ 0x47 → ⊥) → inst_size tag ≡ 6
-narrow_size tag n = rw (ne_eqb tag 0x47 n)
 
 module _ (tag : ℕ) (x : Instruction) where
   pub wide_bytes : tag ≡ 0x47 → ((0x47 ∷ word 8) ++ (x.opcode ∷ x.a ∷ x.b ∷ x.c ∷ [])) ++ (word (x.mark / 65536) ++ word x.mark) ≡ inst_bytes tag (x ∷ [])

@@ -6,6 +6,7 @@ use native.Mathlib.Omega.{arith}
 use native.Mathlib.Numerals.{add-one}
 use lib.ListN.{length, set, take, drop, length-append, length-drop, take-append-drop}
 use lib.Seq.{take_at, drop_at, set_split, length-take-le, drop-drop, drop-append-add}
+use borrow.Rule.Slice.PartMut.{put_mid}
 use Rattle.writers.specs.Spliced.{Spliced}
 
 front : (o bytes : List ℕ) (at : ℕ) → at + length bytes ≤ length o → length (take at o ++ bytes) ≡ at + length bytes
@@ -56,6 +57,11 @@ spliced_then {o} {o1} {o2} {a} {b} {at} {n} s t e =
           ∙ append_assoc (take at o) a (b ++ drop (at + length (a ++ b)) o)
           ∙ ap (λ x. take at o ++ x) (sym (append_assoc a b (drop (at + length (a ++ b)) o)));
     }
+
+-- a part of the output is written
+pub spliced_part : (o : List ℕ) {s bytes : List ℕ} (at k : ℕ) → s ≡ bytes → k ≡ length bytes → at + k ≤ length o → Spliced o at bytes (put_mid at k o s)
+spliced_part o {bytes = bytes} at k q e h =
+    record { fits = omega arith; is = ap₂ (λ a b. take at o ++ (a ++ b)) q (drop-drop k at o ∙ ap (λ m. drop (at + m) o) e) }
 
 one_byte : (o : List ℕ) (k b : ℕ) → k < length o → Spliced o k (b ∷ []) (set o k b)
 one_byte o k b h = record { fits = omega arith; is = set_split o k b h ∙ ap (λ m. take k o ++ b ∷ drop m o) (sym (add-one k)) }

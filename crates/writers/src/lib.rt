@@ -2,7 +2,7 @@
 // a constant. They take values, so whoever has one can write it; who calls has seen that it fits.
 #![tactic(auto)]
 
-ghost use Rattle.std.specs.Prelude.{◌+◌, ◌/◌, ◌≤◌, [], ◌∷◌, ◌++◌, length};
+ghost use Rattle.std.specs.Prelude.{◌+◌, ◌≤◌, ◌≡◌, [], ◌∷◌, length};
 ghost use Rattle.meaning.specs.Images.{inst_size};
 ghost use Rattle.meaning.specs.Image.{word, field, capture_bytes, inst_bytes, number_bytes, constant_bytes};
 ghost use Rattle.writers.specs.Values.{header_bytes, capture_of, constant_of};
@@ -10,6 +10,7 @@ ghost use Rattle.writers.specs.Spliced.{Spliced};
 
 use meaning::Instruction;
 
+// stays: `out` and `at` side by side: a struct that lends `out` would say in each contract that its loan is the same (code/src/lib.rt).
 // What a prototype's header says: its name, and how many there are of each.
 #[derive(Clone, Copy)]
 pub struct Header {
@@ -35,22 +36,27 @@ pub enum Constant {
     Other(u32),
 }
 
+impl Constant {
+    // How many bytes it has.
+    pub fn size(self) -> usize
+        ensures { (result ≡ length (constant_bytes (constant_of self ∷ []))) × (result ≤ 11) }
+    {
+        match self {
+            Constant::Number(_) => 11,
+            Constant::Text(_) => 5,
+            Constant::Other(_) => 5,
+        }
+    }
+}
+
 // A word, high byte first.
+// stays: two bytes of a u32, which to_be_bytes of (n % 65536) as u16 would write no plainer.
 pub fn put_word(out: &mut [u8], at: usize, n: u32)
     requires { at + 2 ≤ length out.old }
     ensures { Spliced out.old at (word n) out.new }
 {
     out[at] = (n / 256 % 256) as u8;
     out[at + 1] = (n % 256) as u8;
-}
-
-// Four bytes, the highest first.
-fn put_long(out: &mut [u8], at: usize, x: u32)
-    requires { at + 4 ≤ length out.old }
-    ensures { Spliced out.old at (word (x / 65536) ++ word x) out.new }
-{
-    put_word(out, at, x / 65536);
-    put_word(out, at + 2, x);
 }
 
 // A field's tag and length; its payload is the caller's.
@@ -90,12 +96,10 @@ fn put_operands(out: &mut [u8], at: usize, x: Instruction)
     requires { at + 4 ≤ length out.old }
     ensures { Spliced out.old at (x.opcode ∷ x.a ∷ x.b ∷ x.c ∷ []) out.new }
 {
-    out[at] = x.opcode;
-    out[at + 1] = x.a;
-    out[at + 2] = x.b;
-    out[at + 3] = x.c;
+    out[at..at + 4].copy_from_slice(&[x.opcode, x.a, x.b, x.c]);
 }
 
+// stays: the tag is a byte, since `inst_bytes tag` is promised of any.
 // Tag 43, or 47 with a mark of four bytes.
 pub fn put_inst(out: &mut [u8], at: usize, tag: u8, x: Instruction)
     requires { at + (3 + inst_size tag) ≤ length out.old }
@@ -104,7 +108,7 @@ pub fn put_inst(out: &mut [u8], at: usize, tag: u8, x: Instruction)
     if tag == 0x47 {
         put_field(out, at, 0x47, 8);
         put_operands(out, at + 3, x);
-        put_long(out, at + 7, x.mark);
+        out[at + 7..at + 11].copy_from_slice(&x.mark.to_be_bytes());
         return;
     }
     put_field(out, at, tag, 6);
@@ -118,8 +122,7 @@ fn put_number(out: &mut [u8], at: usize, bits: u64)
     ensures { Spliced out.old at (field 0x44 (number_bytes bits)) out.new }
 {
     put_field(out, at, 0x44, 8);
-    put_long(out, at + 3, (bits / 4294967296) as u32);
-    put_long(out, at + 7, (bits % 4294967296) as u32);
+    out[at + 3..at + 11].copy_from_slice(&bits.to_be_bytes());
 }
 
 // Tags 45 and 46: a text, another literal.

@@ -1,4 +1,5 @@
 // The calls that C and Rust link (yengrazul_c exports them). Each asks the crate that does the work and writes the numbers of its answer.
+// stays: parameters one by one, and numbers in an array for the answer, are the interface of C.
 #![tactic(auto)]
 
 ghost use Rattle.std.specs.Prelude.{◌≡◌, length, take};

@@ -15,7 +15,7 @@ use std::process::ExitCode;
 
 /// Seconds of the processor that a call may take: the least of so many calls, since other work on the machine only adds to them.
 const LIMIT: f64 = 2.0;
-const CALLS: usize = 3;
+const CALLS: usize = 6;
 
 /// A tree whose first call takes no more than this is called once.
 const SURE: f64 = 1.5;

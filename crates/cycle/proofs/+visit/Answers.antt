@@ -25,9 +25,9 @@ use Rattle.cycle.proofs.Members.TryCatch
 use Rattle.cycle.proofs.Members.Unary
 use Rattle.cycle.proofs.Members.WhileLoop
 use Rattle.cycle.proofs.Nodes.{a_binary, a_block, a_call, a_class, a_define, a_for, a_for_in, a_function, a_jump, a_let, a_literal, a_logical, a_return, a_try, a_unary, a_variable, a_while, an_expression, an_if, behind_here, block_stands, call_stands, class_stands, define_stands, for_in_stands, for_stands, function_stands, if_stands, no_jump_visits, no_literal_visits}
-use Rattle.cycle.proofs.Way.{counted, few_more, few_results, fits, from, held, held_bare, inside, leaf_lowers, likewise, narrow_or_wide, on_node, placed, readable, recounted, refused_stays, stand, ticked_given, ticked_lowers, ticked_ready}
+use Rattle.cycle.proofs.Way.{counted, few_more, few_results, from, held, held_bare, inside, leaf_lowers, likewise, narrow_or_wide, on_node, placed, readable, recounted, refused_stays, stand, ticked_given, ticked_lowers, ticked_ready}
 use native.Mathlib.Omega.{arith}
-use Prim.Native.Nat.{◌*◌, ◌+◌, ◌-◌, ◌≤◌}
+use Prim.Native.Nat.{◌*◌, ◌+◌, ◌≤◌}
 use Rattle.nodes.proofs.Headers.{few_words}
 use Rattle.cycle.proofs.Sizes.{has_pairs, let_only_size, return_none_size, variable_size}
 use Rattle.cycle.proofs.Visited.{let_only_visits, return_none_visits, variable_visits}
@@ -35,6 +35,7 @@ use Rattle.meaning.specs.At.{extra, tag_of, word_of}
 use Rattle.meaning.specs.Fields.{fields}
 use Rattle.store.proofs.Runs.{due, goes}
 use mathlib.Core.Path.{ap, refl, sym, ◌∙◌}
+use Rattle.std.specs.Prelude.{is_some}
 use Rattle.meaning.specs.Grammar.{wide_marks}
 use Rattle.cycle.proofs.Dropped.{rolls}
 use Rattle.nodes.specs.declared.statements.Let as let_node
@@ -52,19 +53,16 @@ addi-expression-left-requires t c =
     let x = a_binary g.ready.lawful g.known c.requires.1 in
     rw c.binary_of-x.ensures (omega (arith, x.left.below), Addi.left g x)
 
-pub addi-next_register-last-requires : goal.addi-next_register-last-requires
-addi-next_register-last-requires t c = c.expression-left.ensures.does.moves.fine
-
 pub addi-emit-requires : goal.addi-emit-requires
 addi-emit-requires t c =
     let g = c.requires.0 in
-    Addi.at_emit g (a_binary g.ready.lawful g.known c.requires.1) (rw c.binary_of-x.ensures at c.expression-left.ensures) c.next_register-last.ensures _ c.requires.2
+    Addi.at_emit g (a_binary g.ready.lawful g.known c.requires.1) (rw c.binary_of-x.ensures at c.expression-left.ensures) c.next_register-last.ensures _ (omega (arith, c.from.ensures))
 
 pub addi-returns : goal.addi-returns
 addi-returns t c =
     let g = c.requires.0 in
     let e = c.binary_of-x.ensures in
-    Addi.lowers g (a_binary g.ready.lawful g.known c.requires.1) (rw e at c.expression-left.ensures) c.next_register-last.ensures (rw e at c.emit.ensures)
+    Addi.lowers g (a_binary g.ready.lawful g.known c.requires.1) (rw e at c.expression-left.ensures) c.next_register-last.ensures (rw (e, c.from.ensures) at c.emit.ensures)
 
 -- ---- arguments
 
@@ -76,9 +74,6 @@ arguments-count_of-n-requires t c = counted (readable c.requires.0.ready c.requi
 
 pub arguments-loop-k-init : goal.arguments-loop-k-init
 arguments-loop-k-init t c = Arguments.start c.requires
-
-pub arguments-overflow_add-k : goal.arguments-overflow_add-k
-arguments-overflow_add-k t c = omega (arith, c.loop-k-test.true, c.count_of-n.ensures.1, narrow_or_wide c.requires.0.ready)
 
 pub arguments-child-child-requires : goal.arguments-child-child-requires
 arguments-child-child-requires t c = rw c.payload_of-payload.ensures (omega (arith, c.loop-k-test.true, c.count_of-n.ensures.0, c.requires.0.behind.size))
@@ -94,15 +89,6 @@ arguments-emit-last-requires t c =
     let h = rw c.count_of-n.ensures.0 at c.loop-k-test.true in
     Arguments.at_move c.requires c.loop-k.invariant h (rw (placed c.requires.0 c.loop-k.invariant.low (rw c.payload_of-payload.ensures at c.child-child.ensures.0)) at c.expression-argument.ensures)
 
-pub arguments-overflow_add-to : goal.arguments-overflow_add-to
-arguments-overflow_add-to t c = omega (arith, c.loop-k.invariant.place, c.loop-k.invariant.high, c.requires.1, c.count_of-n.ensures)
-
-pub arguments-overflow_add-k-in-loop-k : goal.arguments-overflow_add-k-in-loop-k
-arguments-overflow_add-k-in-loop-k t c = omega (arith, c.loop-k-test.true, c.count_of-n.ensures)
-
-pub arguments-loop-k-smaller : goal.arguments-loop-k-smaller
-arguments-loop-k-smaller t c = omega (arith, c.loop-k-test.true)
-
 pub arguments-loop-k-preserved : goal.arguments-loop-k-preserved
 arguments-loop-k-preserved t c =
     let h = rw c.count_of-n.ensures.0 at c.loop-k-test.true in
@@ -116,46 +102,42 @@ arguments-returns t c = rw c.settle.ensures (Arguments.lowers c.requires c.loop-
 pub binary-binary_of-x-requires : goal.binary-binary_of-x-requires
 binary-binary_of-x-requires t c = held c.requires.0.ready c.requires.0.known c.requires.1
 
-pub binary-immediate-k-requires : goal.binary-immediate-k-requires
-binary-immediate-k-requires t c =
+pub binary-immediate-requires : goal.binary-immediate-requires
+binary-immediate-requires t c =
     let g = c.requires.0 in
     let x = a_binary g.ready.lawful g.known c.requires.1 in
     rw c.binary_of-x.ensures (g.ready.lawful, omega (arith, g.known, x.right.below), g.ready.fine.sound.few)
 
-pub binary-addi-requires : goal.binary-addi-requires
-binary-addi-requires t c = (omega arith, (c.requires.0, c.requires.1, c.if-k-lt256.true))
-
-pub binary-returns-then-k-lt256 : goal.binary-returns-then-k-lt256
-binary-returns-then-k-lt256 t c =
+pub binary-returns-in-Some : goal.binary-returns-in-Some
+binary-returns-in-Some t c =
     let g = c.requires.0 in
-    likewise (Binary.is_addi c.args.scope.mode (a_binary g.ready.lawful g.known c.requires.1) _ c.if-k-lt256.true (rw c.binary_of-x.ensures at c.immediate-k.ensures))
-    (recounted (Binary.addi_visits c.args.scope.mode (a_binary g.ready.lawful g.known c.requires.1) _ c.if-k-lt256.true (rw c.binary_of-x.ensures at c.immediate-k.ensures)) c.addi.ensures)
+    let x = a_binary g.ready.lawful g.known c.requires.1 in
+    let found = sym c.in-Some.is ∙ (rw c.binary_of-x.ensures at c.immediate.ensures) in
+    likewise (Binary.is_addi c.args.scope.mode x _ found) (recounted (Binary.addi_visits c.args.scope.mode x _ found) c.addi.ensures)
 
-pub binary-immediate-j-requires : goal.binary-immediate-j-requires
-binary-immediate-j-requires t c =
+pub binary-immediate-requires-2 : goal.binary-immediate-requires-2
+binary-immediate-requires-2 t c =
     let g = c.requires.0 in
     let x = a_binary g.ready.lawful g.known c.requires.1 in
     rw c.binary_of-x.ensures (g.ready.lawful, omega (arith, g.known, x.left.below), g.ready.fine.sound.few)
 
-pub binary-minus-requires : goal.binary-minus-requires
-binary-minus-requires t c = (omega arith, (c.requires.0, c.requires.1))
-
-pub binary-returns-then-j-lt256 : goal.binary-returns-then-j-lt256
-binary-returns-then-j-lt256 t c =
+pub binary-returns-then-is_some : goal.binary-returns-then-is_some
+binary-returns-then-is_some t c =
     let g = c.requires.0 in
+    let x = a_binary g.ready.lawful g.known c.requires.1 in
     let e = c.binary_of-x.ensures in
-    likewise (Binary.is_minus c.args.scope.mode (a_binary g.ready.lawful g.known c.requires.1) _ c.if-k-lt256.false (rw e at c.immediate-k.ensures) _ c.if-j-lt256.true (rw e at c.immediate-j.ensures))
-    (recounted (Binary.minus_visits c.args.scope.mode (a_binary g.ready.lawful g.known c.requires.1) _ c.if-k-lt256.false (rw e at c.immediate-k.ensures) _ c.if-j-lt256.true (rw e at c.immediate-j.ensures)) c.minus.ensures)
-
-pub binary-both-requires : goal.binary-both-requires
-binary-both-requires t c = (omega arith, (c.requires.0, c.requires.1))
+    let none = sym c.in_default.is ∙ (rw e at c.immediate.ensures) in
+    let some = ap is_some (sym (rw e at c.immediate-2.ensures)) ∙ sym c.is_some.ensures ∙ c.if-is_some.true in
+    likewise (Binary.is_minus c.args.scope.mode x none some) (recounted (Binary.minus_visits c.args.scope.mode x none some) c.minus.ensures)
 
 pub binary-returns : goal.binary-returns
 binary-returns t c =
     let g = c.requires.0 in
+    let x = a_binary g.ready.lawful g.known c.requires.1 in
     let e = c.binary_of-x.ensures in
-    likewise (Binary.is_both c.args.scope.mode (a_binary g.ready.lawful g.known c.requires.1) _ c.if-k-lt256.false (rw e at c.immediate-k.ensures) _ c.if-j-lt256.false (rw e at c.immediate-j.ensures))
-    (recounted (Binary.both_visits c.args.scope.mode (a_binary g.ready.lawful g.known c.requires.1) _ c.if-k-lt256.false (rw e at c.immediate-k.ensures) _ c.if-j-lt256.false (rw e at c.immediate-j.ensures)) c.both.ensures)
+    let none = sym c.in_default.is ∙ (rw e at c.immediate.ensures) in
+    let neither = ap is_some (sym (rw e at c.immediate-2.ensures)) ∙ sym c.is_some.ensures ∙ c.if-is_some.false in
+    likewise (Binary.is_both c.args.scope.mode x none neither) (recounted (Binary.both_visits c.args.scope.mode x none neither) c.both.ensures)
 
 -- ---- block
 
@@ -195,9 +177,6 @@ body-row-last-requires t c =
     let e = c.enter_block-inside.ensures in
     rw (e.0, c.requires.4) (omega arith, Body.stmts g e.1 (e.2 _ g.0.ready.fine))
 
-pub body-overflow_sub-to : goal.body-overflow_sub-to
-body-overflow_sub-to t c = omega (arith, c.requires.4, c.requires.2)
-
 pub body-end_body-ended-requires : goal.body-end_body-ended-requires
 body-end_body-ended-requires t c =
     let g = c.requires in
@@ -230,9 +209,6 @@ both-expression-right-requires t c =
     let x = a_binary g.ready.lawful g.known c.requires.1 in
     let e = c.binary_of-x.ensures in
     rw e (omega (arith, x.right.below), Both.right g x (rw e at c.expression-left.ensures))
-
-pub both-next_register-last-requires : goal.both-next_register-last-requires
-both-next_register-last-requires t c = c.expression-right.ensures.does.moves.fine
 
 pub both-emit-requires : goal.both-emit-requires
 both-emit-requires t c =
@@ -395,15 +371,6 @@ elifs-end_branch-last-requires t c =
     let e = placed c.requires c.loop-k.invariant.low (rw c.payload_of-payload.ensures at c.child-child.ensures.0) in
     Elifs.at_end c.requires c.loop-k.invariant c.loop-k-test.true (rw (c.elif_of-x.ensures, e) at c.expression-condition.ensures) c.test_and_jump-tested.ensures (rw (c.elif_of-x.ensures, e) at c.row-then.ensures)
 
-pub elifs-visit-requires : goal.elifs-visit-requires
-elifs-visit-requires t c = omega (arith, c.end_branch-last.ensures.moves.fine.sound.long)
-
-pub elifs-overflow_add-k-in-loop-k : goal.elifs-overflow_add-k-in-loop-k
-elifs-overflow_add-k-in-loop-k t c = record { fits = Elifs.one_more c.loop-k-test.true c.ranges.to.fits }
-
-pub elifs-loop-k-smaller : goal.elifs-loop-k-smaller
-elifs-loop-k-smaller t c = omega (arith, c.loop-k-test.true)
-
 pub elifs-loop-k-preserved : goal.elifs-loop-k-preserved
 elifs-loop-k-preserved t c =
     let e = placed c.requires c.loop-k.invariant.low (rw c.payload_of-payload.ensures at c.child-child.ensures.0) in
@@ -437,9 +404,6 @@ expression-returns-in_default t c = refused_stays _ _ c.requires.0.ready.fine c.
 pub expression-tag_of-tag-requires : goal.expression-tag_of-tag-requires
 expression-tag_of-tag-requires t c = readable c.requires.0.ready c.requires.0.known
 
-pub expression-visit-requires : goal.expression-visit-requires
-expression-visit-requires t c = omega (arith, c.requires.0.ready.fine.sound.long)
-
 pub expression-variable-requires : goal.expression-variable-requires
 expression-variable-requires t c =
     let g = c.requires.0 in
@@ -459,7 +423,7 @@ pub expression-call-requires : goal.expression-call-requires
 expression-call-requires t c = (omega arith, (ticked_given c.requires.0 c.visit.ensures, sym c.tag_of-tag.ensures ∙ c.in-8.is))
 
 pub expression-function-requires : goal.expression-function-requires
-expression-function-requires t c = (omega arith, (ticked_given c.requires.0 c.visit.ensures, sym c.tag_of-tag.ensures ∙ c.in-9.is, due c.args.step.outcome c.requires.0.ready.fine.nested (goes c.in-Accepted.is)))
+expression-function-requires t c = (omega arith, (ticked_given c.requires.0 c.visit.ensures, sym c.tag_of-tag.ensures ∙ c.in-9.is, due c.args.step.outcome c.requires.0.ready.fine.nested (goes c.in-Ok.is)))
 
 pub expression-literal-requires : goal.expression-literal-requires
 expression-literal-requires t c =
@@ -520,12 +484,6 @@ fn_stmt-open_fun-opened-requires t c =
     let y = FnStmt.at_open g x (rw c.define_of-x.ensures.0 at c.declare-own.ensures) (rw c.define_of-x.ensures.0 at c.enter_function-entered.ensures.1) in
     let z = stand 0 0 0 (from y) (omega arith) (omega arith) (omega arith) (omega arith) in
     rw (c.enter_function-entered.ensures.0, c.define_of-x.ensures.0) (z.fine, z.room, omega (arith, x.name), has_pairs _ _ _ _ _ (3 + extra (wide_marks (fields c.args.tree.now))) _ g.0.ready.width c.payload_of-payload.ensures (ap (λ m. 3 + m) g.0.ready.width) (let k = define_stands g.0.ready.lawful g.0.known g.1 in omega (arith, x.size, k.2.size)))
-
-pub fn_stmt-overflow_mul-x : goal.fn_stmt-overflow_mul-x
-fn_stmt-overflow_mul-x t c = omega (arith, c.define_of-x.ensures.1)
-
-pub fn_stmt-overflow_add-x : goal.fn_stmt-overflow_add-x
-fn_stmt-overflow_add-x t c = omega (arith, c.define_of-x.ensures.1)
 
 pub fn_stmt-overflow_mul-x-2 : goal.fn_stmt-overflow_mul-x-2
 fn_stmt-overflow_mul-x-2 t c = omega (arith, few_more _ _ c.define_of-x.ensures.1 (narrow_or_wide c.requires.0.ready))
@@ -633,20 +591,20 @@ for_loop-for_of-x-requires t c = held c.requires.0.ready c.requires.0.known c.re
 pub for_loop-row-first-requires : goal.for_loop-row-first-requires
 for_loop-row-first-requires t c =
     let g = c.requires.0 in
-    rw (c.initializer_end.ensures, c.for_of-x.ensures) (omega arith, ForLoop.first g (a_for g.ready.lawful g.known c.requires.1) (behind_here g.ready (for_stands g.ready.lawful g.known c.requires.1)))
+    rw (c.initializer_end.ensures, c.for_of-x.ensures, ForLoop.one_or_two) (omega arith, ForLoop.first g (a_for g.ready.lawful g.known c.requires.1) (behind_here g.ready (for_stands g.ready.lawful g.known c.requires.1)))
 
 pub for_loop-expression-condition-requires : goal.for_loop-expression-condition-requires
 for_loop-expression-condition-requires t c =
     let g = c.requires.0 in
     let x = a_for g.ready.lawful g.known c.requires.1 in
     let e = c.for_of-x.ensures in
-    rw e (omega (arith, x.condition.below), ForLoop.condition g x (rw (c.initializer_end.ensures, e) at c.row-first.ensures))
+    rw e (omega (arith, x.condition.below), ForLoop.condition g x (rw (c.initializer_end.ensures, e, ForLoop.one_or_two) at c.row-first.ensures))
 
 pub for_loop-test_and_jump-tested-requires : goal.for_loop-test_and_jump-tested-requires
 for_loop-test_and_jump-tested-requires t c =
     let g = c.requires.0 in
     let e = c.for_of-x.ensures in
-    ForLoop.at_test g (a_for g.ready.lawful g.known c.requires.1) (rw (c.initializer_end.ensures, e) at c.row-first.ensures) (rw e at c.expression-condition.ensures)
+    ForLoop.at_test g (a_for g.ready.lawful g.known c.requires.1) (rw (c.initializer_end.ensures, e, ForLoop.one_or_two) at c.row-first.ensures) (rw e at c.expression-condition.ensures)
 
 pub for_loop-looped-requires : goal.for_loop-looped-requires
 for_loop-looped-requires t c =
@@ -659,7 +617,7 @@ for_loop-statement-body-requires t c =
     let x = a_for g.ready.lawful g.known c.requires.1 in
     let e = c.for_of-x.ensures in
     rw (c.looped.ensures, e)
-    (omega (arith, x.body.below), ForLoop.body g x (rw (c.initializer_end.ensures, e) at c.row-first.ensures) (rw e at c.expression-condition.ensures) (rw e at c.test_and_jump-tested.ensures))
+    (omega (arith, x.body.below), ForLoop.body g x (rw (c.initializer_end.ensures, e, ForLoop.one_or_two) at c.row-first.ensures) (rw e at c.expression-condition.ensures) (rw e at c.test_and_jump-tested.ensures))
 
 pub for_loop-expression-last-requires : goal.for_loop-expression-last-requires
 for_loop-expression-last-requires t c =
@@ -667,19 +625,19 @@ for_loop-expression-last-requires t c =
     let x = a_for g.ready.lawful g.known c.requires.1 in
     let e = c.for_of-x.ensures in
     rw e
-    (omega (arith, x.increment.below), ForLoop.increment g x (rw (c.initializer_end.ensures, e) at c.row-first.ensures) (rw e at c.expression-condition.ensures) (rw e at c.test_and_jump-tested.ensures) (rw (c.looped.ensures, e) at c.statement-body.ensures))
+    (omega (arith, x.increment.below), ForLoop.increment g x (rw (c.initializer_end.ensures, e, ForLoop.one_or_two) at c.row-first.ensures) (rw e at c.expression-condition.ensures) (rw e at c.test_and_jump-tested.ensures) (rw (c.looped.ensures, e) at c.statement-body.ensures))
 
 pub for_loop-end_loop-requires : goal.for_loop-end_loop-requires
 for_loop-end_loop-requires t c =
     let g = c.requires.0 in
     let e = c.for_of-x.ensures in
-    ForLoop.at_end g (a_for g.ready.lawful g.known c.requires.1) (rw (c.initializer_end.ensures, e) at c.row-first.ensures) (rw e at c.expression-condition.ensures) (rw e at c.test_and_jump-tested.ensures) (rw (c.looped.ensures, e) at c.statement-body.ensures) (rw e at c.expression-last.ensures)
+    ForLoop.at_end g (a_for g.ready.lawful g.known c.requires.1) (rw (c.initializer_end.ensures, e, ForLoop.one_or_two) at c.row-first.ensures) (rw e at c.expression-condition.ensures) (rw e at c.test_and_jump-tested.ensures) (rw (c.looped.ensures, e) at c.statement-body.ensures) (rw e at c.expression-last.ensures)
 
 pub for_loop-returns : goal.for_loop-returns
 for_loop-returns t c =
     let g = c.requires.0 in
     let e = c.for_of-x.ensures in
-    ForLoop.lowers g (a_for g.ready.lawful g.known c.requires.1) (rw (c.initializer_end.ensures, e) at c.row-first.ensures) (rw e at c.expression-condition.ensures) (rw e at c.test_and_jump-tested.ensures) (rw (c.looped.ensures, e) at c.statement-body.ensures) (rw e at c.expression-last.ensures) (rw e at c.end_loop.ensures)
+    ForLoop.lowers g (a_for g.ready.lawful g.known c.requires.1) (rw (c.initializer_end.ensures, e, ForLoop.one_or_two) at c.row-first.ensures) (rw e at c.expression-condition.ensures) (rw e at c.test_and_jump-tested.ensures) (rw (c.looped.ensures, e) at c.statement-body.ensures) (rw e at c.expression-last.ensures) (rw e at c.end_loop.ensures)
 
 -- ---- function
 
@@ -690,9 +648,6 @@ function-function_of-x-requires t c =
 
 pub function-payload_of-payload-requires : goal.function-payload_of-payload-requires
 function-payload_of-payload-requires t c = readable c.requires.0.ready c.requires.0.known
-
-pub function-next_register-own-requires : goal.function-next_register-own-requires
-function-next_register-own-requires t c = c.requires.0.ready.fine
 
 pub function-enter_function-entered-requires : goal.function-enter_function-entered-requires
 function-enter_function-entered-requires t c =
@@ -707,12 +662,6 @@ function-open_function-opened-requires t c =
     let y = Function.at_open g x c.requires.2 c.next_register-own.ensures c.enter_function-entered.ensures.1 in
     let z = stand 0 0 0 (from y) (omega arith) (omega arith) (omega arith) (omega arith) in
     rw (c.enter_function-entered.ensures.0, c.function_of-x.ensures.0) (z.fine, z.room, has_pairs _ _ _ _ 1 1 _ g.ready.width c.payload_of-payload.ensures refl (omega (arith, x.size, k.2.size)))
-
-pub function-overflow_mul-x : goal.function-overflow_mul-x
-function-overflow_mul-x t c = omega (arith, c.function_of-x.ensures.1)
-
-pub function-overflow_add-x : goal.function-overflow_add-x
-function-overflow_add-x t c = omega (arith, c.function_of-x.ensures.1)
 
 pub function-overflow_mul-x-2 : goal.function-overflow_mul-x-2
 function-overflow_mul-x-2 t c = omega (arith, few_more _ _ c.function_of-x.ensures.1 (narrow_or_wide c.requires.0.ready))
@@ -772,9 +721,6 @@ if_stmt-end_branch-branch-requires t c =
     let e = c.if_of-x.ensures.0 in
     IfStmt.at_branch g (an_if g.ready.lawful g.known c.requires.1) (rw e at c.expression-condition.ensures) (rw e at c.test_and_jump-tested.ensures) (rw c.if_of-x.ensures.0 at c.row-then.ensures)
 
-pub if_stmt-overflow_add-x : goal.if_stmt-overflow_add-x
-if_stmt-overflow_add-x t c = omega (arith, c.if_of-x.ensures.1)
-
 pub if_stmt-elifs-others-requires : goal.if_stmt-elifs-others-requires
 if_stmt-elifs-others-requires t c =
     let g = c.requires.0 in
@@ -818,14 +764,14 @@ let_stmt-let_of-x-requires t c = held c.requires.0.ready c.requires.0.known c.re
 pub let_stmt-let_only-requires : goal.let_stmt-let_only-requires
 let_stmt-let_only-requires t c =
     let g = c.requires.0 in
-    let e = LetStmt.two_words (a_let g.ready.lawful g.known c.requires.1) _ (ap (λ (y : let_node.Let). y.value) c.let_of-x.ensures.0) (omega (arith, g.known, g.ready.fine.sound.few)) c.if-x-eq-ABSENT.true in
+    let e = LetStmt.two_words (a_let g.ready.lawful g.known c.requires.1) (ap (λ (y : let_node.Let). y.value) c.let_of-x.ensures.0) c.in_default.is in
     (on_node (rw (let_only_size (a_let g.ready.lawful g.known c.requires.1) e) at g.ready) g.known, c.requires.1, e)
 
-pub let_stmt-returns-then-x-eq-ABSENT : goal.let_stmt-returns-then-x-eq-ABSENT
-let_stmt-returns-then-x-eq-ABSENT t c =
+pub let_stmt-returns-in_default : goal.let_stmt-returns-in_default
+let_stmt-returns-in_default t c =
     let g = c.requires.0 in
-    let n = let_only_size (a_let g.ready.lawful g.known c.requires.1) (LetStmt.two_words (a_let g.ready.lawful g.known c.requires.1) _ (ap (λ (y : let_node.Let). y.value) c.let_of-x.ensures.0) (omega (arith, g.known, g.ready.fine.sound.few)) c.if-x-eq-ABSENT.true) in
-    let v = let_only_visits (a_let g.ready.lawful g.known c.requires.1) (LetStmt.two_words (a_let g.ready.lawful g.known c.requires.1) _ (ap (λ (y : let_node.Let). y.value) c.let_of-x.ensures.0) (omega (arith, g.known, g.ready.fine.sound.few)) c.if-x-eq-ABSENT.true) in
+    let n = let_only_size (a_let g.ready.lawful g.known c.requires.1) (LetStmt.two_words (a_let g.ready.lawful g.known c.requires.1) (ap (λ (y : let_node.Let). y.value) c.let_of-x.ensures.0) c.in_default.is) in
+    let v = let_only_visits (a_let g.ready.lawful g.known c.requires.1) (LetStmt.two_words (a_let g.ready.lawful g.known c.requires.1) (ap (λ (y : let_node.Let). y.value) c.let_of-x.ensures.0) c.in_default.is) in
     leaf_lowers _ _ _ (ap (λ n. 8 * n) n) n v c.let_only.ensures
 
 pub let_stmt-new_global-name-requires : goal.let_stmt-new_global-name-requires
@@ -839,48 +785,48 @@ pub let_stmt-expression-value-requires : goal.let_stmt-expression-value-requires
 let_stmt-expression-value-requires t c =
     let g = c.requires.0 in
     let x = a_let g.ready.lawful g.known c.requires.1 in
-    let three = LetStmt.three_words x _ (ap (λ (y : let_node.Let). y.value) c.let_of-x.ensures.0) c.if-x-eq-ABSENT.false in
+    let three = LetStmt.three_words x (ap (λ (y : let_node.Let). y.value) c.let_of-x.ensures.0) c.in-Some.is in
     let e = c.let_of-x.ensures.0 in
-    rw (e, LetStmt.the_value x three) (omega (arith, (x.value three).below), LetStmt.value_after g x three (c.is_global_context.ensures.1 _ _ g.ready.fine.sound) c.if-is_global_context.true (rw e at c.new_global-name.ensures))
+    rw three.1 (omega (arith, (x.value three.0).below), LetStmt.value_after g x three.0 (c.is_global_context.ensures.1 _ _ g.ready.fine.sound) c.if-is_global_context.true (rw e at c.new_global-name.ensures))
 
 pub let_stmt-emit_bx-requires : goal.let_stmt-emit_bx-requires
 let_stmt-emit_bx-requires t c =
     let g = c.requires.0 in
     let x = a_let g.ready.lawful g.known c.requires.1 in
-    let three = LetStmt.three_words x _ (ap (λ (y : let_node.Let). y.value) c.let_of-x.ensures.0) c.if-x-eq-ABSENT.false in
+    let three = LetStmt.three_words x (ap (λ (y : let_node.Let). y.value) c.let_of-x.ensures.0) c.in-Some.is in
     let e = c.let_of-x.ensures.0 in
-    LetStmt.at_emit g x three (c.is_global_context.ensures.1 _ _ g.ready.fine.sound) c.if-is_global_context.true (rw e at c.new_global-name.ensures) (rw (e, LetStmt.the_value x three) at c.expression-value.ensures)
+    LetStmt.at_emit g x three.0 (c.is_global_context.ensures.1 _ _ g.ready.fine.sound) c.if-is_global_context.true (rw e at c.new_global-name.ensures) (rw three.1 at c.expression-value.ensures)
 
 pub let_stmt-returns-then-is_global_context : goal.let_stmt-returns-then-is_global_context
 let_stmt-returns-then-is_global_context t c =
     let g = c.requires.0 in
     let x = a_let g.ready.lawful g.known c.requires.1 in
-    let three = LetStmt.three_words x _ (ap (λ (y : let_node.Let). y.value) c.let_of-x.ensures.0) c.if-x-eq-ABSENT.false in
+    let three = LetStmt.three_words x (ap (λ (y : let_node.Let). y.value) c.let_of-x.ensures.0) c.in-Some.is in
     let e = c.let_of-x.ensures.0 in
-    LetStmt.lowers_global g x three (c.is_global_context.ensures.1 _ _ g.ready.fine.sound) c.if-is_global_context.true (rw e at c.new_global-name.ensures) (rw (e, LetStmt.the_value x three) at c.expression-value.ensures) (rw e at c.emit_bx.ensures)
+    LetStmt.lowers_global g x three.0 (c.is_global_context.ensures.1 _ _ g.ready.fine.sound) c.if-is_global_context.true (rw e at c.new_global-name.ensures) (rw three.1 at c.expression-value.ensures) (rw e at c.emit_bx.ensures)
 
 pub let_stmt-expression-value-requires-2 : goal.let_stmt-expression-value-requires-2
 let_stmt-expression-value-requires-2 t c =
     let g = c.requires.0 in
     let x = a_let g.ready.lawful g.known c.requires.1 in
-    let three = LetStmt.three_words x _ (ap (λ (y : let_node.Let). y.value) c.let_of-x.ensures.0) c.if-x-eq-ABSENT.false in
-    rw (c.let_of-x.ensures.0, LetStmt.the_value x three) (omega (arith, (x.value three).below), LetStmt.value g x three)
+    let three = LetStmt.three_words x (ap (λ (y : let_node.Let). y.value) c.let_of-x.ensures.0) c.in-Some.is in
+    rw three.1 (omega (arith, (x.value three.0).below), LetStmt.value g x three.0)
 
 pub let_stmt-allocate_register-requires : goal.let_stmt-allocate_register-requires
 let_stmt-allocate_register-requires t c =
     let g = c.requires.0 in
     let x = a_let g.ready.lawful g.known c.requires.1 in
-    let three = LetStmt.three_words x _ (ap (λ (y : let_node.Let). y.value) c.let_of-x.ensures.0) c.if-x-eq-ABSENT.false in
+    let three = LetStmt.three_words x (ap (λ (y : let_node.Let). y.value) c.let_of-x.ensures.0) c.in-Some.is in
     let e = c.let_of-x.ensures.0 in
-    rw e (LetStmt.at_name g x three (c.is_global_context.ensures.1 _ _ g.ready.fine.sound) c.if-is_global_context.false (rw (e, LetStmt.the_value x three) at c.expression-value-2.ensures))
+    rw e (LetStmt.at_name g x three.0 (c.is_global_context.ensures.1 _ _ g.ready.fine.sound) c.if-is_global_context.false (rw three.1 at c.expression-value-2.ensures))
 
 pub let_stmt-returns : goal.let_stmt-returns
 let_stmt-returns t c =
     let g = c.requires.0 in
     let x = a_let g.ready.lawful g.known c.requires.1 in
-    let three = LetStmt.three_words x _ (ap (λ (y : let_node.Let). y.value) c.let_of-x.ensures.0) c.if-x-eq-ABSENT.false in
+    let three = LetStmt.three_words x (ap (λ (y : let_node.Let). y.value) c.let_of-x.ensures.0) c.in-Some.is in
     let e = c.let_of-x.ensures.0 in
-    LetStmt.lowers_local g x three (c.is_global_context.ensures.1 _ _ g.ready.fine.sound) c.if-is_global_context.false (rw (e, LetStmt.the_value x three) at c.expression-value-2.ensures) (rw e at c.allocate_register.ensures)
+    LetStmt.lowers_local g x three.0 (c.is_global_context.ensures.1 _ _ g.ready.fine.sound) c.if-is_global_context.false (rw three.1 at c.expression-value-2.ensures) (rw e at c.allocate_register.ensures)
 
 -- ---- logical
 
@@ -945,23 +891,11 @@ methods-fn_stmt-method-requires t c =
     let e = placed c.requires.0 c.loop-k.invariant.low (rw c.payload_of-payload.ensures at c.child-child.ensures.0) in
     rw e (omega (arith, (Methods.below c.requires _ c.loop-k.invariant h).below), Methods.child c.requires _ c.loop-k.invariant h)
 
-pub methods-overflow_add-class : goal.methods-overflow_add-class
-methods-overflow_add-class t c = omega (arith, c.requires.3)
-
 pub methods-add_method-last-requires : goal.methods-add_method-last-requires
 methods-add_method-last-requires t c =
     let e = placed c.requires.0 c.loop-k.invariant.low (rw c.payload_of-payload.ensures at c.child-child.ensures.0) in
     let y = Methods.at_add c.requires _ c.loop-k.invariant c.loop-k-test.true (rw e at c.fn_stmt-method.ensures) in
     (y.0, y.1, rw (c.define_of-x.ensures.0, e) (omega (arith, (Methods.defined c.requires _ c.loop-k.invariant c.loop-k-test.true).name)), y.2)
-
-pub methods-visit-requires : goal.methods-visit-requires
-methods-visit-requires t c = omega (arith, c.add_method-last.ensures.moves.fine.sound.long)
-
-pub methods-overflow_add-k-in-loop-k : goal.methods-overflow_add-k-in-loop-k
-methods-overflow_add-k-in-loop-k t c = omega (arith, c.loop-k-test.true, c.ranges.to.fits)
-
-pub methods-loop-k-smaller : goal.methods-loop-k-smaller
-methods-loop-k-smaller t c = omega (arith, c.loop-k-test.true)
 
 pub methods-loop-k-preserved : goal.methods-loop-k-preserved
 methods-loop-k-preserved t c =
@@ -982,9 +916,6 @@ minus-expression-right-requires t c =
     let x = a_binary g.ready.lawful g.known c.requires.1 in
     rw c.binary_of-x.ensures (omega (arith, x.right.below), Minus.right g x)
 
-pub minus-next_register-last-requires : goal.minus-next_register-last-requires
-minus-next_register-last-requires t c = c.expression-right.ensures.does.moves.fine
-
 pub minus-both-requires : goal.minus-both-requires
 minus-both-requires t c =
     let g = c.requires.0 in
@@ -1003,38 +934,38 @@ return_stmt-return_of-x-requires t c = held c.requires.0.ready c.requires.0.know
 pub return_stmt-return_none-requires : goal.return_stmt-return_none-requires
 return_stmt-return_none-requires t c =
     let g = c.requires.0 in
-    let e = ReturnStmt.one_word (a_return g.ready.lawful g.known c.requires.1) _ (ap (λ (y : return_node.Return). y.value) c.return_of-x.ensures) (omega (arith, g.known, g.ready.fine.sound.few)) c.if-x-eq-ABSENT.true in
+    let e = ReturnStmt.one_word (a_return g.ready.lawful g.known c.requires.1) (ap (λ (y : return_node.Return). y.value) c.return_of-x.ensures) c.in_default.is in
     let x = a_return g.ready.lawful g.known c.requires.1 in
     (on_node (rw (return_none_size x e) at g.ready) g.known, c.requires.1, e)
 
-pub return_stmt-returns-then-x-eq-ABSENT : goal.return_stmt-returns-then-x-eq-ABSENT
-return_stmt-returns-then-x-eq-ABSENT t c =
+pub return_stmt-returns-in_default : goal.return_stmt-returns-in_default
+return_stmt-returns-in_default t c =
     let g = c.requires.0 in
-    let n = return_none_size (a_return g.ready.lawful g.known c.requires.1) (ReturnStmt.one_word (a_return g.ready.lawful g.known c.requires.1) _ (ap (λ (y : return_node.Return). y.value) c.return_of-x.ensures) (omega (arith, g.known, g.ready.fine.sound.few)) c.if-x-eq-ABSENT.true) in
-    let v = return_none_visits (a_return g.ready.lawful g.known c.requires.1) (ReturnStmt.one_word (a_return g.ready.lawful g.known c.requires.1) _ (ap (λ (y : return_node.Return). y.value) c.return_of-x.ensures) (omega (arith, g.known, g.ready.fine.sound.few)) c.if-x-eq-ABSENT.true) in
+    let n = return_none_size (a_return g.ready.lawful g.known c.requires.1) (ReturnStmt.one_word (a_return g.ready.lawful g.known c.requires.1) (ap (λ (y : return_node.Return). y.value) c.return_of-x.ensures) c.in_default.is) in
+    let v = return_none_visits (a_return g.ready.lawful g.known c.requires.1) (ReturnStmt.one_word (a_return g.ready.lawful g.known c.requires.1) (ap (λ (y : return_node.Return). y.value) c.return_of-x.ensures) c.in_default.is) in
     leaf_lowers _ _ _ (ap (λ n. 8 * n) n) n v c.return_none.ensures
 
 pub return_stmt-expression-value-requires : goal.return_stmt-expression-value-requires
 return_stmt-expression-value-requires t c =
     let g = c.requires.0 in
     let x = a_return g.ready.lawful g.known c.requires.1 in
-    let two = ReturnStmt.two_words x _ (ap (λ (y : return_node.Return). y.value) c.return_of-x.ensures) c.if-x-eq-ABSENT.false in
-    rw (c.return_of-x.ensures, ReturnStmt.the_value x two) (omega (arith, (x.value two).below), ReturnStmt.value g x two)
+    let two = ReturnStmt.two_words x (ap (λ (y : return_node.Return). y.value) c.return_of-x.ensures) c.in-Some.is in
+    rw two.1 (omega (arith, (x.value two.0).below), ReturnStmt.value g x two.0)
 
 pub return_stmt-end_return-requires : goal.return_stmt-end_return-requires
 return_stmt-end_return-requires t c =
     let g = c.requires.0 in
     let x = a_return g.ready.lawful g.known c.requires.1 in
-    let two = ReturnStmt.two_words x _ (ap (λ (y : return_node.Return). y.value) c.return_of-x.ensures) c.if-x-eq-ABSENT.false in
-    ReturnStmt.at_end g x two (rw (c.return_of-x.ensures, ReturnStmt.the_value x two) at c.expression-value.ensures)
+    let two = ReturnStmt.two_words x (ap (λ (y : return_node.Return). y.value) c.return_of-x.ensures) c.in-Some.is in
+    ReturnStmt.at_end g x two.0 (rw two.1 at c.expression-value.ensures)
 
 pub return_stmt-returns : goal.return_stmt-returns
 return_stmt-returns t c =
     let g = c.requires.0 in
     let x = a_return g.ready.lawful g.known c.requires.1 in
     let e = c.return_of-x.ensures in
-    let two = ReturnStmt.two_words x _ (ap (λ (y : return_node.Return). y.value) c.return_of-x.ensures) c.if-x-eq-ABSENT.false in
-    ReturnStmt.lowers g x two (rw (e, ReturnStmt.the_value x two) at c.expression-value.ensures) (rw e at c.end_return.ensures)
+    let two = ReturnStmt.two_words x (ap (λ (y : return_node.Return). y.value) c.return_of-x.ensures) c.in-Some.is in
+    ReturnStmt.lowers g x two.0 (rw two.1 at c.expression-value.ensures) (rw e at c.end_return.ensures)
 
 -- ---- row
 
@@ -1058,12 +989,6 @@ row-statement-last-requires t c =
     let e = placed c.requires c.loop-k.invariant.low (rw c.payload_of-payload.ensures at c.child-child.ensures.0) in
     rw e (omega (arith, (Row.below c.requires c.loop-k.invariant h).below), Row.child c.requires c.loop-k.invariant h)
 
-pub row-overflow_add-k-in-loop-k : goal.row-overflow_add-k-in-loop-k
-row-overflow_add-k-in-loop-k t c = omega (arith, c.loop-k-test.true)
-
-pub row-loop-k-smaller : goal.row-loop-k-smaller
-row-loop-k-smaller t c = omega (arith, c.loop-k-test.true)
-
 pub row-loop-k-preserved : goal.row-loop-k-preserved
 row-loop-k-preserved t c = Row.turn c.requires c.loop-k.invariant c.loop-k-test.true (rw (placed c.requires c.loop-k.invariant.low (rw c.payload_of-payload.ensures at c.child-child.ensures.0)) at c.statement-last.ensures)
 
@@ -1078,9 +1003,6 @@ statement-returns-in_default t c = refused_stays _ _ c.requires.0.ready.fine c.i
 
 pub statement-tag_of-tag-requires : goal.statement-tag_of-tag-requires
 statement-tag_of-tag-requires t c = readable c.requires.0.ready c.requires.0.known
-
-pub statement-visit-requires : goal.statement-visit-requires
-statement-visit-requires t c = omega (arith, c.requires.0.ready.fine.sound.long)
 
 pub statement-expr_stmt-requires : goal.statement-expr_stmt-requires
 statement-expr_stmt-requires t c = (omega arith, (ticked_given c.requires.0 c.visit.ensures, sym c.tag_of-tag.ensures ∙ c.in-16.is))
@@ -1113,12 +1035,12 @@ pub statement-fn_stmt-requires : goal.statement-fn_stmt-requires
 statement-fn_stmt-requires t c =
     let g = c.requires.0 in
     let e = sym c.tag_of-tag.ensures ∙ c.in-28.is in
-    (omega arith, (Statement.ask_fun (ticked_given g c.visit.ensures) (a_define g.ready.lawful g.known e), e, due c.args.step.outcome g.ready.fine.nested (goes c.in-Accepted.is)))
+    (omega arith, (Statement.ask_fun (ticked_given g c.visit.ensures) (a_define g.ready.lawful g.known e), e, due c.args.step.outcome g.ready.fine.nested (goes c.in-Ok.is)))
 
 pub statement-class-requires : goal.statement-class-requires
 statement-class-requires t c =
     let g = c.requires.0 in
-    (omega arith, (ticked_given g c.visit.ensures, sym c.tag_of-tag.ensures ∙ c.in-29.is, due c.args.step.outcome g.ready.fine.nested (goes c.in-Accepted.is)))
+    (omega arith, (ticked_given g c.visit.ensures, sym c.tag_of-tag.ensures ∙ c.in-29.is, due c.args.step.outcome g.ready.fine.nested (goes c.in-Ok.is)))
 
 pub statement-jump-requires : goal.statement-jump-requires
 statement-jump-requires t c =

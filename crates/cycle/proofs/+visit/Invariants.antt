@@ -1,5 +1,5 @@
 -- What falls from call to call: the node's number; at the same node a dispatcher calls a kind of node, which calls its forms and its rows of children.
-use Prim.Native.Nat.{◌+◌, ◌-◌, ◌*◌}
+use Prim.Native.Nat.{◌+◌, ◌*◌}
 use Rattle.cycle.proofs.Members.Arguments
 use Rattle.cycle.proofs.Members.Elifs
 use Rattle.cycle.proofs.Members.Methods
@@ -85,25 +85,13 @@ abbrev pub decreases-while_loop : goal.decreases-while_loop
 decreases-while_loop l = 8 * l.node + 6
 
 abbrev pub invariant-arguments-loop-k : goal.invariant-arguments-loop-k
-invariant-arguments-loop-k l = Arguments.Moving l.tree l.initial.work l.initial.out l.scope l.initial.last l.node l.register l.work l.out l.last l.to l.k
-
-abbrev pub decreases-arguments-loop-k : goal.decreases-arguments-loop-k
-decreases-arguments-loop-k l = l.n - l.k
+invariant-arguments-loop-k l = Arguments.Moving l.tree l.initial.work l.initial.out l.scope l.initial.last l.node l.register l.work l.out l.last l.k
 
 abbrev pub invariant-elifs-loop-k : goal.invariant-elifs-loop-k
 invariant-elifs-loop-k l = Elifs.Branching l.tree l.initial.work l.initial.out l.scope l.initial.last l.node l.from l.to l.work l.out l.last l.k
 
-abbrev pub decreases-elifs-loop-k : goal.decreases-elifs-loop-k
-decreases-elifs-loop-k l = l.to - l.k
-
 abbrev pub invariant-methods-loop-k : goal.invariant-methods-loop-k
 invariant-methods-loop-k l = Methods.Methoding l.tree l.initial.work l.initial.out l.scope l.initial.last l.node l.from l.to l.mark l.op l.class l.work l.out l.last l.k
 
-abbrev pub decreases-methods-loop-k : goal.decreases-methods-loop-k
-decreases-methods-loop-k l = l.to - l.k
-
 abbrev pub invariant-row-loop-k : goal.invariant-row-loop-k
 invariant-row-loop-k l = Row.Rowing l.tree l.initial.work l.initial.out l.scope l.initial.last l.node l.from l.to l.work l.out l.last l.k
-
-abbrev pub decreases-row-loop-k : goal.decreases-row-loop-k
-decreases-row-loop-k l = l.to - l.k

@@ -1,5 +1,5 @@
 -- fn visit_if_stmt, its elifs: the loop stands before elif k; those before it are done, those from it on are pending. Each is a condition, a jump past its statements and a jump to the end.
-use Prim.Native.Nat.{ℕ, ◌*◌, ◌+◌, ◌-◌, ◌<◌, ◌≤◌}
+use Prim.Native.Nat.{ℕ, ◌*◌, ◌+◌, ◌<◌, ◌≤◌}
 use Rattle.cycle.proofs.Way.{adds, after_ticked, arrive, from, give_expr, give_row, meanwhile, next, next_leaf, small, spends, stand, twice, ◌▹◌}
 use Rattle.meaning.specs.At.{Behind, TagBelow, count_of, elifs_at as elif-row, expr_at, stmts_at, word_of}
 use Rattle.cycle.proofs.Nodes.{an_elif, behind_later, elif_stands}
@@ -122,7 +122,3 @@ module _ {t w0 : List ℕ} {p : Scope} {s0 : Step} {i f g d : ℕ} (r : AskElifs
         arrive _ _ _ (from r.ready ▹ v.turning.moves ▹ (settled s 0 (lit< tt) v.turning.moves.fine).moves) (omega arith) (omega arith) (omega arith) (λ z. omega arith) (omega (arith, v.count, elifs_visits_none (fields t) i k g h))
         v.turning.same (small (with_result s 0) (lit< tt)) λ ps z.
         closed (rw (elifs_none (fields t) i k g h) at v.turning) ps z
-
--- the count of a loop stays a number of the machine
-pub one_more : {k n b : ℕ} → k < n → n < b → k + 1 < b
-one_more h l = omega arith

@@ -15,6 +15,8 @@ use Rattle.meaning.specs.Grammar.{absent}
 use Rattle.meaning.specs.Lower.{lower_expr}
 use Rattle.meaning.specs.Weight.{size_expr, size_stmt, size_stmts}
 use Rattle.store.proofs.Around.{loop_around, loop_entered, loop_left}
+use Rattle.nodes.specs.Nodes.{unless_absent}
+use Rattle.std.specs.Prelude.{None, Some, is_none}
 use Rattle.store.proofs.Compose.{known}
 use Rattle.store.proofs.Runs.{due}
 use Rattle.store.specs.Promise.{Leaf, Space, uses}
@@ -31,6 +33,13 @@ use native.Mathlib.Omega.{arith}
 -- where the row of the initializer ends: it is word 1, or absent
 abbrev pub until : List Field → ℕ → ℕ
 until fs i = cond (absent (word_of fs i 1)) 1 2
+
+pub one_or_two : (n : ℕ) → ◌≡◌ {A = ℕ} (cond (is_none (unless_absent n)) 1 2) (cond (absent n) 1 2)
+one_or_two n = by (absent n)
+  where
+    by : (b : Bool) → ◌≡◌ {A = ℕ} (cond (is_none (cond b None (Some n))) 1 2) (cond b 1 2)
+    by true = refl
+    by false = refl
 
 module _ {fs : List Field} {i : ℕ} (x : For fs i) where
   pub initializer_is : (b : Bool) → absent (word_of fs i 1) ≡ b → init_at fs (word_of fs i 1) ≡ stmts_at fs i 1 (cond b 1 2)

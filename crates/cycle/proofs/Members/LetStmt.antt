@@ -16,6 +16,7 @@ use Rattle.meaning.specs.Read.{token, words_at}
 use Rattle.meaning.specs.State.{allocate_register, is_global_context}
 use Rattle.meaning.specs.Statements.{new_global}
 use Rattle.nodes.specs.Nodes.{word_or_absent}
+use Rattle.std.specs.Prelude.{None, Option, Some}
 use Rattle.store.proofs.Compose.{known, leaf_after}
 use Rattle.store.proofs.Runs.{due}
 use Rattle.store.specs.Promise.{Leaf, Space, Tells, a_local, nothing, uses}
@@ -27,25 +28,22 @@ use lib.Dec.{eqb}
 use mathlib.Core.Bool.{Bool, false, true}
 use mathlib.Core.List.{List}
 use mathlib.Core.Logic.{⊎_elim}
-use mathlib.Core.Path.{refl, ◌≡◌}
+use mathlib.Core.Path.{refl, sym, ◌≡◌, ◌∙◌}
 use native.Mathlib.Omega.{arith}
 
 -- the only block is open where the context is global
 pub only_block : (p : Scope) → global_scope p ≡ true → block_of p ≡ 1
 only_block p e = eqb-true (block_of p) 1 (and_right (eqb (depth_of p) 0) (eqb (block_of p) 1) e)
 
--- there are two words or three: the value is absent, or the third
-module _ {fs : List Field} {i : ℕ} (x : Let fs i) (v : ℕ) (e : v ≡ word_or_absent (words_at fs i) 2) where
-  pub two_words : i < 65535 → v ≡ 65535 → count_of fs i ≡ 2
-  two_words l h =
-      ⊎_elim (λ (a : count_of fs i < 3). omega (arith, x.size.0))
-      (λ (a : 3 ≤ count_of fs i). absurd (let y = rw (lt-ltb 2 (count_of fs i) (omega arith)) at e in omega (arith, y, (x.value (omega (arith, x.size.1))).below))) (lt_or_le (count_of fs i) 3)
+-- there are two words or three: there is no value, or it is the third
+module _ {fs : List Field} {i : ℕ} (x : Let fs i) {v : Option ℕ} (e : v ≡ word_or_absent (words_at fs i) 2) where
+  pub two_words : v ≡ None → count_of fs i ≡ 2
+  two_words h = ⊎_elim (λ (a : count_of fs i < 3). omega (arith, x.size.0)) (λ (a : 3 ≤ count_of fs i). let y = rw (lt-ltb 2 (count_of fs i) (omega arith)) at (sym h ∙ e) in cc) (lt_or_le (count_of fs i) 3)
 
-  pub three_words : (v ≡ 65535 → ⊥) → count_of fs i ≡ 3
-  three_words h = ⊎_elim (λ (a : count_of fs i < 3). absurd (h (rw (le-ltb 2 (count_of fs i) (omega arith)) at e))) (λ (a : 3 ≤ count_of fs i). omega (arith, x.size.1)) (lt_or_le (count_of fs i) 3)
-
-pub the_value : {fs : List Field} {i : ℕ} → Let fs i → count_of fs i ≡ 3 → word_or_absent (words_at fs i) 2 ≡ word_of fs i 2
-the_value {fs} {i} x three = rw (lt-ltb 2 (count_of fs i) (omega arith))
+  pub three_words : {n : ℕ} → v ≡ Some n → (count_of fs i ≡ 3) × (n ≡ word_of fs i 2)
+  three_words h =
+      ⊎_elim (λ (a : count_of fs i < 3). let y = rw (le-ltb 2 (count_of fs i) (omega arith)) at (sym h ∙ e) in (cc, cc))
+      (λ (a : 3 ≤ count_of fs i). let y = rw (lt-ltb 2 (count_of fs i) (omega arith)) at (sym h ∙ e) in (omega (arith, x.size.1), cc)) (lt_or_le (count_of fs i) 3)
 
 module _ {t w : List ℕ} {p : Scope} {s : Step} {i : ℕ} (g : GivenStmt t w p s i) (x : Let (fields t) i) (three : count_of (fields t) i ≡ 3) where
   -- the value of a local comes first

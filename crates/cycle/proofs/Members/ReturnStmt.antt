@@ -24,7 +24,8 @@ use lib.Dec.{eqb}
 use mathlib.Core.Bool.{Bool, false, true}
 use mathlib.Core.List.{List}
 use mathlib.Core.Logic.{⊎_elim}
-use mathlib.Core.Path.{ap, sym, ◌≡◌}
+use mathlib.Core.Path.{ap, sym, ◌≡◌, ◌∙◌}
+use Rattle.std.specs.Prelude.{None, Option, Some}
 use native.Mathlib.Omega.{arith}
 
 -- the result of an end is register 0
@@ -36,18 +37,15 @@ end_zero node mark c d e = by (eqb c.result 254) e
     by true e = let z : ◌≡◌ {A = ℕ} 0 1 = cc in absurd (omega arith)
     by false e = let z : put 0 (inst Return c.result (c.result + 2) 0 mark) c ≡ d = cc in sym (ap (λ (y : Config). y.result) z)
 
--- there is one word or there are two: the value is absent, or the second
-module _ {fs : List Field} {i : ℕ} (x : ReturnNode fs i) (v : ℕ) (e : v ≡ word_or_absent (words_at fs i) 1) where
-  pub one_word : i < 65535 → v ≡ 65535 → count_of fs i ≡ 1
-  one_word l h =
-      ⊎_elim (λ (a : count_of fs i < 2). omega (arith, x.size.0))
-      (λ (a : 2 ≤ count_of fs i). absurd (let y = rw (lt-ltb 1 (count_of fs i) (omega arith)) at e in omega (arith, y, (x.value (omega (arith, x.size.1))).below))) (lt_or_le (count_of fs i) 2)
+-- there is one word or there are two: there is no value, or it is the second
+module _ {fs : List Field} {i : ℕ} (x : ReturnNode fs i) {v : Option ℕ} (e : v ≡ word_or_absent (words_at fs i) 1) where
+  pub one_word : v ≡ None → count_of fs i ≡ 1
+  one_word h = ⊎_elim (λ (a : count_of fs i < 2). omega (arith, x.size.0)) (λ (a : 2 ≤ count_of fs i). let y = rw (lt-ltb 1 (count_of fs i) (omega arith)) at (sym h ∙ e) in cc) (lt_or_le (count_of fs i) 2)
 
-  pub two_words : (v ≡ 65535 → ⊥) → count_of fs i ≡ 2
-  two_words h = ⊎_elim (λ (a : count_of fs i < 2). absurd (h (rw (le-ltb 1 (count_of fs i) (omega arith)) at e))) (λ (a : 2 ≤ count_of fs i). omega (arith, x.size.1)) (lt_or_le (count_of fs i) 2)
-
-pub the_value : {fs : List Field} {i : ℕ} → ReturnNode fs i → count_of fs i ≡ 2 → word_or_absent (words_at fs i) 1 ≡ word_of fs i 1
-the_value {fs} {i} x two = rw (lt-ltb 1 (count_of fs i) (omega arith))
+  pub two_words : {n : ℕ} → v ≡ Some n → (count_of fs i ≡ 2) × (n ≡ word_of fs i 1)
+  two_words h =
+      ⊎_elim (λ (a : count_of fs i < 2). let y = rw (le-ltb 1 (count_of fs i) (omega arith)) at (sym h ∙ e) in (cc, cc))
+      (λ (a : 2 ≤ count_of fs i). let y = rw (lt-ltb 1 (count_of fs i) (omega arith)) at (sym h ∙ e) in (omega (arith, x.size.1), cc)) (lt_or_le (count_of fs i) 2)
 
 module _ {t w : List ℕ} {p : Scope} {s : Step} {i : ℕ} (g : GivenStmt t w p s i) (x : ReturnNode (fields t) i) (two : count_of (fields t) i ≡ 2) where
   pub value : AskExpr t w p s (word_of (fields t) i 1)

@@ -15,7 +15,7 @@ use Rattle.image.proofs.put_captures.Goals as goal
 
 pub loop-i-init : goal.loop-i-init
 loop-i-init c = let a = c.args in
-    (omega arith, spliced_as (sym (ap capture_bytes (tab_none (capture_at a.work.now a.j)))) (spliced_none a.out.now a.at (omega (arith, c.requires.3))))
+    spliced_as (sym (ap capture_bytes (tab_none (capture_at a.work.now a.j)))) (spliced_none a.out.now a.at (omega (arith, c.requires.3)))
 
 pub loop-i-preserved : goal.loop-i-preserved
 loop-i-preserved c = let a = c.args in
@@ -23,4 +23,4 @@ loop-i-preserved c = let a = c.args in
     let i : ℕ = c.loop-i.i in
     let one : captured c.capture_of-capture.result ≡ f i = c.capture_of-capture.ensures ∙ ap capture_of c.capture_word.ensures in
     let put = spliced_as (ap (λ k. capture_bytes (k ∷ [])) one) c.put_capture.ensures in
-    (omega (arith, c.loop-i-test.true), spliced_as (sym (captures_more f i)) (spliced_then c.loop-i.invariant.1 put (omega (arith, captures_size (tab f i), tab_length f i))))
+    spliced_as (sym (captures_more f i)) (spliced_then c.loop-i.invariant put (omega (arith, captures_size (tab f i), tab_length f i)))

@@ -17,7 +17,7 @@ use Rattle.image.proofs.put_code.Goals as goal
 pub loop-i-init : goal.loop-i-init
 loop-i-init c = let a = c.args in
     let none = ap (inst_bytes a.tag) (tab_none (λ k. inst_at a.work.now (top_of a.scope) (a.first + k))) in
-    (omega arith, omega (arith, zero-mul (3 + inst_size a.tag)), spliced_as (sym none) (spliced_none a.out.now a.from (omega (arith, c.requires.3))))
+    (omega (arith, zero-mul (3 + inst_size a.tag)), spliced_as (sym none) (spliced_none a.out.now a.from (omega (arith, c.requires.1))))
 
 pub loop-i-preserved : goal.loop-i-preserved
 loop-i-preserved c = let a = c.args in
@@ -26,4 +26,4 @@ loop-i-preserved c = let a = c.args in
     let v = c.loop-i.invariant in
     let span = c.span-size in
     let put = spliced_as (ap (λ x. inst_bytes a.tag (x ∷ [])) c.inst_at-x.ensures) c.put_inst.ensures in
-    (omega (arith, c.loop-i-test.true), omega (arith, v.1, span.ensures.0, one_more i (3 + inst_size a.tag)), spliced_as (sym (insts_more a.tag f i)) (spliced_then v.2 put (omega (arith, v.1, insts_long a.tag f i))))
+    (omega (arith, v.0, span.ensures.0, one_more i (3 + inst_size a.tag)), spliced_as (sym (insts_more a.tag f i)) (spliced_then v.1 put (omega (arith, v.0, insts_long a.tag f i))))

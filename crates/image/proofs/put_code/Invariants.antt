@@ -1,6 +1,6 @@
 -- `image::put_code` meets its contract: instruction by instruction. Assumes nothing.
 use mathlib.Core.Path.{◌≡◌}
-use Prim.Native.Nat.{◌+◌, ◌*◌, ◌-◌, ◌≤◌}
+use Prim.Native.Nat.{◌+◌, ◌*◌}
 use Rattle.store.specs.Table.{tab}
 use Rattle.store.specs.Layout.{inst_at}
 use Rattle.store.specs.Store.{top_of}
@@ -10,7 +10,4 @@ use Rattle.writers.specs.Spliced.{Spliced}
 use Rattle.image.proofs.put_code.Given as goal
 
 abbrev pub invariant-loop-i : goal.invariant-loop-i
-invariant-loop-i l = (l.i ≤ l.count) × (l.at ≡ l.from + l.i * (3 + inst_size l.tag)) × Spliced l.initial.out l.from (inst_bytes l.tag (tab (λ k. inst_at l.work (top_of l.scope) (l.first + k)) l.i)) l.out
-
-abbrev pub decreases-loop-i : goal.decreases-loop-i
-decreases-loop-i l = l.count - l.i
+invariant-loop-i l = (l.at ≡ l.from + l.i * (3 + inst_size l.tag)) × Spliced l.initial.out l.from (inst_bytes l.tag (tab (λ k. inst_at l.work (top_of l.scope) (l.first + k)) l.i)) l.out

@@ -1,11 +1,9 @@
 -- An image that is accepted is in order, at its own tag.
-use borrow.Author.Rules.{rules}
-use mathlib.Core.Path.{◌≡◌, sym, ap, ◌∙◌}
+use mathlib.Core.Path.{sym, ap, ◌∙◌}
 use Prim.Native.Nat.{ℕ}
-use native.Mathlib.Omega.{arith}
 use Rattle.reader.proofs.Answered.{outcome_of, accepted_ordered}
 use Rattle.list_main.proofs.answered.Goals as goal
 
 pub listed-requires : goal.listed-requires
 listed-requires c = let t = c.image_tag.ensures in
-    (accepted_ordered _ _ _ (ap (λ (tag : ℕ). outcome_of tag c.args.image.now) t.0 ∙ sym c.read-outcome.ensures ∙ c.in-Accepted.is) t.1, omega arith)
+    accepted_ordered _ _ _ (ap (λ (tag : ℕ). outcome_of tag c.args.image.now) t.0 ∙ sym c.read-outcome.ensures ∙ c.in-Ok.is) t.1

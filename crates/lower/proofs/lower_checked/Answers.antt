@@ -5,7 +5,7 @@ use Prim.Native.Nat.{ℕ}
 use native.Mathlib.Omega.{arith}
 use lib.ListN.{length}
 use Rattle.meaning.specs.Check.{checked}
-use Rattle.meaning.specs.declared.Outcome.TheVariants.{Accepted}
+use Rattle.std.specs.Prelude.{Ok}
 use Rattle.meaning.proofs.Accepted.{accepted}
 use Rattle.nodes.specs.Offsets.{Offsets}
 use Rattle.store.specs.Opening.{Begun}
@@ -15,7 +15,7 @@ use Rattle.lower.proofs.Whole.{whole}
 use Rattle.lower.proofs.lower_checked.Goals as goal
 
 -- the store is begun, beside the offsets
-ready : (mode : ℕ) {n : ℕ} {t w w' : List ℕ} → (checked mode t (length w) ≡ Accepted n) × Offsets t w → Begun w n w' → Opened t n w'
+ready : (mode : ℕ) {n : ℕ} {t w w' : List ℕ} → (checked mode t (length w) ≡ Ok n) × Offsets t w → Begun w n w' → Opened t n w'
 ready mode {n} {t} {w} given begun = opened mode t (length w) n given.0 refl given.1 begun
 
 pub begin-first-requires : goal.begin-first-requires
@@ -33,13 +33,13 @@ count_of-count-requires c = let a = c.args in
     program_counted a.mode a.tree.now (length a.work.now) a.n c.requires.0 (ready a.mode c.requires c.begin-first.ensures.1)
 
 pub row-rowed-requires : goal.row-rowed-requires
-row-rowed-requires c = let main_scope = c.main_scope-main in
+row-rowed-requires c = let main_scope = c.main-main in
     let count_of = c.count_of-count in
     let a = c.args in
     rw (main_scope.ensures, c.begin-first.ensures.0, count_of.ensures.0) (row_asked a.mode a.tree.now (length a.work.now) a.n c.requires.0 (ready a.mode c.requires c.begin-first.ensures.1) c.width_of-wide.ensures)
 
 pub returns : goal.returns
-returns c = let main_scope = c.main_scope-main in
+returns c = let main_scope = c.main-main in
     let count_of = c.count_of-count in
     let row = c.row-rowed in
     let end_program = c.end_program-ended in

@@ -1,26 +1,24 @@
 -- The last node's tag, which is what `wide_marks` asks.
-use mathlib.Core.Path.{◌≡◌, sym, ap, ◌∙◌}
+use mathlib.Core.Path.{◌≡◌, refl, ◌∙◌}
+use mathlib.Core.Bool.{Bool, true, false}
 use Prim.Native.Nat.{ℕ, ◌-◌}
 use mathlib.Core.List.{List}
 use lib.ListN.{length}
-use borrow.Author.Tests.{eq-eqb, ne_eqb}
+use lib.Dec.{eqb}
+use Rattle.std.specs.Int.{from_bool}
 use Rattle.meaning.specs.Fields.{Field, fields}
 use Rattle.meaning.specs.Grammar.{wide_marks}
 use Rattle.meaning.specs.At.{extra, tag_of}
 use Rattle.lower.proofs.width_of.Goals as goal
 
-wide : (fs : List Field) (n : ℕ) → n ≡ length fs → tag_of fs (n - 1) ≡ 0x3E → 1 ≡ extra (wide_marks fs)
-unfolding wide_marks
-wide fs n e h = sym (ap extra (eq-eqb _ _ (rw e at h)))
+counted : (b : Bool) → from_bool b ≡ extra b
+counted true = refl
+counted false = refl
 
-narrow : (fs : List Field) (n : ℕ) → n ≡ length fs → (tag_of fs (n - 1) ≡ 0x3E → ⊥) → 0 ≡ extra (wide_marks fs)
+wide : (fs : List Field) (n tag : ℕ) → n ≡ length fs → tag ≡ tag_of fs (n - 1) → from_bool (eqb tag 0x3E) ≡ extra (wide_marks fs)
 unfolding wide_marks
-narrow fs n e h = sym (ap extra (ne_eqb _ _ (rw e at h)))
-
-pub returns-then-tag_of-eq62 : goal.returns-then-tag_of-eq62
-returns-then-tag_of-eq62 c = let a = c.args in
-    wide (fields a.tree.now) a.n c.requires.1 (sym c.tag_of.ensures ∙ c.if-tag_of-eq62.true)
+wide fs n tag e h = rw (h, e) (counted _)
 
 pub returns : goal.returns
 returns c = let a = c.args in
-    narrow (fields a.tree.now) a.n c.requires.1 (λ q. c.if-tag_of-eq62.false (c.tag_of.ensures ∙ q))
+    c.from.ensures ∙ wide (fields a.tree.now) a.n c.tag_of.result c.requires.1 c.tag_of.ensures

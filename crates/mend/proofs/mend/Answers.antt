@@ -1,29 +1,30 @@
 -- All is zero first; then, where the image is accepted, the copy and the list are written (Finished).
-use mathlib.Core.Path.{◌≡◌, ap₂, ◌∙◌, subst}
-use mathlib.Core.List.{List}
-use Prim.Native.Nat.{ℕ}
+use mathlib.Core.Path.{◌≡◌, ap, ap₂, ◌∙◌, subst}
+use mathlib.Core.List.{List, ◌++◌}
+use Prim.Native.Nat.{ℕ, ◌≤◌}
 use native.Mathlib.Omega.{arith}
-use lib.ListN.{length}
+use lib.ListN.{length, take, drop}
+use lib.Seq.{length-take-le}
 use Rattle.meaning.specs.Reader.{image_tag}
 use Rattle.meaning.specs.Mend.{mend_as, mend_answer, mend_output, mend_list}
 use Rattle.meaning.specs.declared.MendAnswer.{MendAnswer}
-use Rattle.meaning.specs.declared.Outcome.{Outcome}
+use Rattle.meaning.specs.Outcome.{Outcome}
 use Rattle.meaning.proofs.Images.Fielded.{bytes_by}
 use Rattle.mend.specs.Course.{mend_outcome}
 use Rattle.mend.proofs.Finished.{copied_front, Done, done, answer_done, output_done, list_done, answer_stopped, output_stopped, list_stopped}
 use Rattle.mend.proofs.mend.Goals as goal
-use Rattle.mend.proofs.mend.Goals.{After-copy-arg-1}
+use Rattle.mend.proofs.mend.Goals.{In-Ok}
 
 -- what `judge` tells: the lengths are those lent
 told : (tag : ℕ) (t : List ℕ) (room list r l : ℕ) (o : Outcome) → r ≡ room → l ≡ list → o ≡ mend_outcome (mend_as tag t r l) → o ≡ mend_outcome (mend_as tag t room list)
 told tag t room list r l o p q e = e ∙ ap₂ (λ (x y : ℕ). mend_outcome (mend_as tag t x y)) p q
 
 -- where it is accepted
-D : (c : goal.After-copy-arg-1) → Done c.image_tag-tag.result c.args.image.now (length c.args.out.now) (length c.args.list.now) c.in-Accepted.entries
+D : (c : goal.In-Ok) → Done c.image_tag-tag.result c.args.image.now (length c.args.out.now) (length c.args.list.now) c.in-Ok.entries
 D c =
     let t = c.args.image.now in
     done c.image_tag-tag.result c.image_tag-tag.ensures.1 t (bytes_by t (λ i. omega (arith, c.type_inv.image i))) _ _ _ c.judge-judged.result
-    (told _ _ _ _ _ _ _ c.clear.auto.s c.clear-2.auto.s c.judge-judged.ensures) c.in-Accepted.is
+    (told _ _ _ _ _ _ _ c.fill.ensures.len c.fill-2.ensures.len c.judge-judged.ensures) c.in-Ok.is
 
 -- what the call answers and leaves, of what is mended at a tag; at the tag that was found it is that at the image's own
 abbrev Leaves : (tag : ℕ) → List ℕ → (room list : ℕ) → MendAnswer → (o l : List ℕ) → Type 0
@@ -32,27 +33,43 @@ Leaves tag t room list r o l = let m = mend_as tag t room list in (r ≡ mend_an
 own : (tag : ℕ) (t : List ℕ) (room list : ℕ) (r : MendAnswer) (o l : List ℕ) → tag ≡ image_tag t → Leaves tag t room list r o l → Leaves (image_tag t) t room list r o l
 own tag t room list r o l e = subst (λ (k : ℕ). Leaves k t room list r o l) e
 
-pub copy-requires : goal.copy-requires
-copy-requires c = omega (arith, (D (goal.at.copy-requires c).After-copy-arg-1).fits, c.clear.auto.s)
+long : (c : goal.In-Ok) → length c.args.image.now ≤ length c.fill.new.self
+long c = omega (arith, (D c).fits, c.fill.ensures.len)
+
+front : (c : goal.In-Ok) → length (take (length c.args.image.now) c.fill.new.self) ≡ length c.args.image.now
+front c = length-take-le _ c.fill.new.self (long c)
+
+-- the image, and behind it what was there
+copied : (image front out : List ℕ) → front ≡ image → front ++ drop (length image) out ≡ image ++ drop (length image) out
+copied image front out e = ap (λ (l : List ℕ). l ++ drop (length image) out) e
+
+pub slice_bounds-copy_from_slice-end : goal.slice_bounds-copy_from_slice-end
+slice_bounds-copy_from_slice-end c = omega (arith, long (goal.at.slice_bounds-copy_from_slice-end c).In-Ok)
+
+pub slice_bounds-copy_from_slice-end-in-Ok : goal.slice_bounds-copy_from_slice-end-in-Ok
+slice_bounds-copy_from_slice-end-in-Ok c = omega (arith, front (goal.at.slice_bounds-copy_from_slice-end-in-Ok c).In-Ok)
+
+pub copy_from_slice-requires : goal.copy_from_slice-requires
+copy_from_slice-requires c = front (goal.at.copy_from_slice-requires c).In-Ok
 
 pub put_all-requires : goal.put_all-requires
-put_all-requires c = let d = D (goal.at.put_all-requires c).After-copy-arg-1 in
-    (d.order, d.frame, copied_front c.args.image.now c.clear.new.s _ c.copy.ensures, omega (arith, d.list_fits, c.clear-2.auto.s))
+put_all-requires c = let d = D (goal.at.put_all-requires c).In-Ok in
+    (d.order, d.frame, copied_front c.args.image.now c.fill.new.self _ (copied _ _ _ c.copy_from_slice.ensures.after), omega (arith, d.list_fits, c.fill-2.ensures.len))
 
-pub returns-in-Accepted : goal.returns-in-Accepted
-returns-in-Accepted c = let d = D (goal.at.returns-in-Accepted c).After-copy-arg-1 in
+pub returns-in-Ok : goal.returns-in-Ok
+returns-in-Ok c = let d = D (goal.at.returns-in-Ok c).In-Ok in
     let a = own c.image_tag-tag.result c.args.image.now (length c.args.out.now) (length c.args.list.now) _ _ _ c.image_tag-tag.ensures.0 (
       answer_done _ _ _ _ _ d,
-      (output_done _ _ _ _ _ d _ _ _ c.clear.ensures c.copy.ensures c.put_all.ensures.0, list_done _ _ _ _ _ d _ _ c.clear-2.ensures c.put_all.ensures.1),
+      (output_done _ _ _ _ _ d _ _ _ (c.fill.ensures.after (λ y e. e)) (copied _ _ _ c.copy_from_slice.ensures.after) c.put_all.ensures.0, list_done _ _ _ _ _ d _ _ (c.fill-2.ensures.after (λ y e. e)) c.put_all.ensures.1),
     ) in
     record { answered = a.0; written = a.1.0; listed = a.1.1 }
 
-pub returns-in-Refused : goal.returns-in-Refused
-returns-in-Refused c = let m = mend_as c.image_tag-tag.result c.args.image.now (length c.args.out.now) (length c.args.list.now) in
-    let t = told _ _ _ _ _ _ _ c.clear.auto.s c.clear-2.auto.s c.judge-judged.ensures in
-    let r = c.in-Refused.is in
+pub returns-in-Err : goal.returns-in-Err
+returns-in-Err c = let m = mend_as c.image_tag-tag.result c.args.image.now (length c.args.out.now) (length c.args.list.now) in
+    let t = told _ _ _ _ _ _ _ c.fill.ensures.len c.fill-2.ensures.len c.judge-judged.ensures in
+    let r = c.in-Err.is in
     let a = own c.image_tag-tag.result c.args.image.now (length c.args.out.now) (length c.args.list.now) _ _ _ c.image_tag-tag.ensures.0 (
       answer_stopped m _ t _ _ r _ c.cause_number.ensures,
-      (output_stopped m _ t _ _ r _ _ c.clear.ensures, list_stopped m _ t _ _ r _ _ c.clear-2.ensures),
+      (output_stopped m _ t _ _ r _ _ (c.fill.ensures.after (λ y e. e)), list_stopped m _ t _ _ r _ _ (c.fill-2.ensures.after (λ y e. e))),
     ) in
     record { answered = a.0; written = a.1.0; listed = a.1.1 }

@@ -1,4 +1,3 @@
-use borrow.Author.Rules.{rules}
 use Rattle.mend_main.proofs.Fits.{fits}
 use Rattle.mend_main.proofs.mended.Goals as goal
 

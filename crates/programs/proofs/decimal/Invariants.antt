@@ -1,15 +1,8 @@
--- The digits read so far make the value; the rest of the word goes on from it. The value fits because it was compared.
-use borrow.Author.Rules.{rules}
-use native.Mathlib.Omega.{arith}
-use Prim.Native.Nat.{◌-◌, ◌≤◌}
+-- The digits read so far make the value; the rest of the word goes on from it.
 use mathlib.Core.Path.{◌≡◌}
-use lib.ListN.{length, drop}
+use lib.ListN.{drop}
 use Rattle.programs.specs.Words.{spelled, spelled_on}
-use Rattle.programs.proofs.Spelling.{of_none, of_some, of_all, below, above, too_large, one_more}
 use Rattle.programs.proofs.decimal.Given as goal
 
-abbrev pub invariant-loop-i : goal.invariant-loop-i
-invariant-loop-i l = spelled l.word ≡ spelled_on l.value (drop l.i l.word)
-
-abbrev pub decreases-loop-i : goal.decreases-loop-i
-decreases-loop-i l = length l.word - l.i
+abbrev pub invariant-loop-digit : goal.invariant-loop-digit
+invariant-loop-digit l = spelled l.word ≡ spelled_on l.value (drop l.digit-index l.word)

@@ -7,19 +7,19 @@ use Rattle.reader.proofs.read_as.Goals as goal
 use Rattle.reader.proofs.read_as.Goals.{Else-framed}
 
 framed_is : (c : goal.Else-framed) → framed c.args.image.now ≡ true
-framed_is c = let f = c.order-framed in frame_whole _ _ _ f.ensures.0 f.ensures.1 c.if-framed.false
+framed_is c = let f = c.order-walked in frame_whole _ _ _ f.ensures.0 f.ensures.1 c.if-framed.false
 
 pub returns-then-framed : goal.returns-then-framed
-returns-then-framed c = let x = c.args in frame_fails _ _ _ c.order-framed.ensures.0 c.order-framed.ensures.1 c.if-framed.true x.mend x.tag
+returns-then-framed c = let x = c.args in frame_fails _ _ _ c.order-walked.ensures.0 c.order-walked.ensures.1 c.if-framed.true x.mend x.tag
 
 pub read_facts-requires : goal.read_facts-requires
 read_facts-requires c = record {
   width = c.requires;
-  order = order_holds _ _ _ c.order-framed.ensures.2 c.in-Nowhere.is;
+  order = order_holds _ _ _ c.order-walked.ensures.2 c.in-None.is;
 }
 
-pub returns-in-Nowhere : goal.returns-in-Nowhere
-returns-in-Nowhere c = c.read_facts.ensures ∙ facts_tell _ _ (framed_is (goal.at.returns-in-Nowhere c).Else-framed) _ _ c.order-framed.ensures.2 _ c.order-framed.ensures.0 c.in-Nowhere.is
+pub returns-in-None : goal.returns-in-None
+returns-in-None c = c.read_facts.ensures ∙ facts_tell _ _ (framed_is (goal.at.returns-in-None c).Else-framed) _ _ c.order-walked.ensures.2 _ c.order-walked.ensures.0 c.in-None.is
 
-pub returns-in-At : goal.returns-in-At
-returns-in-At c = order_fails _ _ (framed_is (goal.at.returns-in-At c).Else-framed) _ _ c.order-framed.ensures.2 _ c.in-At.is
+pub returns-in-Some : goal.returns-in-Some
+returns-in-Some c = order_fails _ _ (framed_is (goal.at.returns-in-Some c).Else-framed) _ _ c.order-walked.ensures.2 _ c.in-Some.is

@@ -3,5 +3,5 @@ use native.Mathlib.Omega.{arith}
 use Rattle.tree.proofs.Answers.{room_enough}
 use Rattle.tree.proofs.check_alone.Goals as goal
 
-pub check_with-requires : goal.check_with-requires
-check_with-requires c = room_enough _ 4096 (omega (arith, c.if-tree-le4096.true))
+pub check_own-requires : goal.check_own-requires
+check_own-requires c = record { room = room_enough _ 4096 (omega (arith, c.if-tree-le4096.true)); size = omega arith }

@@ -3,7 +3,7 @@ use native.Mathlib.Omega.{arith}
 use Rattle.tree.proofs.check_with.Goals as goal
 
 pub walk-walked-requires : goal.walk-walked-requires
-walk-walked-requires c = let e = c.few-limit.ensures in record { judged = omega (arith, e); noted = omega arith; room = omega (arith, e) }
+walk-walked-requires c = let e = c.min-limit.ensures in record { judged = omega (arith, e); noted = omega arith; room = omega (arith, e) }
 
 pub judged-requires : goal.judged-requires
-judged-requires c = c.walk-walked.ensures.found (omega (arith, c.walk-walked.ensures.count, c.few-limit.ensures, c.requires))
+judged-requires c = c.walk-walked.ensures.found (omega (arith, c.walk-walked.ensures.count, c.min-limit.ensures, c.requires))

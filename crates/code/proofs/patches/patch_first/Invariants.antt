@@ -1,12 +1,8 @@
 -- `code::patches::patch_first` meets its contract: no jump to the end is passed over, and the first one is set. Assumes nothing.
 use mathlib.Core.Path.{◌≡◌}
-use Prim.Native.Nat.{◌≤◌, ◌-◌}
 use Rattle.store.specs.Store.{top_of}
 use Rattle.code.proofs.Scans.{None}
 use Rattle.code.proofs.patches.patch_first.Given as goal
 
 abbrev pub invariant-loop-i : goal.invariant-loop-i
-invariant-loop-i l = (l.first ≤ l.i) × (l.i ≤ l.end) × (l.work ≡ l.initial.work) × None l.initial.work (top_of l.scope) l.first l.offset l.i
-
-abbrev pub decreases-loop-i : goal.decreases-loop-i
-decreases-loop-i l = l.end - l.i
+invariant-loop-i l = (l.work ≡ l.initial.work) × None l.initial.work (top_of l.scope) l.first l.offset l.i

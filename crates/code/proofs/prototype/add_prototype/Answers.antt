@@ -9,12 +9,12 @@ returns-in_default c = let a = c.args in
 
 pub returns-then-count-gt32766 : goal.returns-then-count-gt32766
 returns-then-count-gt32766 c = let a = c.args in
-    let on = c.in-Accepted.is in
+    let on = c.in-Ok.is in
     rw c.refuse.ensures (adds_long a.first a.node a.params c.requires.0 on (met on c.requires.1) c.if-count-gt32766.true)
 
 pub returns-then-step-eq256 : goal.returns-then-step-eq256
 returns-then-step-eq256 c = let a = c.args in
-    let on = c.in-Accepted.is in
+    let on = c.in-Ok.is in
     rw c.refuse-then-step-eq256.ensures (adds_many a.first a.node a.params c.requires.0 on (met on c.requires.1) c.if-count-gt32766.false c.if-step-eq256.true)
 
 pub returns : goal.returns
@@ -22,5 +22,5 @@ returns c = let if1 = c.if-count-gt32766 in
     let if2 = c.if-step-eq256 in
     let tag = c.code_tag in
     let a = c.args in
-    let on = c.in-Accepted.is in
+    let on = c.in-Ok.is in
     rw c.prototype_more.ensures (adds_done a.first a.node a.params c.requires.0 on (met on c.requires.1) if1.false if2.false tag.ensures c.place_prototype-end.ensures)

@@ -1,9 +1,9 @@
 -- Constant by constant: those passed stand one after the other.
 use mathlib.Core.Path.{◌≡◌, sym, ap}
 use mathlib.Core.List.{List, [], ◌∷◌}
-use Prim.Native.Nat.{ℕ, ◌+◌, ◌*◌, ◌-◌, ◌<◌, ◌≤◌}
+use Prim.Native.Nat.{ℕ, ◌+◌, ◌-◌, ◌<◌, ◌≤◌}
 use native.Mathlib.Omega.{arith}
-use lib.ListN.{length, get_or}
+use lib.ListN.{length}
 use Rattle.store.specs.Table.{tab}
 use Rattle.store.specs.Layout.{constant_at}
 use Rattle.store.proofs.Tables.{tab_none}
@@ -21,18 +21,19 @@ fits w o from i count h l =
 pub loop-i-init : goal.loop-i-init
 loop-i-init c = let a = c.args in
     let e = ap constant_bytes (tab_none (constant_at a.work.now)) in
-    (omega arith, omega (arith, ap length e), spliced_as (sym e) (spliced_none a.out.now a.from (omega (arith, c.requires.2))))
+    (omega (arith, ap length e), spliced_as (sym e) (spliced_none a.out.now a.from (omega (arith, c.requires.2))))
 
 pub put_constant-requires : goal.put_constant-requires
 put_constant-requires c = let a = c.args in
     let v = c.loop-i.invariant in
-    let e = ap (λ k. length (constant_bytes (k ∷ []))) c.constant_by-constant.ensures in
-    omega (arith, v.1, e, fits a.work.now a.out.now a.from c.loop-i.i a.count c.loop-i-test.true c.requires.2, spliced_length v.2)
+    let e = ap (λ k. length (constant_bytes (k ∷ []))) c.constant_at-constant.ensures in
+    omega (arith, v.0, e, fits a.work.now a.out.now a.from c.loop-i.i a.count c.loop-i-test.true c.requires.2, spliced_length v.1)
 
 pub loop-i-preserved : goal.loop-i-preserved
 loop-i-preserved c = let w = c.args.work.now in
     let i : ℕ = c.loop-i.i in
     let v = c.loop-i.invariant in
     let f = constant_at w in
-    let put = spliced_as (ap (λ k. constant_bytes (k ∷ [])) c.constant_by-constant.ensures) c.put_constant.ensures in
-    (omega (arith, c.loop-i-test.true), omega (arith, v.1, more_length f i, c.size_of-at.ensures.0 (get_or w (3 * i + 1) 0) (get_or w (3 * i + 2) 0)), spliced_as (sym (constants_more f i)) (spliced_then v.2 put v.1))
+    let put = spliced_as (ap (λ k. constant_bytes (k ∷ [])) c.constant_at-constant.ensures) c.put_constant.ensures in
+    let size = ap (λ k. length (constant_bytes (k ∷ []))) c.constant_at-constant.ensures in
+    (omega (arith, v.0, more_length f i, c.size-at.ensures.0, size), spliced_as (sym (constants_more f i)) (spliced_then v.1 put v.0))

@@ -1,16 +1,21 @@
 -- `nodes::expressions::variable_of` meets its contract, word by word.
+use mathlib.Core.Path.{◌∙◌}
 use native.Mathlib.Omega.{arith}
 use lib.Dec.{lit≤}
 use Rattle.meaning.specs.Fields.{fields}
-use Rattle.nodes.proofs.Held.{Held, Rest, token_held, variable_held}
+use Rattle.meaning.specs.Grammar.{wide_marks}
+use Rattle.nodes.proofs.Held.{few_wide, Held, Rest, token_held, variable_held}
 use Rattle.nodes.proofs.expressions.variable_of.Goals as goal
-use Rattle.nodes.proofs.expressions.variable_of.Goals.{After-payload_of-payload}
+use Rattle.nodes.proofs.expressions.variable_of.Goals.{After-of-words}
 
-holds : (c : goal.After-payload_of-payload) → Held (fields c.args.tree.now) c.args.node c.payload_of-payload.result.now c.args.wide 1 2 × Rest (fields c.args.tree.now) c.args.node c.payload_of-payload.result.now c.args.wide 2
-holds c = variable_held c.requires.0 c.payload_of-payload.ensures c.requires.1 c.requires.2
+holds : (c : goal.After-of-words) → Held (fields c.args.tree.now) c.args.node c.of-words.result.payload.now c.of-words.result.wide 1 2 × Rest (fields c.args.tree.now) c.args.node c.of-words.result.payload.now c.of-words.result.wide 2
+holds c = variable_held c.requires.0 c.of-words.ensures.0 (c.of-words.ensures.1 ∙ c.requires.1) c.requires.2
+
+pub of-words-requires : goal.of-words-requires
+of-words-requires c = (c.requires.0.readable, few_wide (wide_marks (fields c.args.tree.now)) c.requires.1)
 
 pub token-requires : goal.token-requires
-token-requires c = omega (arith, (holds c).0.many)
+token-requires c = omega (arith, (holds (goal.at.token-requires c).After-of-words).0.many)
 
 pub returns : goal.returns
-returns c = token_held 0 (lit≤ tt) (holds (goal.at.returns c).After-payload_of-payload).0 c.token.ensures.0
+returns c = token_held 0 (lit≤ tt) (holds (goal.at.returns c).After-of-words).0 c.token.ensures.0

@@ -1,52 +1,41 @@
 -- `nodes::statements::for_of` meets its contract, word by word.
-use mathlib.Core.Path.{refl, ◌∙◌}
+use mathlib.Core.Path.{refl, ap, ◌∙◌}
 use native.Mathlib.Omega.{arith}
 use lib.Dec.{lit<, lit≤}
 use Prim.Native.Nat.{◌≤◌}
 use Rattle.meaning.specs.Fields.{fields}
 use Rattle.meaning.specs.Grammar.{wide_marks}
+use Rattle.nodes.specs.Nodes.{unless_absent}
 use Rattle.nodes.proofs.Held.{Held, Rest, few_wide, for_held}
 use Rattle.nodes.proofs.statements.for_of.Goals as goal
-use Rattle.nodes.proofs.statements.for_of.Goals.{After-payload_of-payload}
+use Rattle.nodes.proofs.statements.for_of.Goals.{After-of-words}
 
-holds : (c : goal.After-payload_of-payload) → Held (fields c.args.tree.now) c.args.node c.payload_of-payload.result.now c.args.wide 0 5 × Rest (fields c.args.tree.now) c.args.node c.payload_of-payload.result.now c.args.wide 1
-holds c = for_held c.requires.0 c.payload_of-payload.ensures c.requires.1 c.requires.2
+holds : (c : goal.After-of-words) → Held (fields c.args.tree.now) c.args.node c.of-words.result.payload.now c.of-words.result.wide 0 5 × Rest (fields c.args.tree.now) c.args.node c.of-words.result.payload.now c.of-words.result.wide 1
+holds c = for_held c.requires.0 c.of-words.ensures.0 (c.of-words.ensures.1 ∙ c.requires.1) c.requires.2
 
-narrow : (c : goal.After-payload_of-payload) → c.args.wide ≤ 1
-narrow c = few_wide (wide_marks (fields c.args.tree.now)) c.requires.1
+pub of-words-requires : goal.of-words-requires
+of-words-requires c = (c.requires.0.readable, few_wide (wide_marks (fields c.args.tree.now)) c.requires.1)
 
 pub mark-requires : goal.mark-requires
-mark-requires c = omega (arith, (holds c).0.many)
+mark-requires c = omega (arith, (holds (goal.at.mark-requires c).After-of-words).0.many)
 
-pub overflow_add-wide : goal.overflow_add-wide
-overflow_add-wide c = omega (arith, narrow (goal.at.overflow_add-wide c).After-payload_of-payload)
+pub present-requires : goal.present-requires
+present-requires c = omega (arith, (holds (goal.at.present-requires c).After-of-words).0.many)
 
-pub child-requires : goal.child-requires
-child-requires c = omega (arith, (holds (goal.at.child-requires c).After-payload_of-payload).0.many)
+pub behind-requires : goal.behind-requires
+behind-requires c = omega (arith, (holds (goal.at.behind-requires c).After-of-words).0.many)
 
-pub overflow_add-wide-2 : goal.overflow_add-wide-2
-overflow_add-wide-2 c = omega (arith, narrow (goal.at.overflow_add-wide-2 c).After-payload_of-payload)
+pub behind-requires-2 : goal.behind-requires-2
+behind-requires-2 c = omega (arith, (holds (goal.at.behind-requires-2 c).After-of-words).0.many)
 
-pub child-requires-2 : goal.child-requires-2
-child-requires-2 c = omega (arith, (holds (goal.at.child-requires-2 c).After-payload_of-payload).0.many)
-
-pub overflow_add-wide-3 : goal.overflow_add-wide-3
-overflow_add-wide-3 c = omega (arith, narrow (goal.at.overflow_add-wide-3 c).After-payload_of-payload)
-
-pub child-requires-3 : goal.child-requires-3
-child-requires-3 c = omega (arith, (holds (goal.at.child-requires-3 c).After-payload_of-payload).0.many)
-
-pub overflow_add-wide-4 : goal.overflow_add-wide-4
-overflow_add-wide-4 c = omega (arith, narrow (goal.at.overflow_add-wide-4 c).After-payload_of-payload)
-
-pub child-requires-4 : goal.child-requires-4
-child-requires-4 c = omega (arith, (holds (goal.at.child-requires-4 c).After-payload_of-payload).0.many)
+pub behind-requires-3 : goal.behind-requires-3
+behind-requires-3 c = omega (arith, (holds (goal.at.behind-requires-3 c).After-of-words).0.many)
 
 pub returns : goal.returns
-returns c = let h = holds (goal.at.returns c).After-payload_of-payload in
+returns c = let h = holds (goal.at.returns c).After-of-words in
     let e0 = c.mark.ensures ∙ h.0.mark (lit≤ tt) in
-    let e1 = c.child.ensures.0 ∙ h.0.after 1 (lit< tt) (lit≤ tt) in
-    let e2 = c.child-2.ensures.0 ∙ h.0.after 2 (lit< tt) (lit≤ tt) in
-    let e3 = c.child-3.ensures.0 ∙ h.0.after 3 (lit< tt) (lit≤ tt) in
-    let e4 = c.child-4.ensures.0 ∙ h.1.same 4 (lit≤ tt) in
+    let e1 = c.present.ensures ∙ ap unless_absent (h.0.after 1 (lit< tt) (lit≤ tt)) in
+    let e2 = c.behind.ensures.0 ∙ h.0.after 2 (lit< tt) (lit≤ tt) in
+    let e3 = c.behind-2.ensures.0 ∙ h.0.after 3 (lit< tt) (lit≤ tt) in
+    let e4 = c.behind-3.ensures.0 ∙ h.1.same 4 (lit≤ tt) in
     rw (e0, e1, e2, e3, e4) refl

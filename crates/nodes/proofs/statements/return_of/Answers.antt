@@ -7,22 +7,19 @@ use Rattle.meaning.specs.Fields.{fields}
 use Rattle.meaning.specs.Grammar.{wide_marks}
 use Rattle.nodes.proofs.Held.{Held, Rest, few_wide, perhaps_held, return_held}
 use Rattle.nodes.proofs.statements.return_of.Goals as goal
-use Rattle.nodes.proofs.statements.return_of.Goals.{After-payload_of-payload}
+use Rattle.nodes.proofs.statements.return_of.Goals.{After-of-words}
 
-holds : (c : goal.After-payload_of-payload) → Held (fields c.args.tree.now) c.args.node c.payload_of-payload.result.now c.args.wide 0 1 × Rest (fields c.args.tree.now) c.args.node c.payload_of-payload.result.now c.args.wide 1
-holds c = return_held c.requires.0 c.payload_of-payload.ensures c.requires.1 c.requires.2
+holds : (c : goal.After-of-words) → Held (fields c.args.tree.now) c.args.node c.of-words.result.payload.now c.of-words.result.wide 0 1 × Rest (fields c.args.tree.now) c.args.node c.of-words.result.payload.now c.of-words.result.wide 1
+holds c = return_held c.requires.0 c.of-words.ensures.0 (c.of-words.ensures.1 ∙ c.requires.1) c.requires.2
 
-narrow : (c : goal.After-payload_of-payload) → c.args.wide ≤ 1
-narrow c = few_wide (wide_marks (fields c.args.tree.now)) c.requires.1
+pub of-words-requires : goal.of-words-requires
+of-words-requires c = (c.requires.0.readable, few_wide (wide_marks (fields c.args.tree.now)) c.requires.1)
 
 pub mark-requires : goal.mark-requires
-mark-requires c = omega (arith, (holds c).0.many)
-
-pub overflow_add-wide : goal.overflow_add-wide
-overflow_add-wide c = omega (arith, narrow (goal.at.overflow_add-wide c).After-payload_of-payload)
+mark-requires c = omega (arith, (holds (goal.at.mark-requires c).After-of-words).0.many)
 
 pub returns : goal.returns
-returns c = let h = holds (goal.at.returns c).After-payload_of-payload in
+returns c = let h = holds (goal.at.returns c).After-of-words in
     let e0 = c.mark.ensures ∙ h.0.mark (lit≤ tt) in
     let e1 = c.perhaps.ensures ∙ perhaps_held h.1 1 (lit≤ tt) in
     rw (e0, e1) refl

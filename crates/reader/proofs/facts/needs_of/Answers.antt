@@ -1,4 +1,4 @@
--- The invariant is `Needed`: what the captures from i on need. The measure is i.
+-- The invariant is `Needed`: what the captures from i on need.
 use mathlib.Core.Path.{◌≡◌, ap}
 use Prim.Native.Nat.{ℕ, ◌+◌, ◌-◌, ◌<◌}
 use native.Mathlib.Omega.{arith}
@@ -9,10 +9,10 @@ last : (i : ℕ) → 0 < i → i ≡ i - 1 + 1
 last i h = omega arith
 
 pub loop-i-preserved-then-t-at-eq1 : goal.loop-i-preserved-then-t-at-eq1
-loop-i-preserved-then-t-at-eq1 c = needed_local _ _ _ _ _ _ _ _ (last c.loop-i.i c.loop-i-test.true) c.loop-i.invariant (ap (λ (m : ℕ). m + 1) c.short-index.ensures.0) c.if-t-at-eq1.true _ c.larger-locals.ensures
+loop-i-preserved-then-t-at-eq1 c = needed_local _ _ _ _ _ _ _ _ (last c.loop-i.i c.loop-i-test.true) c.loop-i.invariant (ap (λ (m : ℕ). m + 1) c.from-index.ensures) c.if-t-at-eq1.true _ c.max-locals.ensures
 
 pub loop-i-preserved : goal.loop-i-preserved
-loop-i-preserved c = needed_outer _ _ _ _ _ _ _ _ (last c.loop-i.i c.loop-i-test.true) c.loop-i.invariant (ap (λ (m : ℕ). m + 1) c.short-index.ensures.0) c.if-t-at-eq1.false _ c.larger-outers.ensures
+loop-i-preserved c = needed_outer _ _ _ _ _ _ _ _ (last c.loop-i.i c.loop-i-test.true) c.loop-i.invariant (ap (λ (m : ℕ). m + 1) c.from-index.ensures) c.if-t-at-eq1.false _ c.max-outers.ensures
 
 pub loop-i-init : goal.loop-i-init
 loop-i-init c = needed_start _ _ _

@@ -1,9 +1,6 @@
--- The invariant is `Needed`: what the captures from i on need. The measure is i.
+-- The invariant is `Needed`: what the captures from i on need.
 use Rattle.reader.proofs.Scanned.{Needed}
 use Rattle.reader.proofs.facts.needs_of.Given as goal
 
 abbrev pub invariant-loop-i : goal.invariant-loop-i
 invariant-loop-i l = Needed l.t l.at l.n l.i l.locals l.outers
-
-abbrev pub decreases-loop-i : goal.decreases-loop-i
-decreases-loop-i l = l.i

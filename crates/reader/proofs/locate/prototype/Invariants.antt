@@ -1,10 +1,6 @@
--- The invariant is `Locating`: k prototypes stand before what is left. The measure is what is left.
-use lib.ListN.{length}
+-- The invariant is `Locating`: k prototypes stand before what is left.
 use Rattle.reader.proofs.Locates.{Locating}
 use Rattle.reader.proofs.locate.prototype.Given as goal
 
-abbrev pub invariant-loop-t : goal.invariant-loop-t
-invariant-loop-t l = Locating l.image l.tag l.q l.t l.k
-
-abbrev pub decreases-loop-t : goal.decreases-loop-t
-decreases-loop-t l = length l.t
+abbrev pub invariant-loop : goal.invariant-loop
+invariant-loop l = Locating l.image l.tag l.q l.t l.counter

@@ -1,33 +1,29 @@
--- The invariant is a walk over the fields; the measure is the rest of the file.
-use mathlib.Core.Path.{◌≡◌, sym, ◌∙◌}
-use mathlib.Core.Bool.{true}
+-- The invariant is a walk over the fields.
+use mathlib.Core.Path.{sym, ap, ◌∙◌, subst}
+use Prim.Native.Nat.{◌+◌}
 use native.Mathlib.Omega.{arith}
-use Rattle.meaning.specs.Fields.{whole}
-use Rattle.meaning.proofs.FieldLaws.{walk_start, walk_part, walk_end, part_less, whole_true}
+use lib.ListN.{length, length-drop}
+use Rattle.fields.specs.declared.Fields.{Fields}
+use Rattle.meaning.specs.Fields.{span}
+use Rattle.meaning.proofs.FieldLaws.{FieldWalk, walk_start, walk_more, walk_end, whole_true}
+use Rattle.reader.proofs.Glances.{front_size}
 use Rattle.reader.proofs.order.frame.Goals as goal
-use Rattle.reader.proofs.order.frame.Goals.{In-loop-k}
 
--- in a turn a whole field stands at the front
-is : (c : goal.In-loop-k) → whole c.loop-k.t.now ≡ true
-is c = sym c.is_whole.ensures ∙ c.loop-k-test.true
+pub loop-field-init : goal.loop-field-init
+loop-field-init c = let e = ap (λ (s : Fields). s.rest.now) c.into_iter-field-iterator.ensures.into_iter_gives ∙ c.new-field-items.ensures in
+    (subst (FieldWalk c.args.image.now 0) (sym e) (walk_start _), ap length (sym e))
 
-pub slice_bounds-t-count : goal.slice_bounds-t-count
-slice_bounds-t-count c = omega (arith, c.span_of-k.ensures, whole_true _ (is (goal.at.slice_bounds-t-count c).In-loop-k))
-
-pub slice_bounds-t-start : goal.slice_bounds-t-start
-slice_bounds-t-start c = omega (arith, c.span_of-k.ensures, whole_true _ (is (goal.at.slice_bounds-t-start c).In-loop-k))
-
-pub loop-k-preserved : goal.loop-k-preserved
-loop-k-preserved c = walk_part _ _ _ _ c.loop-k.invariant (is (goal.at.loop-k-preserved c).In-loop-k) c.span_of-k.ensures
+pub loop-field-preserved : goal.loop-field-preserved
+loop-field-preserved c = let s = c.in-Some.ensures.steps in
+    let t = c.loop-field.field-iterator.rest.now in (
+      subst (FieldWalk c.args.image.now (c.loop-field.count + 1)) (sym s.2) (walk_more _ _ _ c.loop-field.invariant.0 s.0),
+      omega (arith, c.loop-field.invariant.1, ap length s.2, length-drop (span t) t, ap length s.1.1, front_size t s.0),
+    )
 
 pub returns : goal.returns
-returns c = walk_end _ _ _ c.loop-k.invariant (sym c.is_whole.ensures ∙ c.loop-k-test.false)
+returns c = let e = walk_end _ _ _ c.loop-field.invariant.0 c.in-None.ensures.steps.0 in (e.0, c.loop-field.invariant.1 ∙ e.1)
 
-pub loop-k-init : goal.loop-k-init
-loop-k-init c = walk_start _
-
-pub span_of-k-requires : goal.span_of-k-requires
-span_of-k-requires c = omega (arith, whole_true _ (is c))
-
-pub loop-k-smaller : goal.loop-k-smaller
-loop-k-smaller c = part_less _ _ (is (goal.at.loop-k-smaller c).In-loop-k) c.span_of-k.ensures
+pub overflow_sub-after : goal.overflow_sub-after
+overflow_sub-after c = let s = c.in-Some.ensures.steps in
+    let t = c.loop-field.field-iterator.rest.now in
+    omega (arith, c.loop-field.invariant.1, whole_true t s.0, ap length s.1.1, front_size t s.0)

@@ -1,10 +1,8 @@
--- The invariant is a walk over the fields; the measure is the rest of the file.
+-- The invariant is a walk over the fields.
+use mathlib.Core.Path.{◌≡◌}
 use lib.ListN.{length}
 use Rattle.meaning.proofs.FieldLaws.{FieldWalk}
 use Rattle.reader.proofs.order.frame.Given as goal
 
-abbrev pub invariant-loop-k : goal.invariant-loop-k
-invariant-loop-k l = FieldWalk l.image l.count l.t
-
-abbrev pub decreases-loop-k : goal.decreases-loop-k
-decreases-loop-k l = length l.t
+abbrev pub invariant-loop-field : goal.invariant-loop-field
+invariant-loop-field l = FieldWalk l.image l.count l.field-iterator.rest.now × (l.after ≡ length l.field-iterator.rest.now)

@@ -53,8 +53,8 @@ loop-seen-smaller c =
 
 pub returns-then-not-follows_seen : goal.returns-then-not-follows_seen
 returns-then-not-follows_seen c = (
-  c.frame-framed.ensures.0,
-  c.frame-framed.ensures.1,
+  c.frame.ensures.0,
+  c.frame.ensures.1,
   ordering_stop _ _ _ _ _ c.loop-seen.invariant (sym c.is_whole.ensures ∙ c.loop-seen-test.true) _ c.glance-seen.ensures
       (test _ _ c.loop-seen.d c.glance-seen.result _ _ c.follows_seen.ensures c.inst_size-size.ensures c.if-not-follows_seen.true),
 )

@@ -1,12 +1,9 @@
--- The invariant is `Naming`: the table says which of the constants before t are texts. The measure is what is left.
+-- The invariant is `Naming`: the table says which of the constants before what is left are texts.
 use lib.ListN.{length}
 use Rattle.meaning.specs.Fields.{fields}
 use Rattle.meaning.specs.Images.{parts}
 use Rattle.reader.proofs.Naming.{Naming}
 use Rattle.reader.proofs.texts.texts_of.Given as goal
 
-abbrev pub invariant-loop-t : goal.invariant-loop-t
-invariant-loop-t l = Naming (parts l.tag (fields l.image)).constants l.tag (length (parts l.tag (fields l.image)).prototypes) l.t l.c l.texts
-
-abbrev pub decreases-loop-t : goal.decreases-loop-t
-decreases-loop-t l = length l.t
+abbrev pub invariant-loop-field : goal.invariant-loop-field
+invariant-loop-field l = let im = parts l.tag (fields l.image) in Naming im.constants l.tag (length im.prototypes) l.field-iterator.rest.now l.count l.texts

@@ -15,7 +15,7 @@ pub returns : goal.returns
 unfolding closure
 returns c = let a = c.args in
     let fine = c.requires.0 in
-    let on = c.in-Accepted.is in
+    let on = c.in-Ok.is in
     let h = met on c.requires.1 in
     let one = spell (starts fine) c.pack_bx-word.ensures c.write_cell.ensures (omega (arith, h.0)) in
     rw c.advance.ensures (coded a.register 2 _ fine on one (omega arith) (omega arith) (omega (arith, h.1)) (λ t. refl))

@@ -14,8 +14,7 @@ use Rattle.store.proofs.Runs.{leaf_absorbed}
 use Rattle.store.proofs.Tables.{tab_length, tab_getD}
 use Rattle.meaning.specs.declared.Cause.TheVariants.{Returned, Empty}
 use Rattle.forward.specs.Forward.{pick, end_body}
-use Rattle.code.proofs.Coded.{met, room_for, starts, coded, refusing}
-use Rattle.code.proofs.Writing.{spell}
+use Rattle.code.proofs.Coded.{met, starts, coded, leaf_as, refusing}
 use Rattle.routines.proofs.bodies.end_body.Goals as goal
 
 -- the mark of the last instruction
@@ -30,14 +29,14 @@ pub returns-then-result-eq254 : goal.returns-then-result-eq254
 unfolding end_body pick
 returns-then-result-eq254 c = let a = c.args in
     rw c.refuse.ensures
-    (refusing (uses 2 0 0) _ Returned a.node c.requires.0 c.in-Accepted.is (λ t. rw (eq-eqb a.count 1 c.if-count-eq1.true, eq-eqb (result_of a.step) 254 c.if-result-eq254.true)))
+    (refusing (uses 2 0 0) _ Returned a.node c.requires.0 c.in-Ok.is (λ t. rw (eq-eqb a.count 1 c.if-count-eq1.true, eq-eqb (result_of a.step) 254 c.if-result-eq254.true)))
 
 pub returns-then-pc-first : goal.returns-then-pc-first
 unfolding end_body pick
 returns-then-pc-first c = let a = c.args in
     let size = tab_length (inst_at a.work.now (top_of a.scope)) (pc_of a.step) in
     rw c.refuse-then-pc-first.ensures
-    (refusing (uses 2 0 0) _ Empty a.node c.requires.0 c.in-Accepted.is (λ t. rw (eq-eqb a.count 1 c.if-count-eq1.true, ne_eqb (result_of a.step) 254 c.if-result-eq254.false, size, eq-eqb (pc_of a.step) a.first c.if-pc-first.true)))
+    (refusing (uses 2 0 0) _ Empty a.node c.requires.0 c.in-Ok.is (λ t. rw (eq-eqb a.count 1 c.if-count-eq1.true, ne_eqb (result_of a.step) 254 c.if-result-eq254.false, size, eq-eqb (pc_of a.step) a.first c.if-pc-first.true)))
 
 pub returns-then-count-eq1 : goal.returns-then-count-eq1
 unfolding end_body pick
@@ -46,19 +45,15 @@ returns-then-count-eq1 c = let if1 = c.if-count-eq1 in
     let if3 = c.if-pc-first in
     let a = c.args in
     let w = a.work.now in
-    let fine = c.requires.0 in
-    let on = c.in-Accepted.is in
-    let h = met on c.requires.2 in
-    let room = room_for 2 fine on c.requires.1 in
+    let h = met c.in-Ok.is c.requires.2 in
     let some : 1 ≤ pc_of a.step = omega (arith, h, if3.false) in
     let size = tab_length (inst_at w (top_of a.scope)) (pc_of a.step) in
-    let one = spell (starts fine) c.pack-word.ensures c.write_cell.ensures (omega (arith, room)) in
-    rw c.advance.ensures
-    (coded 0 2 _ fine on one (omega arith) (omega arith) (omega arith)
-    (λ t. rw (c.mark_at-mark.ensures, eq-eqb a.count 1 if1.true, ne_eqb (result_of a.step) 254 if2.false, ← (last_mark w (top_of a.scope) (pc_of a.step) some), size, ne_eqb (pc_of a.step) a.first if3.false)))
+    leaf_as _ _
+    (λ t. rw (c.mark_at-mark.ensures, eq-eqb a.count 1 if1.true, ne_eqb (result_of a.step) 254 if2.false, ← (last_mark w (top_of a.scope) (pc_of a.step) some), size, ne_eqb (pc_of a.step) a.first if3.false))
+    c.put.ensures
 
 pub returns : goal.returns
 unfolding end_body pick
 returns c = let a = c.args in
     let fine = c.requires.0 in
-    rw c.advance-2.ensures (coded 0 2 _ fine c.in-Accepted.is (starts fine) (omega arith) (omega arith) (omega arith) (λ t. rw (ne_eqb a.count 1 c.if-count-eq1.false)))
+    rw c.advance.ensures (coded 0 2 _ fine c.in-Ok.is (starts fine) (omega arith) (omega arith) (omega arith) (λ t. rw (ne_eqb a.count 1 c.if-count-eq1.false)))

@@ -5,7 +5,7 @@ use Rattle.meaning.specs.Fields.{fields}
 use Rattle.meaning.specs.Lower.{lower_stmt}
 use Rattle.meaning.proofs.Reading.{break_node, continue_node}
 use Rattle.store.specs.Promise.{uses}
-use Rattle.routines.proofs.Held.{inside, node}
+use Rattle.routines.proofs.Held.{inside}
 use Rattle.routines.proofs.NodeLine.{one, gives}
 use Rattle.routines.proofs.break_stmt.jump.Goals as goal
 

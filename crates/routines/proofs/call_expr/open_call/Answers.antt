@@ -17,7 +17,7 @@ returns c = let s = c.args in
     let own = c.next_register-function.ensures in
     let move = c.emit-moved.ensures in
     let argument = c.next_register-argument.ensures in
-    let others = rw c.after_first.ensures at c.next_registers-others.ensures in
+    let others = rw c.saturating_sub.ensures at c.next_registers-others.ensures in
     let line = from c.requires.0 c.requires.1 ▹ own.0 ▹ move ▹ argument.0 ▹ others.0 in
     let last = settling line own.1 in
     rw c.settle.ensures (

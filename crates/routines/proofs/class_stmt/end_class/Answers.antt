@@ -14,6 +14,6 @@ returns-in_default c = let told = c.in_default.is in
 pub returns : goal.returns
 returns c = let s = c.args in
     let line = from c.requires.0 c.requires.1 in
-    let class = settling line (due (outcome_of s.step) c.requires.3 (goes c.in-Accepted.is)) in
+    let class = settling line (due (outcome_of s.step) c.requires.3 (goes c.in-Ok.is)) in
     let last = rw c.settle-made.ensures at c.name_result.ensures in
     (ends _ (line ▹ class ▹ last.0) (search rules) (λ ps. end_class_chain s.node s.token s.class _ _ (class.runs ps) _ (last.0.runs ps)), last.1)

@@ -22,7 +22,7 @@ returns c = let pack = c.pack-word in
     let write = c.write_cell in
     let a = c.args in
     let fine = c.requires.0 in
-    let on = c.in-Accepted.is in
+    let on = c.in-Ok.is in
     let room = room_for 4 fine on c.requires.1 in
     let one = spell (starts fine) pack.ensures write.ensures (omega (arith, room)) in
     let goal = c.continue_goal-goal.ensures in

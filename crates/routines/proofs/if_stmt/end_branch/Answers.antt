@@ -18,9 +18,9 @@ unfolding end_branch
 returns c = let write = c.write_cell in
     let a = c.args in
     let fine = c.requires.0 in
-    let on = c.in-Accepted.is in
+    let on = c.in-Ok.is in
     let h = met on c.requires.2 in
     let room = room_for 2 fine on c.requires.1 in
     let one = spell {i = inst Jmp 0 0 0} (starts fine) (record { is = λ m. refl }) write.ensures (omega (arith, room)) in
-    let two = spell_over one c.pack_bx-jump.ensures c.write_cell-2.ensures (omega (arith, h)) in
+    let two = spell_over one c.jump_here.ensures.packs c.jump_here.ensures.wrote (omega (arith, h)) in
     rw c.advance.ensures (coded 0 2 _ fine on two (omega arith) (omega arith) (omega arith) (jumped _ (pc_of a.step) a.test a.mark 0 _ _))

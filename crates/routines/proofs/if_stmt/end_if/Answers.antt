@@ -15,4 +15,4 @@ pub returns : goal.returns
 unfolding end_if
 returns c = let fine = c.requires.0 in
     let one = spell_anew (starts fine) c.patch_ends.ensures (omega (arith, fine.room)) in
-    rw c.settle.ensures (coded 0 0 _ fine c.in-Accepted.is one (omega arith) (omega arith) (omega arith) (λ t. refl))
+    rw c.settle.ensures (coded 0 0 _ fine c.in-Ok.is one (omega arith) (omega arith) (omega arith) (λ t. refl))

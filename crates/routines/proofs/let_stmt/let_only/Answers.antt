@@ -8,7 +8,7 @@ use Rattle.forward.proofs.Chains.{let_only_chain}
 use Rattle.store.specs.Promise.{uses}
 use Rattle.store.proofs.Compose.{known}
 use Rattle.store.specs.Store.{outcome_of}
-use Rattle.routines.proofs.Held.{inside, node}
+use Rattle.routines.proofs.Held.{inside}
 use Rattle.routines.proofs.NodeLine.{one, ◌▹◌, always, small_put, gives}
 use Rattle.routines.proofs.let_stmt.let_only.Goals as goal
 

@@ -17,9 +17,9 @@ returns c = let pack = c.pack-word in
     let write = c.write_cell in
     let a = c.args in
     let fine = c.requires.0 in
-    let on = c.in-Accepted.is in
+    let on = c.in-Ok.is in
     let h = met on c.requires.2 in
     let room = room_for 2 fine on c.requires.1 in
     let one = spell (starts fine) pack.ensures write.ensures (omega (arith, room)) in
-    let two = spell_over one c.pack_bx-jump.ensures c.write_cell-2.ensures (omega (arith, h.0)) in
+    let two = spell_over one c.jump_here.ensures.packs c.jump_here.ensures.wrote (omega (arith, h.0)) in
     rw c.advance.ensures (coded a.left 2 _ fine on two (omega arith) (omega arith) (omega (arith, h.1)) (jumped _ (pc_of a.step) a.test a.mark a.left _ _))

@@ -25,14 +25,12 @@ closed_is f k goal first condition test mark =
 pub returns : goal.returns
 returns c = let jump_back = c.jump_back in
     let write = c.write_cell in
-    let pack-bx = c.pack_bx-jump in
-    let write2 = c.write_cell-2 in
     let a = c.args in
     let pre = c.requires in
     let top : ℕ = top_of a.scope in
     let k : ℕ = a.code in
     let none = spelled a.work.now top (top - 2 * (k + 1)) k (omega arith) pre.0 in
     let one = spell none jump_back.ensures write.ensures (omega (arith, pre.1)) in
-    let two = spell_over one pack-bx.ensures write2.ensures (omega (arith, pre.5)) in
+    let two = spell_over one c.jump_here.ensures.packs c.jump_here.ensures.wrote (omega (arith, pre.5)) in
     let three = spell_anew two c.patch_loop.ensures (omega (arith, pre.1)) in
     anew (closed_loop a.goal a.first a.condition a.test a.mark) three (closed_is _ k a.goal a.first a.condition a.test a.mark)

@@ -15,7 +15,7 @@ pub returns : goal.returns
 unfolding end_loop jump_here
 returns c = let a = c.args in
     let fine = c.requires.0 in
-    let on = c.in-Accepted.is in
+    let on = c.in-Ok.is in
     let h = met on c.requires.2 in
     let room = room_for 2 fine on c.requires.1 in
     let goal = c.continue_goal-goal.ensures in

@@ -1,13 +1,11 @@
 -- `routines::return_stmt::end_return` meets its contract: refused at register 254, else Return is written behind the others. Assumes nothing.
 use borrow.Author.Tests.{eq-eqb, ne_eqb}
-use native.Mathlib.Omega.{arith}
 use Rattle.store.specs.Promise.{uses}
 use Rattle.store.specs.Store.{result_of}
 use Rattle.store.proofs.Runs.{leaf_absorbed}
 use Rattle.meaning.specs.declared.Cause.TheVariants.{Returned}
 use Rattle.forward.specs.Forward.{pick, end_return}
-use Rattle.code.proofs.Coded.{room_for, starts, coded, refusing}
-use Rattle.code.proofs.Writing.{spell}
+use Rattle.code.proofs.Coded.{leaf_as, refusing}
 use Rattle.routines.proofs.return_stmt.end_return.Goals as goal
 
 pub returns-in_default : goal.returns-in_default
@@ -16,14 +14,8 @@ returns-in_default c = leaf_absorbed (uses 2 0 0) _ c.requires.0 c.in_default.is
 pub returns-then-result-eq254 : goal.returns-then-result-eq254
 unfolding end_return pick
 returns-then-result-eq254 c = let a = c.args in
-    rw c.refuse.ensures (refusing (uses 2 0 0) _ Returned a.node c.requires.0 c.in-Accepted.is (λ t. rw (eq-eqb (result_of a.step) 254 c.if-result-eq254.true)))
+    rw c.refuse.ensures (refusing (uses 2 0 0) _ Returned a.node c.requires.0 c.in-Ok.is (λ t. rw (eq-eqb (result_of a.step) 254 c.if-result-eq254.true)))
 
 pub returns : goal.returns
 unfolding end_return pick
-returns c = let if1 = c.if-result-eq254 in
-    let a = c.args in
-    let fine = c.requires.0 in
-    let on = c.in-Accepted.is in
-    let room = room_for 2 fine on c.requires.1 in
-    let one = spell (starts fine) c.pack-word.ensures c.write_cell.ensures (omega (arith, room)) in
-    rw c.advance.ensures (coded 0 2 _ fine on one (omega arith) (omega arith) (omega arith) (λ t. rw (ne_eqb (result_of a.step) 254 if1.false)))
+returns c = leaf_as _ _ (λ t. rw (ne_eqb (result_of c.args.step) 254 c.if-result-eq254.false)) c.put.ensures

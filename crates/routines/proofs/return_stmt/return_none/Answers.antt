@@ -6,7 +6,7 @@ use Rattle.meaning.specs.Lower.{lower_stmt}
 use Rattle.meaning.proofs.Reading.{return_node}
 use Rattle.forward.proofs.Chains.{return_none_chain}
 use Rattle.store.specs.Promise.{uses}
-use Rattle.routines.proofs.Held.{inside, node}
+use Rattle.routines.proofs.Held.{inside}
 use Rattle.routines.proofs.NodeLine.{one, small_put, gives}
 use Rattle.routines.proofs.return_stmt.return_none.Goals as goal
 

@@ -19,7 +19,7 @@ returns c = let pack-bx = c.pack_bx-word in
     let write = c.write_cell in
     let a = c.args in
     let fine = c.requires.0 in
-    let on = c.in-Accepted.is in
+    let on = c.in-Ok.is in
     let h = met on c.requires.1 in
     let one = spell_over (starts fine) pack-bx.ensures write.ensures (omega (arith, h.0, h.1)) in
     let two = spell_anew one c.patch_first.ensures (omega (arith, fine.room)) in

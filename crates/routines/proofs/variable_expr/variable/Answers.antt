@@ -5,7 +5,7 @@ use Rattle.meaning.specs.Lower.{lower_expr}
 use Rattle.meaning.proofs.Reading.{variable_node}
 use Rattle.store.specs.Promise.{uses}
 use Rattle.store.proofs.Compose.{room_by}
-use Rattle.routines.proofs.Held.{inside, node}
+use Rattle.routines.proofs.Held.{inside}
 use Rattle.routines.proofs.NodeLine.{one, gives}
 use Rattle.routines.proofs.variable_expr.variable.Goals as goal
 

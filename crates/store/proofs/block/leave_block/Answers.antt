@@ -9,28 +9,8 @@ use Rattle.store.proofs.block.leave_block.Goals as goal
 pub overflow_cast-from : goal.overflow_cast-from
 overflow_cast-from c = omega (arith, (leaving c.requires).rises, (leaving c.requires).fits, (leaving c.requires).few)
 
-pub overflow_cast-i : goal.overflow_cast-i
-overflow_cast-i c = omega (arith, (leaving c.requires).fits, (leaving c.requires).few)
-
 pub loop-i-init : goal.loop-i-init
-loop-i-init c = (omega arith, (leaving c.requires).rises, popping_start _ _ (leaving c.requires).rises (leaving c.requires).ends (leaving c.requires).linked)
-
-pub overflow_add-x-in-loop-i : goal.overflow_add-x-in-loop-i
-overflow_add-x-in-loop-i c = let loop = c.loop-i in
-    omega (arith, (leaving c.requires).fits, (leaving c.requires).few, loop.invariant.0)
-
-pub offset_bounds-work-nodes : goal.offset_bounds-work-nodes
-offset_bounds-work-nodes c = let loop = c.loop-i in
-    omega (arith, (leaving c.requires).fits, (leaving c.requires).few, loop.invariant.0)
-
-pub bounds-work-nodes : goal.bounds-work-nodes
-bounds-work-nodes c = let loop = c.loop-i in
-    omega (arith, (leaving c.requires).fits, (leaving c.requires).long, loop.invariant.0, loop.invariant.2.same)
-
-pub set_head-requires : goal.set_head-requires
-set_head-requires c = let loop = c.loop-i in
-    let bucket = c.bucket-b in
-    (omega (arith, (leaving c.requires).long, loop.invariant.2.same), (leaving c.requires).few, bucket.ensures.1, omega arith)
+loop-i-init c = ((leaving c.requires).rises, popping_start _ _ (leaving c.requires).rises (leaving c.requires).ends (leaving c.requires).linked)
 
 pub loop-i-preserved : goal.loop-i-preserved
 loop-i-preserved c = let loop = c.loop-i in
@@ -43,19 +23,15 @@ loop-i-preserved c = let loop = c.loop-i in
     let l = leaving c.requires in
     let inv = loop.invariant in
     let u : loop.i ≡ suc i = omega arith in
-    let own : (local_at w n i).name % (10 * n) ≡ bucket.result = ap (λ x. x % 65536 % (10 * n)) (sym (inv.2.other (first_local n + i) (λ z. absurd (omega (arith, l.fits, inv.0))))) ∙ sym bucket.ensures.0 in
-    (omega arith, omega arith, rw set-head.ensures (popping_next w loop.work n a.scope.block i bucket.result _ (a.scope.block + 1) l.linked (omega arith) (omega (arith, inv.1)) (omega (arith, inv.0, l.ends)) (omega (arith, l.fits, l.ends)) l.long bucket.ensures.1 own refl (omega (arith, c.type_inv.work (first_local n + i))) (rw u at inv.2)))
-
-pub shape_of-work : goal.shape_of-work
-shape_of-work c = let loop = c.loop-i in
-    loop.invariant.2.same
+    let own : (local_at w n i).name % (10 * n) ≡ bucket.result = ap (λ x. x % 65536 % (10 * n)) (sym (inv.1.other (first_local n + i) (λ z. absurd (omega (arith, l.fits))))) ∙ sym bucket.ensures.0 in
+    (omega arith, rw set-head.ensures (popping_next w loop.work n a.scope.block i bucket.result _ (a.scope.block + 1) l.linked (omega arith) (omega (arith, inv.0)) (omega (arith, l.ends)) (omega (arith, l.fits, l.ends)) l.long bucket.ensures.1 own refl (omega (arith, c.type_inv.work (first_local n + i))) (rw u at inv.1)))
 
 pub returns : goal.returns
 returns c = let loop = c.loop-i in
     let l = leaving c.requires in
-    let e : loop.i ≡ get_or c.args.work.now (first_edge c.args.scope.nodes + c.args.scope.block) 0 = omega (arith, loop.invariant.1) in
+    let e : loop.i ≡ get_or c.args.work.now (first_edge c.args.scope.nodes + c.args.scope.block) 0 = omega (arith, loop.invariant.0) in
     record {
-      same = loop.invariant.2.same;
-      other = loop.invariant.2.other;
-      linked = popping_end c.args.scope.block e (omega (arith, c.requires.blocks)) (omega (arith, l.rises, l.ends)) (omega (arith, l.fits, l.ends)) l.linked loop.invariant.2;
+      same = loop.invariant.1.same;
+      other = loop.invariant.1.other;
+      linked = popping_end c.args.scope.block e (omega (arith, c.requires.blocks)) (omega (arith, l.rises, l.ends)) (omega (arith, l.fits, l.ends)) l.linked loop.invariant.1;
     }

@@ -5,7 +5,4 @@ use Rattle.store.proofs.Links.{Popping}
 use Rattle.store.proofs.block.leave_block.Given as goal
 
 abbrev pub invariant-loop-i : goal.invariant-loop-i
-invariant-loop-i l = (l.i ≤ l.initial.i) × (l.from ≤ l.i) × Popping l.initial.work l.work l.nodes l.from l.i
-
-abbrev pub decreases-loop-i : goal.decreases-loop-i
-decreases-loop-i l = l.i
+invariant-loop-i l = (l.from ≤ l.i) × Popping l.initial.work l.work l.nodes l.from l.i

@@ -7,18 +7,16 @@ use Rattle.store.proofs.capture.get_upvalue.Goals as goal
 pub returns-in_default : goal.returns-in_default
 returns-in_default c = (upvalue_absorbed c.args.node c.args.name c.requires c.in_default.is, tt)
 
-pub search-found-requires : goal.search-found-requires
-search-found-requires c = ready_of c.requires.sound (shallow c.args.step c.requires c.in-Accepted.is)
+pub search-requires : goal.search-requires
+search-requires c = ready_of c.requires.sound (shallow c.args.step c.requires c.in-Ok.is)
 
-pub returns-in_default-found : goal.returns-in_default-found
-returns-in_default-found c = let search = c.search-found in
-    let a = c.args in
-    let deep = shallow a.step c.requires c.in-Accepted.is in
-    (upvalue_told a.work.now _ a.scope a.step c.requires deep a.name search.result search.ensures a.node _ c.in-Accepted.is c.in_default-found.not-Full, search.ensures.small)
+pub returns-in-Ok-search : goal.returns-in-Ok-search
+returns-in-Ok-search c = let a = c.args in
+    let deep = shallow a.step c.requires c.in-Ok.is in
+    (upvalue_told a.work.now _ a.scope a.step c.requires deep a.name c.search.result c.search.ensures a.node _ c.in-Ok.is _ c.in-Ok-search.is, rw c.in-Ok-search.is at c.search.ensures.small)
 
-pub returns : goal.returns
-returns c = let search = c.search-found in
-    let a = c.args in
-    let deep = shallow a.step c.requires c.in-Accepted.is in
-    rw c.refuse-stopped.ensures
-    (upvalue_none a.work.now _ a.scope a.step c.requires deep a.name search.result search.ensures a.node _ c.in-Accepted.is c.in-Full.is, tt)
+pub returns-in-Err : goal.returns-in-Err
+returns-in-Err c = let a = c.args in
+    let deep = shallow a.step c.requires c.in-Ok.is in
+    rw c.refuse.ensures
+    (upvalue_none a.work.now _ a.scope a.step c.requires deep a.name c.search.result c.search.ensures a.node _ _ c.in-Ok.is c.in-Err.is, tt)

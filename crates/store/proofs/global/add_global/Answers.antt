@@ -16,7 +16,7 @@ set_half-requires c = let pre = c.requires in
     (omega (arith, pre.0.globals, pre.0.constants, pre.0.sound.long), pre.2)
 
 pub returns : goal.returns
-returns c = let on = c.in-Accepted.is in
+returns c = let on = c.in-Ok.is in
     let a = c.args in
     let fine = c.requires.0 in
     rw (c.set_half.ensures, c.global_more.ensures)

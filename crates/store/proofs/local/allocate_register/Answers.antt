@@ -14,7 +14,7 @@ pub returns-in_default : goal.returns-in_default
 returns-in_default c = leaf_absorbed a_local (fwd_unit (allocate_register c.args.name c.args.register)) c.requires.0 c.in_default.is
 
 pub set_half-requires : goal.set_half-requires
-set_half-requires c = let small = due c.args.step.outcome c.requires.3 (goes c.in-Accepted.is) in
+set_half-requires c = let small = due c.args.step.outcome c.requires.3 (goes c.in-Ok.is) in
     (omega (arith, c.requires.0.sound.long, c.requires.0.sound.count), omega (arith, small))
 
 -- the head fits a half
@@ -41,9 +41,9 @@ unlink-requires c = let bucket = c.bucket-b in
     let b = bucket.result in
     let fine = c.requires.0 in
     let s = fine.sound in
-    let deep = shallow a.step fine c.in-Accepted.is in
-    let room = due a.step.outcome c.requires.1.roomy (goes c.in-Accepted.is) in
-    let small = due a.step.outcome c.requires.3 (goes c.in-Accepted.is) in
+    let deep = shallow a.step fine c.in-Ok.is in
+    let room = due a.step.outcome c.requires.1.roomy (goes c.in-Ok.is) in
+    let small = due a.step.outcome c.requires.3 (goes c.in-Ok.is) in
     let r : first_local n + i < top n = omega (arith, (local_room deep room).0) in
     let pushed = pushed_by w n (first_edge n + p.block) i b a.name a.register s.long s.count s.few (omega arith) (omega (arith, s.blocks)) r bucket.ensures.1 c.requires.2 small in
     let hung = hung_by w n (first_edge n + p.block) i b a.name a.register s.long s.count s.few (omega arith) (omega (arith, s.blocks)) r bucket.ensures.1 c.requires.2 small in
@@ -64,10 +64,10 @@ returns c = let unlink = c.unlink in
     let b = bucket.result in
     let fine = c.requires.0 in
     let s = fine.sound in
-    let deep = shallow a.step fine c.in-Accepted.is in
-    let room = due a.step.outcome c.requires.1.roomy (goes c.in-Accepted.is) in
-    let small = due a.step.outcome c.requires.3 (goes c.in-Accepted.is) in
+    let deep = shallow a.step fine c.in-Ok.is in
+    let room = due a.step.outcome c.requires.1.roomy (goes c.in-Ok.is) in
+    let small = due a.step.outcome c.requires.3 (goes c.in-Ok.is) in
     let r : first_local n + i < top n = omega (arith, (local_room deep room).0) in
     let pushed = pushed_by w n (first_edge n + p.block) i b a.name a.register s.long s.count s.few (omega arith) (omega (arith, s.blocks)) r bucket.ensures.1 c.requires.2 small in
     let u = rw (set-head.ensures, set-half.ensures, head_at.ensures) at unlink.ensures in
-    local_leaf w _ p a.step _ fine deep room (pushed_then s.blocks pushed u) u.linked _ c.in-Accepted.is
+    local_leaf w _ p a.step _ fine deep room (pushed_then s.blocks pushed u) u.linked _ c.in-Ok.is

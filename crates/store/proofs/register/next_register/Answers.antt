@@ -18,16 +18,16 @@ returns-in_default c = let a = c.args in
 pub returns-then-register-eq255 : goal.returns-then-register-eq255
 returns-then-register-eq255 c = let if1 = c.if-register-eq255 in
     let a = c.args in
-    rw c.refuse.ensures (register_none a.work.now a.scope a.step c.requires _ c.in-Accepted.is a.node if1.true, refused_small a.step Registers a.node c.requires)
+    rw c.refuse.ensures (register_none a.work.now a.scope a.step c.requires _ c.in-Ok.is a.node if1.true, refused_small a.step Registers a.node c.requires)
 
 pub returns : goal.returns
 returns c = let if1 = c.if-register-eq255 in
     let a = c.args in
     let w = a.work.now in
     let d = a.scope.depth in
-    let deep = shallow a.step c.requires c.in-Accepted.is in
+    let deep = shallow a.step c.requires c.in-Ok.is in
     rw c.settle.ensures (
       register_leaf w _ a.scope a.step 1 c.requires deep (only_set w (3073 + 8 * d) (registers w d + 1))
-          (counted_by w d 1 (omega (arith, c.requires.sound.long)) (omega (arith, if1.false))) a.node _ refl c.in-Accepted.is if1.false,
+          (counted_by w d 1 (omega (arith, c.requires.sound.long)) (omega (arith, if1.false))) a.node _ refl c.in-Ok.is if1.false,
       omega arith,
     )

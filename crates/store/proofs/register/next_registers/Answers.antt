@@ -18,16 +18,16 @@ returns-in_default c = let a = c.args in
 pub returns-then-register-more-gt255 : goal.returns-then-register-more-gt255
 returns-then-register-more-gt255 c = let if1 = c.if-register-more-gt255 in
     let a = c.args in
-    rw c.refuse.ensures (registers_none a.work.now a.scope a.step c.requires.0 _ c.in-Accepted.is a.node a.n if1.true, refused_small a.step Registers a.node c.requires.0)
+    rw c.refuse.ensures (registers_none a.work.now a.scope a.step c.requires.0 _ c.in-Ok.is a.node a.n if1.true, refused_small a.step Registers a.node c.requires.0)
 
 pub returns : goal.returns
 returns c = let if1 = c.if-register-more-gt255 in
     let a = c.args in
     let w = a.work.now in
     let d = a.scope.depth in
-    let deep = shallow a.step c.requires.0 c.in-Accepted.is in
+    let deep = shallow a.step c.requires.0 c.in-Ok.is in
     rw c.settle.ensures (
       registers_leaf w _ a.scope a.step a.n c.requires.0 deep (only_set w (3073 + 8 * d) (registers w d + a.n))
-          (counted_by w d a.n (omega (arith, c.requires.0.sound.long)) if1.false) a.node _ c.in-Accepted.is if1.false,
+          (counted_by w d a.n (omega (arith, c.requires.0.sound.long)) if1.false) a.node _ c.in-Ok.is if1.false,
       omega arith,
     )

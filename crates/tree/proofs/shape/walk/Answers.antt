@@ -1,11 +1,7 @@
--- The tables that are lent are those of specs/Rows.antt and the bounds of meaning/specs/Grammar.antt, number by number. The last tag, which the first
--- walk tells, is that by which marks are wide.
-use mathlib.Core.Path.{refl, sym, ◌∙◌}
+-- The last tag, which the first walk tells, is that by which marks are wide.
+use mathlib.Core.Path.{sym, ◌∙◌}
 use Prim.Native.Nat.{min}
 use native.Mathlib.Omega.{arith}
-use Rattle.meaning.specs.Grammar.{bounds}
-use Rattle.tree.specs.Rows.{row_list}
-use Rattle.tree.specs.Starts.{start_list}
 use Rattle.tree.specs.Scratch.{Beyond}
 use Rattle.tree.specs.Used.{with_offsets}
 use Rattle.tree.proofs.Words.{beyond_then}
@@ -13,10 +9,6 @@ use Rattle.tree.proofs.Noted.{offsets_none}
 use Rattle.tree.proofs.Shapes.{found_narrow, found_wide}
 use Rattle.tree.proofs.shape.walk.Goals as goal
 use Rattle.tree.proofs.shape.walk.Goals.{After-walk_by}
-
-pub walk_by-narrow-requires : goal.walk_by-narrow-requires
-unfolding row_list start_list bounds
-walk_by-narrow-requires c = (c.requires, refl, refl, refl)
 
 pub returns-then-narrow-ne62 : goal.returns-then-narrow-ne62
 returns-then-narrow-ne62 c = let e = c.walk_by-narrow.ensures in record {
@@ -26,9 +18,7 @@ returns-then-narrow-ne62 c = let e = c.walk_by-narrow.ensures in record {
 }
 
 pub walk_by-requires : goal.walk_by-requires
-unfolding row_list start_list bounds
-walk_by-requires c = let pre = c.requires in
-    (record { judged = pre.judged; noted = omega arith; room = omega (arith, c.walk_by-narrow.auto.scratch, pre.room) }, refl, refl, refl)
+walk_by-requires c = let pre = c.requires in record { judged = pre.judged; noted = omega arith; room = omega (arith, c.walk_by-narrow.auto.scratch, pre.room) }
 
 -- the second walk has counted as the first, and notes nothing
 beyond : (c : goal.After-walk_by) → let a = c.args in

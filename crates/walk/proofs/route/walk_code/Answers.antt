@@ -1,84 +1,96 @@
 -- The invariant is `Walking`: the path from here on, behind the places that were left, is the whole path. The measure is what is left of the budget.
-use mathlib.Core.Path.{◌≡◌, refl, sym, ap, ◌∙◌}
-use mathlib.Core.Bool.{Bool, true, not, ◌&&◌, cond}
+use mathlib.Core.Path.{◌≡◌, refl, sym, ap, ◌∙◌, subst}
+use mathlib.Core.Bool.{Bool, true, false, not, ◌&&◌, cond}
 use mathlib.Core.List.{List}
-use Prim.Native.Nat.{ℕ, ◌+◌, ◌-◌, ◌*◌, ◌<◌, ◌≤◌}
+use Prim.Native.Nat.{ℕ, ◌+◌, ◌-◌, ◌≤◌}
 use native.Mathlib.Omega.{arith}
 use lib.ListN.{length, get_or, set, length-set, replicate}
 use lib.Dec.{eqb, ltb}
+use Rattle.std.specs.Int.{from_bool}
+use Rattle.std.specs.declared.option.Option.{Option}
+use Rattle.std.specs.declared.option.Option.TheVariants.{Some, None}
+use Rattle.std.specs.Option.{is_some, unwrap_or}
+use Rattle.meaning.proofs.Lists.{false_true}
 use Rattle.meaning.specs.Paths.{path, visits}
-use Rattle.reader.proofs.Scanned.{lies_in}
-use Rattle.walk.specs.Turn.{goes_on, onward}
-use Rattle.walk.specs.Route.{Walkable}
-use Rattle.walk.proofs.Walking.{walking_start, walking_more, far, inside_again, told, seen}
+use Rattle.walk.specs.Turn.{goes_on, ends_as, onward}
+use Rattle.walk.proofs.Walking.{Walking, walking_start, walking_more, on_none, on_some, far, inside_again, told, seen}
 use Rattle.walk.proofs.route.walk_code.Goals as goal
-use Rattle.walk.proofs.route.walk_code.Goals.{After-decision, After-goal-j, In-loop-handlers}
+use Rattle.walk.proofs.route.walk_code.Goals.{After-from, After-goal-j, In-Some, In_default}
 
 -- there are enough lent bytes when the first is set
 room_for : (v : List ℕ) (n : ℕ) → n ≤ length v → n ≤ length (set v 0 1)
 room_for v n p = omega (arith, length-set v 0 1)
 
--- the field of instruction i lies within the part
-room : (s : List ℕ) (tag span at n : ℕ) → Walkable s tag span at n → (i : ℕ) → i < n → at + i * span + 7 ≤ length s
-room s tag span at n v i h = omega (arith, lies_in _ _ _ i _ h v.room, v.wide.0)
+counted : (b : Bool) (n : ℕ) → n + from_bool b ≡ cond b (n + 1) n
+counted true n = refl
+counted false n = omega arith
 
 -- a turn: the walk goes on
-on : (c : goal.In-loop-handlers) → let l = c.loop-handlers in goes_on l.o l.struck (ltb l.k (length c.args.decisions.now)) (ltb l.steps c.args.budget) l.h ≡ true
-on c = sym c.goes_on.ensures ∙ c.loop-handlers-test.true
+on : (c : goal.In_default) → let l = c.loop-ended in goes_on c.opcode-o.result c.is_struck-struck.result (ltb l.k (length c.args.run.now.decisions.now)) (ltb l.steps c.args.run.now.budget) l.handlers.count ≡ true
+on c = let l = c.loop-ended in on_none c.opcode-o.result c.is_struck-struck.result (ltb l.k (length c.args.run.now.decisions.now)) (ltb l.steps c.args.run.now.budget) l.handlers.count (sym c.ending.ensures ∙ c.in_default.is)
+
+-- the walk ends
+ends : (c : goal.In-Some) → let l = c.loop-ended in
+    let decided = ltb l.k (length c.args.run.now.decisions.now) in
+    let within = ltb l.steps c.args.run.now.budget in (goes_on c.opcode-o.result c.is_struck-struck.result decided within l.handlers.count ≡ false) × (c.in-Some.ended ≡ ends_as c.opcode-o.result c.is_struck-struck.result decided within)
+ends c = let l = c.loop-ended in on_some c.opcode-o.result c.is_struck-struck.result (ltb l.k (length c.args.run.now.decisions.now)) (ltb l.steps c.args.run.now.budget) l.handlers.count c.in-Some.ended (sym c.ending.ensures ∙ c.in-Some.is)
+
+asks : (b : Bool) (x : ℕ) → is_some (let o : Option ℕ = cond b (Some x) None in o) ≡ b
+asks true x = refl
+asks false x = refl
+
+taken : (b : Bool) (x : ℕ) → b ≡ true → unwrap_or (let o : Option ℕ = cond b (Some x) None in o) 0 ≡ x
+taken true x e = refl
+taken false x e = absurd (false_true e)
 
 -- the decision, where one is asked for
-decided : (d : goal.After-decision) → let l = d.loop-handlers in (not l.struck && eqb l.o 4) ≡ true → d.decision.result ≡ get_or d.args.decisions.now l.k 0
-decided d e = d.decision.ensures.0 (d.asked-asks.ensures ∙ e)
+decided : (d : goal.After-from) → (not d.is_struck-struck.result && eqb d.opcode-o.result 4) ≡ true → d.from.result ≡ get_or d.args.run.now.decisions.now d.loop-ended.k 0
+decided d e = d.from.ensures ∙ d.unwrap_or.ensures ∙ ap (λ (o : Option ℕ). unwrap_or o 0) d.decision-decided.ensures ∙ taken _ _ e
 
 -- where it goes on to
-leads : (g : goal.After-goal-j) → let l = g.loop-handlers in g.goal-j.result ≡ cond l.struck (get_or l.handlers (l.h - 1) 0) (onward l.o g.word-w.result l.i g.decision.result)
-leads g = let l = g.loop-handlers in g.goal-j.ensures ∙ ap (λ (y : ℕ). cond l.struck (get_or l.handlers (l.h - 1) 0) y) g.onward.ensures
+leads : (g : goal.After-goal-j) → let l = g.loop-ended in
+    g.goal-j.result ≡ cond g.is_struck-struck.result (get_or l.handlers.places (l.handlers.count - 1) 0) (onward g.opcode-o.result g.operand-w.result l.i g.from.result)
+leads g = let l = g.loop-ended in g.goal-j.ensures ∙ ap (λ (y : ℕ). cond g.is_struck-struck.result (get_or l.handlers.places (l.handlers.count - 1) 0) y) g.onward-next.ensures
 
-on_after : (g : goal.After-goal-j) → let l = g.loop-handlers in goes_on l.o l.struck (ltb l.k (length g.args.decisions.now)) (ltb l.steps g.args.budget) l.h ≡ true
-on_after g = sym g.goes_on.ensures ∙ g.loop-handlers-test.true
+pub loop-ended-init : goal.loop-ended-init
+loop-ended-init c = let v = c.args.visited.now in
+    let a = c.args.code.now in
+    let r = c.args.run.now in
+    subst (λ (h : ℕ). Walking a.part.now a.tag a.span a.at a.count r.decisions.now r.strikes.now r.budget (length (set v 0 1)) (set v 0 1) c.new-handlers.result.places h 0 0 0 0) (sym c.new-handlers.ensures.0)
+    (walking_start _ _ _ _ _ a.walkable _ _ r.rising _ _ v _ (room_for v a.count c.requires.0) (sym (length-set v 0 1)) (c.requires.1 ∙ ap (λ (m : ℕ). replicate m 0) (sym (length-set v 0 1))) c.new-handlers.ensures.1)
 
-decided_after : (g : goal.After-goal-j) → let l = g.loop-handlers in (not l.struck && eqb l.o 4) ≡ true → g.decision.result ≡ get_or g.args.decisions.now l.k 0
-decided_after g e = g.decision.ensures.0 (g.asked-asks.ensures ∙ e)
-
-inside : (g : goal.After-goal-j) → g.goal-j.result < g.args.n
-inside g = omega (arith, leads g, inside_again _ _ _ _ _ g.requires.walkable _ _ g.requires.decisions.1 _ _ _ _ _ _ _ _ _ _ _ g.loop-handlers.invariant (on_after g) g.requires.decisions.0 _ g.word-w.ensures.0 _ (decided_after g))
-
-again : (g : goal.After-goal-j) → g.args.at + g.goal-j.result * g.args.span + 7 ≤ length g.args.part.now
-again g = room _ _ _ _ _ g.requires.walkable _ (inside g)
-
-pub loop-handlers-init : goal.loop-handlers-init
-loop-handlers-init c = let v = c.args.visited.now in
-    walking_start _ _ _ _ _ c.requires.walkable _ _ c.requires.decisions.1 _ _ v _ (room_for v c.args.n c.requires.n_in_bounds.0) (sym (length-set v 0 1)) (c.requires.n_in_bounds.1 ∙ ap (λ (m : ℕ). replicate m 0) (sym (length-set v 0 1))) refl _ refl _ c.is_struck-struck.ensures
-
-pub onward-requires : goal.onward-requires
-onward-requires c = (
-  c.word-w.ensures.1,
-  omega (arith, c.loop-handlers.invariant.here, c.requires.walkable.few),
-  c.decision.ensures.1,
-  far _ _ _ _ _ c.requires.walkable _ _ c.requires.decisions.1 _ _ _ _ _ _ _ _ _ _ _ c.loop-handlers.invariant (on (goal.at.onward-requires c).In-loop-handlers) c.requires.decisions.0 _ c.word-w.ensures.0 _ (decided c),
+pub onward-next-requires : goal.onward-next-requires
+onward-next-requires c = (
+  c.operand-w.ensures.1,
+  omega (arith, c.loop-ended.invariant.here, c.args.code.now.walkable.few),
+  omega (arith, c.from.ensures, c.unwrap_or.type_inv),
+  far _ _ _ _ _ c.args.code.now.walkable _ _ c.args.run.now.rising _ _ _ _ _ _ _ _ _ c.loop-ended.invariant _ c.opcode-o.ensures _ c.is_struck-struck.ensures
+      (on (goal.at.onward-next-requires c).In_default) c.args.run.now.fair _ c.operand-w.ensures.0 _ (decided (goal.at.onward-next-requires c).After-from),
 )
 
-pub overflow_add-o-in-loop-handlers : goal.overflow_add-o-in-loop-handlers
-overflow_add-o-in-loop-handlers c = omega (arith, again (goal.at.overflow_add-o-in-loop-handlers c).After-goal-j)
-
-pub overflow_add-o-in-loop-handlers-2 : goal.overflow_add-o-in-loop-handlers-2
-overflow_add-o-in-loop-handlers-2 c = omega (arith, again (goal.at.overflow_add-o-in-loop-handlers-2 c).After-goal-j)
-
-pub bounds-part-at-in-loop-handlers : goal.bounds-part-at-in-loop-handlers
-bounds-part-at-in-loop-handlers c = omega (arith, again (goal.at.bounds-part-at-in-loop-handlers c).After-goal-j)
-
 pub bounds-visited-j : goal.bounds-visited-j
-bounds-visited-j c = omega (arith, inside (goal.at.bounds-visited-j c).After-goal-j, c.loop-handlers.invariant.size, room_for c.args.visited.now c.args.n c.requires.n_in_bounds.0)
+bounds-visited-j c = let p = goal.at.bounds-visited-j c in
+    omega (
+      arith,
+      leads p.After-goal-j,
+      inside_again _ _ _ _ _ c.args.code.now.walkable _ _ c.args.run.now.rising _ _ _ _ _ _ _ _ _ c.loop-ended.invariant _ c.opcode-o.ensures _ c.is_struck-struck.ensures
+          (on p.In_default) c.args.run.now.fair _ c.operand-w.ensures.0 _ (decided p.After-from),
+      c.loop-ended.invariant.size,
+      room_for c.args.visited.now c.args.code.now.count c.requires.0,
+    )
 
-pub loop-handlers-preserved : goal.loop-handlers-preserved
-loop-handlers-preserved c = let g = (goal.at.loop-handlers-preserved c).After-goal-j in
-    let l = c.loop-handlers in
-    walking_more _ _ _ _ _ c.requires.walkable _ _ c.requires.decisions.1 _ _ _ _ _ _ _ _ _ _ _ l.invariant (on_after g) c.requires.decisions.0 _ c.word-w.ensures.0 _ (decided_after g)
-    _ c.put.ensures _ c.registered-h.ensures _ (c.counted-k.ensures ∙ ap (λ (b : Bool). cond b (l.k + 1) l.k) c.asked-asks.ensures)
-    _ c.counted-m.ensures _ (leads g) (room_for c.args.visited.now c.args.n c.requires.n_in_bounds.0) _ refl _ c.is_struck-struck-in-loop-handlers.ensures
+pub loop-ended-preserved : goal.loop-ended-preserved
+loop-ended-preserved c = let p = goal.at.loop-ended-preserved c in
+    let l = c.loop-ended in
+    walking_more _ _ _ _ _ c.args.code.now.walkable _ _ c.args.run.now.rising _ _ _ _ _ _ _ _ _ l.invariant _ c.opcode-o.ensures _ c.is_struck-struck.ensures
+    (on p.In_default) c.args.run.now.fair _ c.operand-w.ensures.0 _ (decided p.After-from)
+    _ c.step.ensures.0 _ c.step.ensures.1 _ (ap (λ (n : ℕ). l.k + n) c.from-k.ensures ∙ ap (λ (b : Bool). l.k + from_bool b) (c.is_some.ensures ∙ ap (λ (o : Option ℕ). is_some o) c.decision-decided.ensures ∙ asks _ _) ∙ counted _ l.k)
+    _ (ap (λ (n : ℕ). l.m + n) c.from-m.ensures ∙ counted c.is_struck-struck.result l.m) _ (leads p.After-goal-j) (room_for c.args.visited.now c.args.code.now.count c.requires.0)
 
-pub returns-clause-told : goal.returns-clause-told
-returns-clause-told c = told _ _ _ _ _ c.requires.walkable _ _ c.requires.decisions.1 _ _ _ _ _ _ _ _ _ _ _ c.loop-handlers.invariant (sym c.goes_on.ensures ∙ c.loop-handlers-test.false) _ refl refl c.ended.ensures
+pub returns-in-Some-clause-told : goal.returns-in-Some-clause-told
+returns-in-Some-clause-told c = let e = ends (goal.at.returns-in-Some-clause-told c).In-Some in
+    told _ _ _ _ _ c.args.code.now.walkable _ _ c.args.run.now.rising _ _ _ _ _ _ _ _ _ c.loop-ended.invariant _ c.opcode-o.ensures _ c.is_struck-struck.ensures e.0 _ refl refl e.1
 
-pub returns-clause-visited : goal.returns-clause-visited
-returns-clause-visited c = seen _ _ _ _ _ c.requires.walkable _ _ c.requires.decisions.1 _ _ _ _ _ _ _ _ _ _ _ c.loop-handlers.invariant (sym c.goes_on.ensures ∙ c.loop-handlers-test.false) ∙ ap (visits (path _ _ _ _)) (length-set c.args.visited.now 0 1)
+pub returns-in-Some-clause-visited : goal.returns-in-Some-clause-visited
+returns-in-Some-clause-visited c = let e = ends (goal.at.returns-in-Some-clause-visited c).In-Some in
+    seen _ _ _ _ _ c.args.code.now.walkable _ _ c.args.run.now.rising _ _ _ _ _ _ _ _ _ c.loop-ended.invariant _ c.opcode-o.ensures _ c.is_struck-struck.ensures e.0 ∙ ap (visits (path _ _ _ _)) (length-set c.args.visited.now 0 1)

@@ -4,8 +4,8 @@ use lib.ListN.{length}
 use Rattle.walk.proofs.Walking.{Walking}
 use Rattle.walk.proofs.route.walk_code.Given as goal
 
-abbrev pub invariant-loop-handlers : goal.invariant-loop-handlers
-invariant-loop-handlers l = Walking l.part l.tag l.span l.at l.n l.decisions l.strikes l.budget (length l.initial.visited) l.visited l.handlers l.h l.i l.k l.m l.steps l.o l.struck
+abbrev pub invariant-loop-ended : goal.invariant-loop-ended
+invariant-loop-ended l = Walking l.code.part.now l.code.tag l.code.span l.code.at l.code.count l.run.decisions.now l.run.strikes.now l.run.budget (length l.initial.visited) l.visited l.handlers.places l.handlers.count l.i l.k l.m l.steps
 
-abbrev pub decreases-loop-handlers : goal.decreases-loop-handlers
-decreases-loop-handlers l = l.budget - l.steps
+abbrev pub decreases-loop-ended : goal.decreases-loop-ended
+decreases-loop-ended l = l.run.budget - l.steps

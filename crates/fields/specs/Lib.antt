@@ -1,0 +1,2 @@
+-- What a walk over fields finds.
+pub mod Walk
