@@ -24,15 +24,49 @@ def matching(pattern):
     return [(f, n, line) for f, n, line in code() if rule.search(line) and "ghost use" not in line and not line.startswith("use ")]
 
 
+def closing(text, start):
+    """The place behind the bracket that opens at `start`; the `>` of an arrow closes none."""
+    depth = 0
+    for k in range(start, len(text)):
+        if text[k] in "(<[":
+            depth += 1
+        elif text[k] in ")]" or text[k] == ">" and text[k - 1] != "-":
+            depth -= 1
+            if depth == 0:
+                return k + 1
+    raise ValueError("a bracket is not closed")
+
+
+def parts(text):
+    """What stands between commas that are in no bracket."""
+    found, depth, last = [], 0, 0
+    for k, sign in enumerate(text):
+        if sign in "(<[":
+            depth += 1
+        elif sign in ")]" or sign == ">" and text[k - 1] != "-":
+            depth -= 1
+        elif sign == "," and depth == 0:
+            found.append(text[last:k])
+            last = k + 1
+    return [part.strip() for part in found + [text[last:]] if part.strip()]
+
+
 def functions():
     """Each function: file, line, name, parameters as written, its clauses."""
     for f in FILES:
         text = f.read_text()
-        for m in re.finditer(r"\bfn (\w+)(?:<[^(]*>)?\(([^)]*)\)", text):
-            rest = text[m.end():]
-            head = rest[: re.search(r"^\s*\{|\{$|\) *\{\n", rest, re.M).start() if re.search(r"^\s*\{|\{$", rest, re.M) else 0]
-            parameters = [p.strip() for p in m.group(2).replace("\n", " ").split(",") if p.strip()]
-            clauses = re.findall(r"(requires|ensures)\s*\w*\s*\{ (.*) \}", head)
+        for m in re.finditer(r"^ *(?:pub(?:\(\w+\))? )?(?:extern \"C\" )?fn (\w+)", text, re.M):
+            at = m.end()
+            if text[at] == "<":
+                at = closing(text, at)
+            end = closing(text, at)
+            head = []
+            for line in text[end:].split("\n"):
+                if line.endswith(("{", ";", "}")) and not line.lstrip().startswith(("requires", "ensures", "where")):
+                    break
+                head.append(line)
+            clauses = re.findall(r"(requires|ensures)\s*\w*\s*\{ (.*) \}", "\n".join(head))
+            parameters = parts(" ".join(text[at + 1:end - 1].split()))
             yield f.relative_to(TOP / "crates"), text.count("\n", 0, m.start()) + 1, m.group(1), parameters, clauses
 
 
@@ -93,7 +127,7 @@ POINTS = {
             ("started", "small", "medium", "large", "more", "most", "few", "many", "first", "second", "full", "is_held", "filled", "never")]),
     ],
     "3": [
-        ("loops by `while`", lambda: matching(r"^\s*while ")),
+        ("loops by `while` or `loop`", lambda: matching(r"^\s*(while |loop \{)")),
         ("of them: an index that is counted up or down", lambda: matching(r"^\s*while .*\b(i|j|k|n|c|number|at)\b\s*(<|<=|>|!=)|^\s*while (0|start|from|end) < \w")),
         ("of them: over what is left of a slice, field by field", lambda: matching(r"^\s*while (is_whole|heads|2 <= q\.len|0 < t\.len)")),
     ],
@@ -121,6 +155,8 @@ POINTS = {
 
 def main():
     asked = sys.argv[1:]
+    if not FILES or [point for point in asked if point not in POINTS]:
+        sys.exit("usage: python3 tools/forms.py [POINT ..], a point from 1 to 8; it counts in crates/*/src, which must be there")
     for point, counts in POINTS.items():
         if asked and point not in asked:
             continue
