@@ -21,7 +21,7 @@ find_program() { # NAME
 # The program on standard input, what it writes on descriptor 3, what it says on standard error in $said.
 run_program() { # WORDS..
     said=$(
-        without_words
+        free_stack
         if [ -n "$copy" ]; then
             { tee -- "$copy" || rm -f -- "$copy"; } | program_itself "$@" 2>&1 >&3 3>&-
         else
@@ -32,9 +32,10 @@ run_program() { # WORDS..
     ended=$?
 }
 
-# The shell's own words on a program that is ended by a signal are not shown, nor the program's where they are not read.
-without_words() {
-    exec 2>/dev/null
+# Calls nest as deep as the tree, so the stack may grow as far as the system lets it.
+free_stack() {
+    exec 2>/dev/null # the shell's own words on a program that is ended by a signal, and the program's where they are not read
+    ulimit -s unlimited || ulimit -s "$(ulimit -H -s)"
 }
 
 program_itself() { # WORDS..

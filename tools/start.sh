@@ -22,7 +22,7 @@ find)
 run)
     program=$2 emulator=$3 kit=$4
     shift 4
-    without_words
+    free_stack
     program_itself "$@"
     ;;
 esac
