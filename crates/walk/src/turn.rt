@@ -68,8 +68,10 @@ pub(crate) fn goal(struck: bool, handlers: &Handlers, j: usize) -> usize
     requires { struck ≡ true → 0 < handlers.now.count }
     ensures { result ≡ cond struck (get_or handlers.now.places (handlers.now.count - 1) 0) j }
 {
-    match handlers.last() {
-        Some(place) if struck => place,
-        _ => j,
+    // by a branch: a choice between both would put the handlers between one step and the next
+    if struck {
+        handlers.last().unwrap_or(j)
+    } else {
+        j
     }
 }
