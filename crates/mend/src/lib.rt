@@ -11,6 +11,13 @@ ghost use Rattle.mend.specs.Course.{mend_outcome};
 
 use meaning::{Cause, MendAnswer, Refusal};
 
+// Every byte is zero.
+fn clear(bytes: &mut [u8])
+    ensures { bytes.new ≡ replicate (length bytes.old) 0 }
+{
+    bytes.fill(0);
+}
+
 // 19 and 20 of the image as it will be, then 26 List room, then 18 Room; else how many jumps are replaced.
 fn judge(image: &[u8], tag: u8, room: usize, list: usize) -> Result<usize, Refusal>
     requires { (tag ≡ image_tag image.now) × ((tag ≡ 0x43) ⊎ (tag ≡ 0x47)) }
@@ -39,8 +46,8 @@ pub fn mend(image: &[u8], out: &mut [u8], list: &mut [u8]) -> MendAnswer
     ensures written { out.new ≡ mend_output (length out.old) (mend_as (image_tag image.now) image.now (length out.old) (length list.old)) }
     ensures listed { list.new ≡ mend_list (length list.old) (mend_as (image_tag image.now) image.now (length out.old) (length list.old)) }
 {
-    out.fill(0);
-    list.fill(0);
+    clear(out);
+    clear(list);
     let tag = reader::image_tag(image);
     let judged = judge(image, tag, out.len(), list.len());
     match judged {

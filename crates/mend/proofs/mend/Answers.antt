@@ -24,7 +24,7 @@ D : (c : goal.In-Ok) → Done c.image_tag-tag.result c.args.image.now (length c.
 D c =
     let t = c.args.image.now in
     done c.image_tag-tag.result c.image_tag-tag.ensures.1 t (bytes_by t (λ i. omega (arith, c.type_inv.image i))) _ _ _ c.judge-judged.result
-    (told _ _ _ _ _ _ _ c.fill.ensures.len c.fill-2.ensures.len c.judge-judged.ensures) c.in-Ok.is
+    (told _ _ _ _ _ _ _ c.clear.auto.bytes c.clear-2.auto.bytes c.judge-judged.ensures) c.in-Ok.is
 
 -- what the call answers and leaves, of what is mended at a tag; at the tag that was found it is that at the image's own
 abbrev Leaves : (tag : ℕ) → List ℕ → (room list : ℕ) → MendAnswer → (o l : List ℕ) → Type 0
@@ -33,11 +33,11 @@ Leaves tag t room list r o l = let m = mend_as tag t room list in (r ≡ mend_an
 own : (tag : ℕ) (t : List ℕ) (room list : ℕ) (r : MendAnswer) (o l : List ℕ) → tag ≡ image_tag t → Leaves tag t room list r o l → Leaves (image_tag t) t room list r o l
 own tag t room list r o l e = subst (λ (k : ℕ). Leaves k t room list r o l) e
 
-long : (c : goal.In-Ok) → length c.args.image.now ≤ length c.fill.new.self
-long c = omega (arith, (D c).fits, c.fill.ensures.len)
+long : (c : goal.In-Ok) → length c.args.image.now ≤ length c.clear.new.bytes
+long c = omega (arith, (D c).fits, c.clear.auto.bytes)
 
-front : (c : goal.In-Ok) → length (take (length c.args.image.now) c.fill.new.self) ≡ length c.args.image.now
-front c = length-take-le _ c.fill.new.self (long c)
+front : (c : goal.In-Ok) → length (take (length c.args.image.now) c.clear.new.bytes) ≡ length c.args.image.now
+front c = length-take-le _ c.clear.new.bytes (long c)
 
 -- the image, and behind it what was there
 copied : (image front out : List ℕ) → front ≡ image → front ++ drop (length image) out ≡ image ++ drop (length image) out
@@ -54,22 +54,22 @@ copy_from_slice-requires c = front (goal.at.copy_from_slice-requires c).In-Ok
 
 pub put_all-requires : goal.put_all-requires
 put_all-requires c = let d = D (goal.at.put_all-requires c).In-Ok in
-    (d.order, d.frame, copied_front c.args.image.now c.fill.new.self _ (copied _ _ _ c.copy_from_slice.ensures.after), omega (arith, d.list_fits, c.fill-2.ensures.len))
+    (d.order, d.frame, copied_front c.args.image.now c.clear.new.bytes _ (copied _ _ _ c.copy_from_slice.ensures.after), omega (arith, d.list_fits, c.clear-2.auto.bytes))
 
 pub returns-in-Ok : goal.returns-in-Ok
 returns-in-Ok c = let d = D (goal.at.returns-in-Ok c).In-Ok in
     let a = own c.image_tag-tag.result c.args.image.now (length c.args.out.now) (length c.args.list.now) _ _ _ c.image_tag-tag.ensures.0 (
       answer_done _ _ _ _ _ d,
-      (output_done _ _ _ _ _ d _ _ _ (c.fill.ensures.after (λ y e. e)) (copied _ _ _ c.copy_from_slice.ensures.after) c.put_all.ensures.0, list_done _ _ _ _ _ d _ _ (c.fill-2.ensures.after (λ y e. e)) c.put_all.ensures.1),
+      (output_done _ _ _ _ _ d _ _ _ c.clear.ensures (copied _ _ _ c.copy_from_slice.ensures.after) c.put_all.ensures.0, list_done _ _ _ _ _ d _ _ c.clear-2.ensures c.put_all.ensures.1),
     ) in
     record { answered = a.0; written = a.1.0; listed = a.1.1 }
 
 pub returns-in-Err : goal.returns-in-Err
 returns-in-Err c = let m = mend_as c.image_tag-tag.result c.args.image.now (length c.args.out.now) (length c.args.list.now) in
-    let t = told _ _ _ _ _ _ _ c.fill.ensures.len c.fill-2.ensures.len c.judge-judged.ensures in
+    let t = told _ _ _ _ _ _ _ c.clear.auto.bytes c.clear-2.auto.bytes c.judge-judged.ensures in
     let r = c.in-Err.is in
     let a = own c.image_tag-tag.result c.args.image.now (length c.args.out.now) (length c.args.list.now) _ _ _ c.image_tag-tag.ensures.0 (
       answer_stopped m _ t _ _ r _ c.cause_number.ensures,
-      (output_stopped m _ t _ _ r _ _ (c.fill.ensures.after (λ y e. e)), list_stopped m _ t _ _ r _ _ (c.fill-2.ensures.after (λ y e. e))),
+      (output_stopped m _ t _ _ r _ _ c.clear.ensures, list_stopped m _ t _ _ r _ _ c.clear-2.ensures),
     ) in
     record { answered = a.0; written = a.1.0; listed = a.1.1 }
