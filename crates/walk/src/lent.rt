@@ -1,5 +1,5 @@
-// What a walk is lent of a recorded run.
-ghost use Rattle.std.specs.Prelude.{◌≡◌, true, not, ◌&&◌, cond, ◌-◌, ◌<◌, length, get_or, eqb, ltb, nat_lt, nat_le};
+// What a walk is lent: the bytes that it marks, and the recorded run.
+ghost use Rattle.std.specs.Prelude.{◌≡◌, true, not, ◌&&◌, cond, ◌-◌, ◌<◌, length, replicate, get_or, eqb, ltb, nat_lt, nat_le};
 ghost use Rattle.std.specs.declared.option.Option.TheVariants.{Some, None};
 ghost use Rattle.std.specs.List.{find, position, range_with_len};
 ghost use Rattle.walk.specs.Code.{Decisions, Rising};
@@ -34,6 +34,13 @@ impl Recorded<'_> {
         }
         Some(self.decisions[k])
     }
+}
+
+// Every byte is zero.
+pub(crate) fn clear(bytes: &mut [u8])
+    ensures { bytes.new ≡ replicate (length bytes.old) 0 }
+{
+    bytes.fill(0);
 }
 
 // The first decision above 1.

@@ -111,7 +111,7 @@ pub fn walk(
     ensures visited { visited.new ≡ lent_bytes (walk_image (image_tag image.now) image.now «prototype» decisions.now strikes.now «budget» (length visited.old)) (length visited.old) }
     ensures within { result.steps ≤ «budget» }
 {
-    visited.fill(0);
+    lent::clear(visited);
     let outcome = reader::read(image);
     match outcome {
         Err(Refusal { cause, place }) => refusal(cause, place),

@@ -36,14 +36,14 @@ returns-in-Ok c = let p = goal.at.returns-in-Ok c in
     let s = p.Start in
     let tag = c.image_tag-tag.result in
     let a = answered_so _ (W s) c.args.budget _ (length c.args.visited.now) _ _
-    (ap (λ (m : ℕ). walk_in (image_of tag (fields c.args.image.now)) c.args.prototype (A s m)) c.fill.ensures.len
+    (ap (λ (m : ℕ). walk_in (image_of tag (fields c.args.image.now)) c.args.prototype (A s m)) c.clear.auto.bytes
     ∙ (taken p.After-walk_taken-arg-1 (A s (length c.args.visited.now))).1 ∙ ap (W-as s) c.image_tag-tag.ensures.0)
-    c.fill.ensures.len (c.walk_taken.ensures.answer, (c.walk_taken.ensures.visited, c.walk_taken.ensures.within)) in
+    c.clear.auto.bytes (c.walk_taken.ensures.answer, (c.walk_taken.ensures.visited, c.walk_taken.ensures.within)) in
     record { answer = a.0; visited = a.1.0; within = a.1.1 }
 
 pub walk_taken-requires : goal.walk_taken-requires
 walk_taken-requires c = (
   accepted_ordered c.image_tag-tag.result c.args.image.now _ (accepted c) c.image_tag-tag.ensures.1,
   (taken c (asked c.args.decisions.now c.args.strikes.now c.args.budget 0)).0,
-  c.fill.ensures.after (λ y e. e) ∙ ap (λ (n : ℕ). replicate n 0) (sym c.fill.ensures.len),
+  c.clear.ensures ∙ ap (λ (n : ℕ). replicate n 0) (sym c.clear.auto.bytes),
 )
