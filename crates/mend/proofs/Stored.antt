@@ -15,18 +15,19 @@ stored at k o v e h =
     ∙ ap (λ (n : ℕ). take at o ++ v ++ drop (at + n) o) (sym e) ∙ sym (sets-eq v o at (omega arith))
 
 -- the first four bytes
-four : (t : List ℕ) → 4 ≤ length t → take 4 t ≡ get_or t 0 0 ∷ get_or t 1 0 ∷ get_or t 2 0 ∷ get_or t 3 0 ∷ []
+pub four : (t : List ℕ) → 4 ≤ length t → take 4 t ≡ get_or t 0 0 ∷ get_or t 1 0 ∷ get_or t 2 0 ∷ get_or t 3 0 ∷ []
 four [] h = absurd (omega arith)
 four (a ∷ []) h = absurd (omega arith)
 four (a ∷ b ∷ []) h = absurd (omega arith)
 four (a ∷ b ∷ c ∷ []) h = absurd (omega arith)
 four (a ∷ b ∷ c ∷ d ∷ t) h = refl
 
-pub entry : (l t : List ℕ) (at : ℕ) (v₁ v₂ v₃ : List ℕ) (p i : ℕ) → v₁ ≡ word p → v₂ ≡ word i → v₃ ≡ take 4 t → 4 ≤ length t → at + 8 ≤ length l
+pub entry : (l t : List ℕ) (at : ℕ) (v₁ v₂ v₃ : List ℕ) (p i : ℕ) → v₁ ≡ word p → v₂ ≡ word i
+    → v₃ ≡ get_or t 0 0 ∷ get_or t 1 0 ∷ get_or t 2 0 ∷ get_or t 3 0 ∷ [] → at + 8 ≤ length l
     → put_mid (at + 4) (at + 8 - (at + 4)) (put_mid (at + 2) (at + 4 - (at + 2)) (put_mid at (at + 2 - at) l v₁) v₂) v₃
     ≡ sets l at (word p ++ (word i ++ (get_or t 0 0 ∷ get_or t 1 0 ∷ get_or t 2 0 ∷ get_or t 3 0 ∷ [])))
-entry l t at v₁ v₂ v₃ p i e₁ e₂ e₃ long eight =
-    rw (e₁, e₂, e₃ ∙ four t long) (
+entry l t at v₁ v₂ v₃ p i e₁ e₂ e₃ eight =
+    rw (e₁, e₂, e₃) (
     ap (λ (o : List ℕ). put_mid (at + 4) (at + 8 - (at + 4)) (put_mid (at + 2) (at + 4 - (at + 2)) o (word i)) old) (stored at (at + 2 - at) l (word p) (omega arith) (omega arith))
     ∙ ap (λ (o : List ℕ). put_mid (at + 4) (at + 8 - (at + 4)) o old) (stored (at + 2) (at + 4 - (at + 2)) (sets l at (word p)) (word i) (omega arith) (omega (arith, length-sets l at (word p))))
     ∙ stored (at + 4) (at + 8 - (at + 4)) (sets (sets l at (word p)) (at + 2) (word i)) old (omega arith) (omega (arith, length-sets l at (word p), length-sets (sets l at (word p)) (at + 2) (word i)))
