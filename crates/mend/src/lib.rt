@@ -18,6 +18,17 @@ fn clear(bytes: &mut [u8])
     bytes.fill(0);
 }
 
+// The image at the front of the output.
+// stays: by an index, since `copy_from_slice` calls memmove, which a caller in C would have to bring.
+fn copy(image: &[u8], out: &mut [u8])
+    requires { length image.now ≤ length out.old }
+    ensures { out.new ≡ image.now ++ drop (length image.now) out.old }
+{
+    for i in 0..image.len() {
+        out[i] = image[i];
+    }
+}
+
 // 19 and 20 of the image as it will be, then 26 List room, then 18 Room; else how many jumps are replaced.
 fn judge(image: &[u8], tag: u8, room: usize, list: usize) -> Result<usize, Refusal>
     requires { (tag ≡ image_tag image.now) × ((tag ≡ 0x43) ⊎ (tag ≡ 0x47)) }
@@ -52,7 +63,7 @@ pub fn mend(image: &[u8], out: &mut [u8], list: &mut [u8]) -> MendAnswer
     let judged = judge(image, tag, out.len(), list.len());
     match judged {
         Ok(entries) => {
-            out[..image.len()].copy_from_slice(image);
+            copy(image, out);
             put::put_all(image, tag, out, list);
             MendAnswer {
                 number: 0,

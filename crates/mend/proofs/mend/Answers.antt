@@ -1,10 +1,9 @@
 -- All is zero first; then, where the image is accepted, the copy and the list are written (Finished).
-use mathlib.Core.Path.{◌≡◌, ap, ap₂, ◌∙◌, subst}
-use mathlib.Core.List.{List, ◌++◌}
-use Prim.Native.Nat.{ℕ, ◌≤◌}
+use mathlib.Core.Path.{◌≡◌, ap₂, ◌∙◌, subst}
+use mathlib.Core.List.{List}
+use Prim.Native.Nat.{ℕ}
 use native.Mathlib.Omega.{arith}
-use lib.ListN.{length, take, drop}
-use lib.Seq.{length-take-le}
+use lib.ListN.{length}
 use Rattle.meaning.specs.Reader.{image_tag}
 use Rattle.meaning.specs.Mend.{mend_as, mend_answer, mend_output, mend_list}
 use Rattle.meaning.specs.declared.MendAnswer.{MendAnswer}
@@ -33,34 +32,18 @@ Leaves tag t room list r o l = let m = mend_as tag t room list in (r ≡ mend_an
 own : (tag : ℕ) (t : List ℕ) (room list : ℕ) (r : MendAnswer) (o l : List ℕ) → tag ≡ image_tag t → Leaves tag t room list r o l → Leaves (image_tag t) t room list r o l
 own tag t room list r o l e = subst (λ (k : ℕ). Leaves k t room list r o l) e
 
-long : (c : goal.In-Ok) → length c.args.image.now ≤ length c.clear.new.bytes
-long c = omega (arith, (D c).fits, c.clear.auto.bytes)
-
-front : (c : goal.In-Ok) → length (take (length c.args.image.now) c.clear.new.bytes) ≡ length c.args.image.now
-front c = length-take-le _ c.clear.new.bytes (long c)
-
--- the image, and behind it what was there
-copied : (image front out : List ℕ) → front ≡ image → front ++ drop (length image) out ≡ image ++ drop (length image) out
-copied image front out e = ap (λ (l : List ℕ). l ++ drop (length image) out) e
-
-pub slice_bounds-copy_from_slice-end : goal.slice_bounds-copy_from_slice-end
-slice_bounds-copy_from_slice-end c = omega (arith, long (goal.at.slice_bounds-copy_from_slice-end c).In-Ok)
-
-pub slice_bounds-copy_from_slice-end-in-Ok : goal.slice_bounds-copy_from_slice-end-in-Ok
-slice_bounds-copy_from_slice-end-in-Ok c = omega (arith, front (goal.at.slice_bounds-copy_from_slice-end-in-Ok c).In-Ok)
-
-pub copy_from_slice-requires : goal.copy_from_slice-requires
-copy_from_slice-requires c = front (goal.at.copy_from_slice-requires c).In-Ok
+pub copy-requires : goal.copy-requires
+copy-requires c = omega (arith, (D (goal.at.copy-requires c).In-Ok).fits, c.clear.auto.bytes)
 
 pub put_all-requires : goal.put_all-requires
 put_all-requires c = let d = D (goal.at.put_all-requires c).In-Ok in
-    (d.order, d.frame, copied_front c.args.image.now c.clear.new.bytes _ (copied _ _ _ c.copy_from_slice.ensures.after), omega (arith, d.list_fits, c.clear-2.auto.bytes))
+    (d.order, d.frame, copied_front c.args.image.now c.clear.new.bytes _ c.copy.ensures, omega (arith, d.list_fits, c.clear-2.auto.bytes))
 
 pub returns-in-Ok : goal.returns-in-Ok
 returns-in-Ok c = let d = D (goal.at.returns-in-Ok c).In-Ok in
     let a = own c.image_tag-tag.result c.args.image.now (length c.args.out.now) (length c.args.list.now) _ _ _ c.image_tag-tag.ensures.0 (
       answer_done _ _ _ _ _ d,
-      (output_done _ _ _ _ _ d _ _ _ c.clear.ensures (copied _ _ _ c.copy_from_slice.ensures.after) c.put_all.ensures.0, list_done _ _ _ _ _ d _ _ c.clear-2.ensures c.put_all.ensures.1),
+      (output_done _ _ _ _ _ d _ _ _ c.clear.ensures c.copy.ensures c.put_all.ensures.0, list_done _ _ _ _ _ d _ _ c.clear-2.ensures c.put_all.ensures.1),
     ) in
     record { answered = a.0; written = a.1.0; listed = a.1.1 }
 
