@@ -6,6 +6,7 @@ use Rattle.instruction.proofs.bx.Reads as bx
 use Rattle.instruction.proofs.sbx.Reads as sbx
 use Rattle.instruction.proofs.is_continue.Reads as is_continue
 use Rattle.instruction.proofs.is_break.Reads as is_break
+use Rattle.instruction.proofs.HalvesFromU16.from.Reads as from
 use Rattle.instruction.proofs.forward.Reads as forward
 use Rattle.instruction.proofs.backward.Reads as backward
 
@@ -23,6 +24,9 @@ is_continue_determined κs args r r' s s' p q = p ∙ sym q
 
 pub is_break_determined : (κs : _) (args : _) (r r' : _) (s s' : _) → is_break.Post κs args r s → is_break.Post κs args r' s' → r ≡ r'
 is_break_determined κs args r r' s s' p q = p ∙ sym q
+
+pub from_determined : (κs : _) (args : _) (r r' : _) (s s' : _) → from.Post κs args r s → from.Post κs args r' s' → r ≡ r'
+from_determined κs args r r' s s' p q = p ∙ sym q
 
 pub forward_determined : (κs : _) (args : _) (r r' : _) (s s' : _) → forward.Post κs args r s → forward.Post κs args r' s' → r ≡ r'
 forward_determined κs args r r' s s' p q = p ∙ sym q
