@@ -1,7 +1,7 @@
 // What the programs share: standard input, and a word of the command line as a number.
 #![tactic(auto)]
 
-ghost use Rattle.std.specs.Prelude.{◌≡◌, ◌<◌, ◌≤◌, ◌&&◌, leb, cond, IfOk, IfSome, Some, None, vec_len};
+ghost use Rattle.std.specs.Prelude.{◌≡◌, ◌<◌, ◌≤◌, ◌&&◌, leb, cond, length, IfOk, IfSome, Some, None, vec_len};
 ghost use Rattle.programs.specs.Words.{is_digit, and_digit, spelled};
 
 use std::alloc::{AllocError, Allocator};
@@ -12,6 +12,16 @@ pub const IMAGE_ROOM: usize = 268445953;
 
 // An input of this length or more is not read, whatever it is.
 pub const INPUT_ROOM: usize = 2147418112;
+
+// stays: beside `read_front`, since it asks for no memory and cannot fail: the room is lent.
+// What was read so far goes to the front of the room, what follows on standard input behind it.
+pub fn filled(read: &[u8], room: &mut [u8]) -> usize
+    ensures { result ≤ length room.old }
+{
+    let n = read.len().min(room.len());
+    room[..n].copy_from_slice(&read[..n]);
+    n + io::read_full(0, &mut room[n..])
+}
 
 // What a reader gives, as many bytes as a limit at most. A read that fails ends the input.
 pub fn read_front<A: Allocator>(
