@@ -3,7 +3,7 @@
 // for each: the label and the answer.
 #![tactic(auto)]
 
-ghost use Rattle.std.specs.Prelude.{◌<◌, ◌≤◌};
+ghost use Rattle.std.specs.Prelude.{◌<◌, ◌≤◌, IfOk, vec_len};
 
 use std::alloc::{AllocError, Global};
 use std::io;
@@ -77,7 +77,9 @@ fn digit(b: u8) -> u8
 }
 
 // The bytes of `: ` and then two digits each.
-fn bytes(alloc: Global, s: &[u8]) -> Result<Vec<u8>, AllocError> {
+fn bytes(alloc: Global, s: &[u8]) -> Result<Vec<u8>, AllocError>
+    ensures { IfOk result (λ tree. vec_len tree ≤ 2048) }
+{
     s.get(2..)
         .unwrap_or(b"")
         .chunks_exact(2)
