@@ -1,7 +1,7 @@
 // What the programs share: standard input, and a word of the command line as a number.
 #![tactic(auto)]
 
-ghost use Rattle.std.specs.Prelude.{◌≡◌, ◌<◌, ◌≤◌, ◌&&◌, leb, cond, length, IfOk, IfSome, Some, None, vec_len};
+ghost use Rattle.std.specs.Prelude.{◌≡◌, ◌<◌, ◌≤◌, ◌&&◌, leb, cond, length, IfOk, IfSome, OnOk, Some, None, vec_len};
 ghost use Rattle.programs.specs.Words.{is_digit, and_digit, spelled};
 
 use std::alloc::{AllocError, Allocator};
@@ -23,7 +23,8 @@ pub fn filled(read: &[u8], room: &mut [u8]) -> usize
     n + io::read_full(0, &mut room[n..])
 }
 
-// What a reader gives, as many bytes as a limit at most. A read that fails ends the input.
+// What a reader gives, as many bytes as a limit at most. A read that fails ends the input. Each read asks for all that there is room for, since a reader
+// of messages cuts them to that; the room doubles, and is never larger than the limit.
 pub fn read_front<A: Allocator>(
     alloc: A,
     from: impl Read + Drop,
@@ -31,14 +32,56 @@ pub fn read_front<A: Allocator>(
 ) -> Result<Vec<u8, A>, AllocError>
     ensures { IfOk result (λ bytes. vec_len bytes ≤ limit) }
 {
-    let mut bytes = Vec::new(alloc);
-    match from.take(limit as u64).read_to_end(&mut bytes) {
-        Err(e) if e.kind() == ErrorKind::OutOfMemory => return Err(AllocError),
-        _ => {}
+    let mut from = from;
+    let mut bytes = vec![in alloc; 0u8; first_room(limit)]?;
+    let mut count = 0;
+    for _ in 0..u64::MAX {
+        make_room(&mut bytes, count, limit)?;
+        match read_once(&mut from, &mut bytes.as_mut_slice()[count..]) {
+            0 => break,
+            n => count += n,
+        }
     }
-    // no promise of std tells how many bytes came
-    bytes.truncate(limit);
+    bytes.truncate(count);
     Ok(bytes)
+}
+
+// Twice the room where it is full, and no more than the limit.
+fn make_room<A: Allocator>(
+    bytes: &mut Vec<u8, A>,
+    count: usize,
+    limit: usize,
+) -> Result<(), AllocError>
+    requires { (count ≤ vec_len bytes.old) × (vec_len bytes.old ≤ limit) }
+    ensures { OnOk result ((count ≤ vec_len bytes.new) × (vec_len bytes.new ≤ limit)) }
+{
+    if count < bytes.len() {
+        return Ok(());
+    }
+    let room = count.saturating_mul(2).min(limit);
+    bytes.reserve_exact(room.saturating_sub(count))?;
+    bytes.resize(room, 0)
+}
+
+// 1 MiB of trees and runs, 128 KiB of images, 64 KiB at least where there may be so many.
+fn first_room(limit: usize) -> usize
+    ensures { result ≤ limit }
+{
+    (limit / 2000).max(65536).min(limit)
+}
+
+// How many bytes one read gives: none at the end, where it fails, or where there is no room.
+fn read_once(from: &mut (impl Read + Drop), room: &mut [u8]) -> usize
+    ensures { result ≤ length room.old }
+{
+    for _ in 0..u64::MAX {
+        match from.read(room) {
+            Ok(n) => return n,
+            Err(e) if e.kind() == ErrorKind::Interrupted => {}
+            Err(_) => break,
+        }
+    }
+    0
 }
 
 // The same where it is less than the limit.
