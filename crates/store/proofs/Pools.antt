@@ -1,9 +1,13 @@
 -- Constants and globals: a table grows by one, and nothing else that the words stand for changes.
-use Rattle.std.proofs.Common.{◌≡◌, ℕ, zero, suc, ◌+◌, ◌-◌, ◌*◌, ◌/◌, ◌<◌, ◌≤◌, Bool, true, false, ◌&&◌, eqb, List, [], ◌∷◌, ◌++◌, length, get_or, set, sym, refl, ap, ◌∙◌, ap₂, add-one, arith, length-set, get_or-set_other, get_or-set_same, eq-eqb, ne_eqb}
+use Rattle.std.proofs.Common.{◌≡◌, ℕ, zero, suc, ◌+◌, ◌-◌, ◌*◌, ◌/◌, ◌<◌, ◌≤◌, Bool, true, false, ◌&&◌, ◌||◌, eqb, List, [], ◌∷◌, ◌++◌, length, get_or, set, sym, refl, ap, ◌∙◌, ap₂, subst, add-one, arith, length-set, get_or-set_other, get_or-set_same, eq-eqb, ne_eqb}
 use native.Mathlib.Decide.{ℕ_discrete}
 use Rattle.std.specs.Prelude.{MatchBool, ◌≢◌, Ok}
-use Rattle.std.specs.List.{range_with_len, HoldsAt, AllWithin}
-use Rattle.std.proofs.lemmas.List.FromFn.{length-range_with_len, get_or-range_with_len}
+use Rattle.std.specs.List.{HoldsAt, AllWithin}
+use Rattle.std.specs.declared.ops.Range.{Range}
+use Rattle.std.specs.Iterator.Adapters.{rev_source, rev_steps}
+use Rattle.std.proofs.iter.runs.Sources.{nat_range_steps_back}
+use Rattle.std.proofs.lemmas.Iterator.{YieldsList}
+use Rattle.std.proofs.lemmas.Iterator.Consumers.{YieldsList-from_shown}
 use Rattle.store.specs.declared.Step.{Step}
 use Rattle.store.specs.declared.Scope.{Scope}
 use Rattle.store.specs.Half.{with_half}
@@ -204,34 +208,35 @@ pub context_told : (w : List ℕ) (p : Scope) (s : Step) → Sound w p → Tells
 unfolding is_global_context state_of
 context_told w p s h = told_of w p s (λ t. is_global t.current t.outer) (global_scope p) (λ ps. global_is w p.nodes p.depth p.block p.loops h.main)
 
--- the names, whichever way they are passed
-among_some : (f : ℕ → ℕ) (name n k : ℕ) → k < n → name ≡ f k → among name (stack f n) ≡ true
-among_some f name zero k h e = absurd (omega arith)
-among_some f name (suc n) k h e = rw (stack_suc f n) (by (ℕ_discrete name (f n)) (λ l. among_some f name n k l e))
+-- what a range yields from its end on, and f makes of it
+span_all : (f : ℕ → ℕ) (n : ℕ) → span f 0 n ≡ stack f n
+span_all f zero = span_none f 0 0 (omega arith) ∙ sym (stack_none f)
+span_all f (suc n) = span_more f 0 n (omega arith) ∙ ap (λ l. f n ∷ l) (span_all f n) ∙ sym (stack_suc f n)
+
+pub latest : (f : ℕ → ℕ) (n : ℕ) → {s : _} → ◌≡◌ {A = Range ℕ} (rev_source s) (record { start = 0; end = n }) → YieldsList (rev_steps nat_range_steps_back) f s (stack f n)
+latest f n {s} e =
+    subst (YieldsList (rev_steps nat_range_steps_back) f s) (ap (λ (r : Range ℕ). span f r.start r.end) e ∙ span_all f n)
+    (YieldsList-from_shown (rev_steps nat_range_steps_back) f (λ u. span f (rev_source u).start (rev_source u).end)
+    (λ u t p. ap length (span_none f _ _ (omega (arith, p.1.0))))
+    (λ u x t p. ap₂ (span f) (sym p.0) (p.1.2 ∙ add-one _) ∙ span_more f _ _ (omega (arith, p.0, p.1.0, p.1.2)) ∙ ap (λ y. f y ∷ span f (rev_source t).start (rev_source t).end) (sym p.1.1)) s)
+
+-- a name among others
+among_some : (name : ℕ) (l : List ℕ) (k : ℕ) → k < length l → get_or l k 0 ≡ name → among name l ≡ true
+among_some name [] k h e = absurd (omega arith)
+among_some name (x ∷ xs) zero h e = rw (eq-eqb name x (sym e))
+among_some name (x ∷ xs) (suc k) h e = by (eqb name x) (among_some name xs k (omega arith) e)
   where
-    by : Dec (name ≡ f n) → (k < n → among name (stack f n) ≡ true) → among name (f n ∷ stack f n) ≡ true
-    by (yes d) there = rw (eq-eqb name (f n) d)
-    by (no d) there = rw (ne_eqb name (f n) d) (there (below (ℕ_discrete k n)))
-      where
-        below : Dec (k ≡ n) → k < n
-        below (yes u) = absurd (d (e ∙ ap f u))
-        below (no u) = omega arith
+    by : (b : Bool) → among name xs ≡ true → b || among name xs ≡ true
+    by true q = refl
+    by false q = q
 
-among_none : (f : ℕ → ℕ) (name n : ℕ) → ((k : ℕ) → k < n → name ≡ f k → ⊥) → among name (stack f n) ≡ false
-among_none f name zero h = rw (stack_none f)
-among_none f name (suc n) h = rw (stack_suc f n, ne_eqb name (f n) (h n (omega arith))) (among_none f name n (λ k l. h k (omega arith)))
+among_none : (name : ℕ) (l : List ℕ) → ((k : ℕ) → k < length l → get_or l k 0 ≢ name) → among name l ≡ false
+among_none name [] h = refl
+among_none name (x ∷ xs) h = rw (ne_eqb name x (λ e. h 0 (omega arith) (sym e))) (among_none name xs (λ k l. h (suc k) (omega arith)))
 
-pub among_by : (f : ℕ → ℕ) (name n : ℕ) (r : Bool)
-    → MatchBool r ((k : ℕ) × (k < length (range_with_len 0 n)) × HoldsAt (λ i. f i ≡ name) (range_with_len 0 n) k) (AllWithin (λ i. f i ≢ name) (range_with_len 0 n) 0 (length (range_with_len 0 n)))
-    → r ≡ among name (stack f n)
-among_by f name n true h =
-    let l = length-range_with_len 0 n in
-    let k : h.0 < n = omega (arith, h.1) in
-    let at : get_or (range_with_len 0 n) h.0 0 ≡ h.0 = omega (arith, get_or-range_with_len 0 n h.0 0 k) in
-    sym (among_some f name n h.0 k (sym (ap f (sym at) ∙ h.2 0)))
-among_by f name n false h =
-    let l = length-range_with_len 0 n in
-    sym (among_none f name n (λ k m e. let at : get_or (range_with_len 0 n) k 0 ≡ k = omega (arith, get_or-range_with_len 0 n k 0 m) in h k 0 (omega arith) (omega arith) (ap f at ∙ sym e)))
+pub among_by : (name : ℕ) (l : List ℕ) (r : Bool) → MatchBool r ((k : ℕ) × (k < length l) × HoldsAt (λ x. x ≡ name) l k) (AllWithin (λ x. x ≢ name) l 0 (length l)) → r ≡ among name l
+among_by name l true h = sym (among_some name l h.0 h.1 (h.2 0))
+among_by name l false h = sym (among_none name l (λ k b. h k 0 (omega arith) b))
 
 pub global_told : (w : List ℕ) (p : Scope) (s : Step) (name : ℕ) (r : Bool) → r ≡ among name (stack (global_at w) s.globals) → Tells w p s r (is_global_var name)
 unfolding is_global_var state_of

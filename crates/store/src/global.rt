@@ -31,7 +31,10 @@ pub fn is_global_var(work: &[u32], step: Step, scope: Scope, name: usize) -> boo
     requires { Fine work.now scope step }
     ensures { (result ≡ among name (stack (global_at work.now) step.globals)) × Tells work.now scope step result (is_global_var name) }
 {
-    (0..step.globals).any(|i| half_at(work, GLOBALS + i) as usize == name)
+    // from the latest back: a name that was declared lately is found after few reads
+    (0..step.globals)
+        .rev()
+        .any(|i| half_at(work, GLOBALS + i) as usize == name)
 }
 
 // self.globals.insert(..)
