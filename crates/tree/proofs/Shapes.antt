@@ -12,7 +12,7 @@ use native.Mathlib.Omega.{arith}
 use lib.ListN.{length, get_or, set, take, drop, length-take, length-drop, get_or-map}
 use lib.Seq.{get_or-set_same, get_or-set_other, take-set-le, take-set-lt, get_or-take}
 use lib.Dec.{eqb, ltb}
-use borrow.Author.Tests.{ltb-true, ltb-false, eqb-true, eqb-false, eq-eqb, ne_eqb}
+use borrow.Author.Tests.{ltb-true, ltb-false, lt-ltb, le-ltb, eqb-true, eqb-false, eq-eqb, ne_eqb}
 use borrow.Author.Count.{below_more}
 use Rattle.meaning.specs.Base.{lowest}
 use Rattle.meaning.specs.Fields.{Field, no_field, field_at, whole, span, payload_of, front, rest, fields, left, header}
@@ -22,7 +22,8 @@ use Rattle.meaning.proofs.Lists.{tail_part, lowest_found, lowest_none}
 use Rattle.meaning.proofs.FieldLaws.{from, FieldWalk, walk_start, walk_more, walk_part, walk_end, walk_at, walk_below, walk_done, whole_true, whole_false, fields_whole, header_part}
 use Rattle.meaning.proofs.Kids.{none_fits}
 use Rattle.tree.specs.Rows.{start_of, fits_row}
-use Rattle.std.specs.Prelude.{Option, None, Some}
+use Rattle.std.specs.Prelude.{Option}
+use Rattle.std.specs.Bool.{then_some}
 use Rattle.tree.specs.Scratch.{tags_in, note_row, note_all, enter_all, shape_by, last_tag, Entered, Beyond, Found}
 use Rattle.tree.specs.Used.{few, with_offsets}
 use Rattle.tree.proofs.First.{none_some, first_some, first_none}
@@ -105,34 +106,9 @@ pub record Shaped (limit : ℕ) (wide : Bool) (s l₀ l t : List ℕ) (i : ℕ) 
 abbrev Numbered : ℕ → List ℕ → Type 0
 Numbered limit s = (length (left s) ≡ 0) × (length (fields s) ≤ limit)
 
--- a node that is passed is the lowest wrong one
-pub record Wrong (wide : Bool) (s : List ℕ) (i : ℕ) (w : Option ℕ) : Type 0 where
-  pub node : ℕ
-  pub told : w ≡ Some node
-  pub passed : node < i
-  pub first_wrong : node ≡ lowest (shape_by wide (fields s)) (length (fields s))
-
--- every node is right so far, or w is the lowest wrong one
-abbrev SoFar : (limit : ℕ) (wide : Bool) (s l₀ l t : List ℕ) (i : ℕ) (w : Option ℕ) → Type 0
-SoFar limit wide s l₀ l t i w = ((w ≡ None) × Shaped limit wide s l₀ l t i) ⊎ Wrong wide s i w
-
--- nodes below e are judged: those below the limit, and none behind a wrong one
-abbrev pub Until : (limit e i : ℕ) (w : Option ℕ) → Type 0
-Until limit e i w = ((w ≡ None) × (e ≡ limit)) ⊎ ((w ≡ None → ⊥) × (e < i))
-
-module _ (limit e i : ℕ) (w : Option ℕ) (u : Until limit e i w) where
-  pub until_early : i < e → (w ≡ None) × (i < limit)
-  until_early h = ⊎_elim (λ x. (x.0, omega (arith, x.1))) (λ x. absurd (omega (arith, x.1))) u
-
-  pub until_late : e ≤ i → w ≡ None → limit ≤ i
-  until_late h q = ⊎_elim (λ x. omega (arith, x.1)) (λ x. absurd (x.0 q)) u
-
-  -- a node further on, which is right or only counted, or wrong
-  pub until_more : Until limit e (i + 1) w
-  until_more = ⊎_elim inl (λ x. inr (x.0, omega (arith, x.1))) u
-
-  pub until_wrong : Until limit i (i + 1) (Some i)
-  until_wrong = inr (λ q. none_some i (sym q), omega arith)
+-- nodes below w are judged: every node is right so far, or w is the lowest wrong one
+abbrev SoFar : (limit : ℕ) (wide : Bool) (s l₀ l t : List ℕ) (i w : ℕ) → Type 0
+SoFar limit wide s l₀ l t i w = ((w ≡ limit) × Shaped limit wide s l₀ l t i) ⊎ ((w < i) × (w ≡ lowest (shape_by wide (fields s)) (length (fields s))))
 
 -- the tag of the field before field i, 0 where there is none
 pub last_of : List Field → ℕ → ℕ
@@ -145,15 +121,17 @@ last_all [] = refl
 last_all (f ∷ fs) = ap (λ (k : ℕ). (field_at (f ∷ fs) k).tag) (let z : length fs ≡ suc (length fs) - 1 = omega arith in z)
 
 -- and x is the last tag so far
-pub record Judged (limit : ℕ) (wide : Bool) (s l₀ l t : List ℕ) (i m : ℕ) (w : Option ℕ) (x : ℕ) : Type 0 where
+pub record Judged (limit : ℕ) (wide : Bool) (s l₀ l t : List ℕ) (i m w x : ℕ) : Type 0 where
   pub passed : Passed limit s l₀ l t i m
+  pub most : w ≤ limit
   pub so_far : Numbered limit s → SoFar limit wide s l₀ l t i w
   pub tagged : x ≡ last_of (fields s) i
 
-pub judged_start : (limit notes : ℕ) (wide : Bool) (s l₀ : List ℕ) → Judged limit wide s l₀ l₀ s 0 (min 0 notes) None 0
+pub judged_start : (limit notes : ℕ) (wide : Bool) (s l₀ : List ℕ) → Judged limit wide s l₀ l₀ s 0 (min 0 notes) limit 0
 unfolding last_of header with_offsets
 judged_start limit notes wide s l₀ = record {
   passed = record { walk = walk_start s; here = refl; low = omega arith; beyond = let z : 0 ≡ min 0 notes = omega arith in rw (← z) (beyond_refl (min 0 limit) l₀) };
+  most = omega arith;
   so_far = λ _. inl (refl, record { known = λ k h. absurd (not-suc-le-zero h); good = λ k h. absurd (not-suc-le-zero h); entered = refl });
   tagged = refl;
 }
@@ -254,7 +232,7 @@ module _ (limit : ℕ) (s l₀ l t : List ℕ) (i m : ℕ) (g : Passed limit s l
 
 -- ---- where node i starts is noted: its word stands beyond those of the nodes, so that nothing else is another
 
-module _ (limit notes : ℕ) (wide : Bool) (s l₀ l t : List ℕ) (i : ℕ) (w : Option ℕ) (x : ℕ) (room : limit + notes ≤ length l₀) (j : Judged limit wide s l₀ l t i (min i notes) w x) (is : whole t ≡ true) where
+module _ (limit notes : ℕ) (wide : Bool) (s l₀ l t : List ℕ) (i w x : ℕ) (room : limit + notes ≤ length l₀) (j : Judged limit wide s l₀ l t i (min i notes) w x) (is : whole t ≡ true) where
   module _ (more : i < notes) (v : ℕ) (ev : v ≡ header s i) where
     abbrev place : ℕ
     place = length l - suc i
@@ -280,6 +258,7 @@ module _ (limit notes : ℕ) (wide : Bool) (s l₀ l t : List ℕ) (i : ℕ) (w 
     offset_more : Judged limit wide s l₀ (set l place v) t i (min (i + 1) notes) w x
     offset_more = record {
       passed = record { walk = j.passed.walk; here = j.passed.here; low = j.passed.low; beyond = offset_beyond };
+      most = j.most;
       so_far = λ q. ⊎_elim (λ y. inl (y.0, offset_shaped (omega (arith, q.1, walk_below s i t j.passed.walk is)) y.1)) inr (j.so_far q);
       tagged = j.tagged;
     }
@@ -293,36 +272,35 @@ module _ (limit notes : ℕ) (wide : Bool) (s l₀ l t : List ℕ) (i : ℕ) (w 
 
 -- ---- a turn, and the end
 
-module _ (limit : ℕ) (wide : Bool) (s l₀ l t : List ℕ) (i m : ℕ) (w : Option ℕ) (x : ℕ) (j : Judged limit wide s l₀ l t i m w x) where
+module _ (limit : ℕ) (wide : Bool) (s l₀ l t : List ℕ) (i m w x : ℕ) (j : Judged limit wide s l₀ l t i m w x) where
   module _ (is : whole t ≡ true) (k : ℕ) (ek : k ≡ span t) (short : k ≤ 65538) (x' : ℕ) (ex : x' ≡ get_or t 0 0) where
     tag_more : x' ≡ last_of (fields s) (i + 1)
     unfolding last_of
     tag_more = ex ∙ sym (rw add-one (ap (λ (f : Field). f.tag) (walk_at s i t no_field j.passed.walk is)))
 
-    on : Wrong wide s i w → Wrong wide s (i + 1) w
-    on x = record { node = x.node; told = x.told; passed = omega (arith, x.passed); first_wrong = x.first_wrong }
-
     -- behind a wrong node, or behind all that are judged
-    pub judged_over : (w ≡ None → limit ≤ i) → (l' : List ℕ) (w' : Option ℕ) → l' ≡ l → w' ≡ w → Judged limit wide s l₀ l' (from k t) (i + 1) m w' x'
+    pub judged_over : w ≤ i → (l' : List ℕ) (w' : ℕ) → l' ≡ l → w' ≡ w → Judged limit wide s l₀ l' (from k t) (i + 1) m w' x'
     judged_over h l' w' el ew = rw (el, ew) record {
       passed = passed_over limit s l₀ l t i m j.passed is k ek short;
-      so_far = λ q. ⊎_elim (λ x. absurd (omega (arith, h x.0, q.1, walk_below s i t j.passed.walk is))) (λ x. inr (on x)) (j.so_far q);
+      most = j.most;
+      so_far = λ q. ⊎_elim (λ x. absurd (omega (arith, x.0, q.1, walk_below s i t j.passed.walk is))) (λ x. inr (omega (arith, x.0), x.1)) (j.so_far q);
       tagged = tag_more;
     }
 
     -- a node that is tested, with the answer r
-    module _ (yet : w ≡ None) (early : i < limit) (room : limit ≤ length l₀) (small : get_or t 0 0 < 256) (first : ℕ) (p l' l'' : List ℕ)
+    module _ (yet : i < w) (room : limit ≤ length l₀) (small : get_or t 0 0 < 256) (first : ℕ) (p l' l'' : List ℕ)
         (ef : first ≡ start_of wide (get_or t 0 0) (eqb k (length t))) (ep : p ≡ payload_of t) (r : Bool) (er : r ≡ fits_row (lawful (tags_in l) i) first 0 p)
         (el : l' ≡ note_row (lawful (tags_in l) i) l i first 0 p) (el' : l'' ≡ set l' i (get_or t 0 0)) where
-      shaped_yet : Numbered limit s → Shaped limit wide s l₀ l t i
-      shaped_yet q = ⊎_elim (λ x. x.1) (λ x. absurd (none_some _ (sym yet ∙ x.told))) (j.so_far q)
+      shaped_yet : Numbered limit s → (w ≡ limit) × Shaped limit wide s l₀ l t i
+      shaped_yet q = ⊎_elim (λ x. x) (λ x. absurd (omega (arith, x.0))) (j.so_far q)
 
-      pub judged_more : (w' : Option ℕ) → ((r ≡ false) × (w' ≡ Some i)) ⊎ ((r ≡ true) × (w' ≡ w)) → Judged limit wide s l₀ l'' (from k t) (i + 1) m w' x'
+      pub judged_more : (w' : ℕ) → ((r ≡ false) × (w' ≡ i)) ⊎ ((r ≡ true) × (w' ≡ w)) → Judged limit wide s l₀ l'' (from k t) (i + 1) m w' x'
       judged_more w' told = record {
-        passed = rw el' (passed_more limit s l₀ l t i m j.passed is early first p l' k el ek short);
+        passed = rw el' (passed_more limit s l₀ l t i m j.passed is (omega (arith, j.most)) first p l' k el ek short);
+        most = ⊎_elim (λ x. omega (arith, x.1, j.most)) (λ x. omega (arith, x.1, j.most)) told;
         so_far = λ q. let v = shaped_yet q in ⊎_elim
-            (λ x. inr (record { node = i; told = x.1; passed = omega arith; first_wrong = shaped_stop limit s l₀ l t i m j.passed wide v is q.0 k first p ek ef ep (sym x.0 ∙ er) }))
-            (λ x. inl (x.1 ∙ yet, rw el' (shaped_more limit s l₀ l t i m j.passed wide v is q.0 k first p ek ef ep (sym x.0 ∙ er) l' el small early room)))
+            (λ x. inr (omega (arith, x.1), x.1 ∙ shaped_stop limit s l₀ l t i m j.passed wide v.1 is q.0 k first p ek ef ep (sym x.0 ∙ er)))
+            (λ x. inl (x.1 ∙ v.0, rw el' (shaped_more limit s l₀ l t i m j.passed wide v.1 is q.0 k first p ek ef ep (sym x.0 ∙ er) l' el small (omega (arith, j.most)) room)))
             told;
         tagged = tag_more;
       }
@@ -334,16 +312,16 @@ module _ (limit : ℕ) (wide : Bool) (s l₀ l t : List ℕ) (i m : ℕ) (w : Op
     pub judged_count : i ≡ length (fields s)
     judged_count = end.0
 
-    pub judged_end : limit ≤ length l₀ → few i ≤ limit → Found wide s l i (length t) w
+    pub judged_end : limit ≤ length l₀ → few i ≤ limit → Found wide s l i (length t) (then_some (ltb w limit) w)
     judged_end room all = record {
       whole_fields = end.0;
       bytes_after = end.1;
       room = omega (arith, passed_size limit s l₀ l t i m j.passed);
       shapes = λ none most. ⊎_elim
-          (λ x. x.0 ∙ first_none _ i (shaped_all limit s l₀ l t i m j.passed wide x.1))
-          (λ x. x.told ∙ first_some _ i x.node x.passed (rw end.0 x.first_wrong))
+          (λ x. rw (le-ltb w limit (omega (arith, x.0))) (first_none _ i (shaped_all limit s l₀ l t i m j.passed wide x.1)))
+          (λ x. rw (lt-ltb w limit (omega (arith, x.0))) (first_some _ i w x.0 (rw end.0 x.1)))
           (found none most);
-      shapely = λ none most h. ⊎_elim (λ x. entered x.1 (omega arith)) (λ x. absurd (none_some _ (sym h ∙ x.told))) (found none most);
+      shapely = λ none most h. ⊎_elim (λ x. entered x.1 (omega arith)) (λ x. absurd (none_some w (sym (rw (lt-ltb w limit (omega (arith, x.0))) at h)))) (found none most);
     }
       where
         found : length t ≡ 0 → i ≤ 32768 → SoFar limit wide s l₀ l t i w

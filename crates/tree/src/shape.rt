@@ -155,8 +155,7 @@ fn walk_by(scratch: &mut [u32], tree: &[u8], limit: usize, notes: usize, wide: b
     ensures beyond { Beyond (min result.count limit) (with_offsets tree.now (min result.count notes) scratch.old) scratch.new }
 {
     let mut t = tree;
-    let mut wrong: Option<usize> = None;
-    // from a wrong node on, and behind the limit, fields are only counted
+    // from a wrong node on, and behind the limit, fields are only counted: an end below the limit is the wrong node, so that a turn keeps one number for both
     let mut end = limit;
     let mut i: usize = 0;
     let mut last: u8 = 0;
@@ -171,7 +170,6 @@ fn walk_by(scratch: &mut [u32], tree: &[u8], limit: usize, notes: usize, wide: b
             // the last field is the one that ends the file
             let start = start_of(wide, last, k == t.len());
             if !fits(scratch, i, start, p) {
-                wrong = Some(i);
                 end = i;
             }
             scratch[i] = last as u32;
@@ -183,7 +181,7 @@ fn walk_by(scratch: &mut [u32], tree: &[u8], limit: usize, notes: usize, wide: b
         count: i,
         last: last,
         after: t.len(),
-        wrong: wrong,
+        wrong: (end < limit).then_some(end),
     }
 }
 
