@@ -1,4 +1,4 @@
-# The proved programs behind bin/lower and bin/list, which read this: where one stands, and how it is run. It ends with 0, and with 1 where there is
+# The proved programs behind bin/lower and bin/list, which read this: where one stands, and how it is run. It ends with 0, and with 3 where there is
 # not enough memory: the command gives the status by what was written.
 
 find_program() { # NAME

@@ -167,7 +167,7 @@ class Program:
         status, out = child(["sh", START, "run", *self.found, *words, "visited"], input=lent)
         if status in (126, 127):
             raise Failure(f"{self.found[0]} does not run on this machine")
-        if status == 1:
+        if status == 3:
             raise Failure("there is not enough memory for this image and its walk")
         if status == 139:
             raise Failure("the stack is too small: this image takes more than its limit (ulimit -s) allows")

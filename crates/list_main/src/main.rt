@@ -12,25 +12,35 @@ ghost use Rattle.reader.specs.Laid.{Ordered, proto_span};
 
 use line::Line;
 use meaning::Refusal;
-use std::alloc::{AllocError, Global};
+use std::alloc::AllocError;
 use std::env::{Env, FillError};
+use std::io;
+use std::process::ExitCode;
 
 // One byte more than the longest image that is listed.
 const LISTED_ROOM: usize = 65536;
 
-fn main(rt: HostRuntime) -> Result<(), AllocError> {
-    let alone = has_word(&rt);
+fn main(rt: HostRuntime) -> ExitCode {
+    match run(&rt) {
+        Ok(()) => ExitCode::SUCCESS,
+        Err(AllocError) => {
+            let _ = rt.eprintln("there is not enough memory");
+            ExitCode::from(programs::NO_MEMORY)
+        }
+    }
+}
+
+fn run(rt: &HostRuntime) -> Result<(), AllocError> {
+    let alone = has_word(rt);
     let room = if alone {
         programs::IMAGE_ROOM
     } else {
         LISTED_ROOM
     };
-    let Some(image) = programs::read(rt.alloc(), rt.reader(), room)? else {
-        return Ok(());
-    };
-    let text = answered(rt.alloc(), image.as_slice(), alone)?;
-    // What cannot be written is missed.
-    let _ = rt.print(text);
+    if let Some(image) = programs::read(rt.alloc(), rt.reader(), room)? {
+        // What cannot be written is missed.
+        let _ = answered(rt, image.as_slice(), alone);
+    }
     Ok(())
 }
 
@@ -41,50 +51,45 @@ fn has_word(rt: &impl Env) -> bool {
 
 // stays: whether a word was given, which is asked once; an enum of two would spell the same bool.
 // The lines, or the verdict.
-fn answered(alloc: Global, image: &[u8], alone: bool) -> Result<String, AllocError> {
+fn answered(rt: &impl Print, image: &[u8], alone: bool) -> io::Result<()> {
     let outcome = reader::read(image);
     match outcome {
-        Ok(_) if !alone => listed(alloc, image, reader::image_tag(image)),
-        _ => verdict(alloc, outcome),
+        Ok(_) if !alone => listed(rt, image, reader::image_tag(image)),
+        _ => verdict(rt, outcome),
     }
 }
 
-fn verdict(alloc: Global, outcome: Result<usize, Refusal>) -> Result<String, AllocError> {
+fn verdict(rt: &impl Print, outcome: Result<usize, Refusal>) -> io::Result<()> {
     let a = values::answer_of(outcome);
-    format!(in alloc; "{} {}\n", a.number, a.place)
+    println!(rt; "{} {}", a.number, a.place)
 }
 
 // Each prototype is found once; an image has 256 of them at most.
-fn listed(alloc: Global, image: &[u8], tag: u8) -> Result<String, AllocError>
+fn listed(rt: &impl Print, image: &[u8], tag: u8) -> io::Result<()>
     requires { Ordered image.now tag }
 {
-    let mut text = String::new(alloc);
     for q in 0..256 {
         let part = reader::prototype(image, tag, q);
         if !reader::heads(part) {
             break;
         }
-        lines(&mut text, part, tag, q)?;
+        lines(rt, part, tag, q)?;
     }
-    Ok(text)
+    Ok(())
 }
 
-// A line for each instruction of the prototype at the front, which has number q.
-fn lines(text: &mut String, part: &[u8], tag: u8, q: usize) -> Result<(), AllocError>
+// A line for each instruction of the prototype at the front, which has number q. Each is a write of its own, and none follows one that fails.
+fn lines(rt: &impl Print, part: &[u8], tag: u8, q: usize) -> io::Result<()>
     requires { proto_span part.now tag ≤ length part.now }
 {
     for i in 0..fields::word(part, 11) {
         let inst = reader::instruction(part, tag, i);
-        writeln!(
-            text,
-            "{}",
-            Line {
-                prototype: q,
-                index: i,
-                inst,
-                tag
-            }
-        )?;
+        rt.println(Line {
+            prototype: q,
+            index: i,
+            inst,
+            tag,
+        })?;
     }
     Ok(())
 }

@@ -24,7 +24,7 @@ const WORK: usize = 536576;
 fn main(rt: HostRuntime) -> ExitCode {
     let (said, status) = match run(&rt) {
         Ok(said) => (said, ExitCode::SUCCESS),
-        Err(AllocError) => (Said::NoMemory, ExitCode::FAILURE),
+        Err(AllocError) => (Said::NoMemory, ExitCode::from(programs::NO_MEMORY)),
     };
     let _ = rt.eprintln(said);
     status

@@ -99,7 +99,9 @@ pub(crate) fn case_at(text: &[u8], at: usize) -> Case {
 // stays: a buffer with a length beside, filled again for each case: a word that grows at its end reads the byte that an earlier case left behind it.
 
 // So many bytes on in a tree, or its end.
-fn onward(at: usize, n: usize) -> usize {
+fn onward(at: usize, n: usize) -> usize
+    ensures { result ≤ 229372 }
+{
     at.saturating_add(n).min(TREE_ROOM)
 }
 

@@ -6,7 +6,7 @@ mod file;
 mod judge;
 
 use judge::Difference;
-use std::alloc::{AllocError, Global};
+use std::alloc::AllocError;
 
 // Words of the work area, and bytes of the output.
 const WORK: usize = 536576;
@@ -15,10 +15,7 @@ const ROOM: usize = 294998;
 
 fn main(rt: HostRuntime) -> Result<(), AllocError> {
     let text = programs::read_front(rt.alloc(), rt.reader(), file::FILE_ROOM)?;
-    let lines = replay(rt.alloc(), text.as_slice())?;
-    // What cannot be written is missed.
-    let _ = rt.print(lines);
-    Ok(())
+    replay(&rt, text.as_slice())
 }
 
 // Where the next case is read; nowhere where the sizes are wrong.
@@ -29,11 +26,11 @@ fn onto(next: usize, judged: Result<(), Difference>) -> usize {
     }
 }
 
-fn replay(alloc: Global, text: &[u8]) -> Result<String, AllocError> {
-    let mut work = vec![in alloc; 0u32; WORK]?;
-    let mut out = vec![in alloc; 0u8; ROOM]?;
-    let mut tree = vec![in alloc; 0u8; file::TREE_ROOM]?;
-    let mut lines = String::new(alloc);
+// What cannot be written is missed.
+fn replay(rt: &HostRuntime, text: &[u8]) -> Result<(), AllocError> {
+    let mut work = vec![in rt.alloc(); 0u32; WORK]?;
+    let mut out = vec![in rt.alloc(); 0u8; ROOM]?;
+    let mut tree = vec![in rt.alloc(); 0u8; file::TREE_ROOM]?;
     let mut agreed = [0u64; 22];
     let count = file::long(text, 0);
     let mut at = 16;
@@ -59,7 +56,7 @@ fn replay(alloc: Global, text: &[u8]) -> Result<String, AllocError> {
             }
             Err(difference) => {
                 if differences == 0 {
-                    writeln!(lines, "case {k} differs: {difference}")?;
+                    let _ = println!(rt; "case {k} differs: {difference}");
                 }
                 differences = differences.saturating_add(1);
             }
@@ -68,11 +65,11 @@ fn replay(alloc: Global, text: &[u8]) -> Result<String, AllocError> {
         cases = k + 1;
     }
     if cases != count || at != text.len() {
-        lines.push_str("the file does not end with its last case\n")?;
+        let _ = rt.println("the file does not end with its last case");
     }
     for (number, n) in agreed.iter().enumerate() {
-        writeln!(lines, "{number}: {n}")?;
+        let _ = println!(rt; "{number}: {n}");
     }
-    writeln!(lines, "{cases} cases, {differences} differences")?;
-    Ok(lines)
+    let _ = println!(rt; "{cases} cases, {differences} differences");
+    Ok(())
 }

@@ -7,12 +7,23 @@ ghost use Rattle.std.specs.Prelude.{◌*◌, ◌≤◌, length};
 use meaning::MendAnswer;
 use std::alloc::AllocError;
 use std::io;
+use std::process::ExitCode;
 
 // An entry of eight bytes stands for an instruction of nine or more, so the list is no longer than the image; and 256 prototypes of 65,535
 // instructions have 16,776,960 entries at most.
 const LONGEST_LIST: usize = 134215680;
 
-fn main(rt: HostRuntime) -> Result<(), AllocError> {
+fn main(rt: HostRuntime) -> ExitCode {
+    match run(&rt) {
+        Ok(()) => ExitCode::SUCCESS,
+        Err(AllocError) => {
+            let _ = rt.eprintln("there is not enough memory");
+            ExitCode::from(programs::NO_MEMORY)
+        }
+    }
+}
+
+fn run(rt: &HostRuntime) -> Result<(), AllocError> {
     let Some(image) = programs::read(rt.alloc(), rt.reader(), programs::IMAGE_ROOM)? else {
         return Ok(());
     };
@@ -20,7 +31,7 @@ fn main(rt: HostRuntime) -> Result<(), AllocError> {
     let mut list = vec![in rt.alloc(); 0u8; image.len().min(LONGEST_LIST)]?;
     let answer = mended(image.as_slice(), out.as_mut_slice(), list.as_mut_slice());
     // Who reads counts the bytes, so what could not be written is missed.
-    let _ = tell(&rt, answer, out.as_slice(), list.as_slice());
+    let _ = tell(rt, answer, out.as_slice(), list.as_slice());
     Ok(())
 }
 

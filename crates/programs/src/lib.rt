@@ -23,6 +23,9 @@ pub fn filled(read: &[u8], room: &mut [u8]) -> usize
     n + io::read_full(0, &mut room[n..])
 }
 
+// The status of a program behind a command where there is not enough memory. No shell ends with it by itself.
+pub const NO_MEMORY: u8 = 3;
+
 // What a reader gives, as many bytes as a limit at most. A read that fails ends the input. Each read asks for all that there is room for, since a reader
 // of messages cuts them to that; the room doubles, and is never larger than the limit.
 pub fn read_front<A: Allocator>(

@@ -17,32 +17,23 @@ const TREE_ROOM: usize = 2048;
 
 fn main(rt: HostRuntime) -> io::Result<()> {
     let text = programs::read_front(rt.alloc(), rt.reader(), TEXT_ROOM)?;
-    let mut lines = Vec::new(rt.alloc());
     for line in text.as_slice().split_inclusive(|b| *b == b'\n') {
-        case(&mut lines, line.strip_suffix(b"\n").unwrap_or(line))?;
+        case(&rt, line.strip_suffix(b"\n").unwrap_or(line))?;
     }
-    deep(&mut lines, "depth 127", 126)?;
-    deep(&mut lines, "depth 128", 127)?;
-    deep(&mut lines, "depth 129", 128)?;
-    broad(&mut lines, "32,768 nodes", 32767, 32767, 536576)?;
+    deep(&rt, "depth 127", 126)?;
+    deep(&rt, "depth 128", 127)?;
+    deep(&rt, "depth 129", 128)?;
+    broad(&rt, "32,768 nodes", 32767, 32767, 536576)?;
+    broad(&rt, "32,768 nodes, a word too few", 32767, 32767, 536575)?;
     broad(
-        &mut lines,
-        "32,768 nodes, a word too few",
-        32767,
-        32767,
-        536575,
-    )?;
-    broad(
-        &mut lines,
+        &rt,
         "32,768 nodes, the last but one no child",
         32767,
         32766,
         536576,
     )?;
-    broad(&mut lines, "32,769 fields", 32768, 0, 536592)?;
-    broad(&mut lines, "40,000 fields, no work area", 39999, 0, 0)?;
-    // What cannot be written is missed.
-    let _ = rt.write_all(lines.as_slice());
+    broad(&rt, "32,769 fields", 32768, 0, 536592)?;
+    broad(&rt, "40,000 fields, no work area", 39999, 0, 0)?;
     Ok(())
 }
 
@@ -51,13 +42,13 @@ fn parted(s: &[u8], b: u8) -> (&[u8], &[u8]) {
     s.split_at(s.iter().position(|x| *x == b).unwrap_or(s.len()))
 }
 
-fn case(lines: &mut Vec<u8>, line: &[u8]) -> io::Result<()> {
+fn case(rt: &HostRuntime, line: &[u8]) -> io::Result<()> {
     let (label, given) = parted(line, b':');
     let (tree, asked) = parted(given, b',');
     let (work, mode) = parted(asked, b';');
-    let tree = bytes(*lines.allocator(), tree)?;
+    let tree = bytes(rt.alloc(), tree)?;
     show(
-        lines,
+        rt,
         label,
         tree.as_slice(),
         decimal(work),
@@ -103,38 +94,36 @@ fn decimal(s: &[u8]) -> usize {
         .fold(0, |v, b| v % 10000000 * 10 + usize::from(digit(*b)))
 }
 
-fn show(lines: &mut Vec<u8>, label: &[u8], tree: &[u8], work: usize, mode: u64) -> io::Result<()> {
-    lines.extend_from_slice(label)?;
+// A line of its own write. What cannot be written is missed.
+fn show(rt: &HostRuntime, label: &[u8], tree: &[u8], work: usize, mode: u64) -> io::Result<()> {
+    let mut line = Vec::new(rt.alloc());
+    line.extend_from_slice(label)?;
     match tree::check(tree, work, mode) {
-        Ok(nodes) => writeln!(lines, ": accepted, {nodes} nodes"),
+        Ok(nodes) => writeln!(line, ": accepted, {nodes} nodes")?,
         Err(why) => {
             let number = values::cause_number(why.cause);
-            writeln!(lines, ": refused by {} at {}", number, why.place)
+            writeln!(line, ": refused by {} at {}", number, why.place)?
         }
     }
+    let _ = rt.write_all(line.as_slice());
+    Ok(())
 }
 
 // As many blocks, each in the next, in a program.
-fn deep(lines: &mut Vec<u8>, label: &str, blocks: u8) -> io::Result<()> {
-    let mut tree = vec![in *lines.allocator(); 0x12u8, 0, 0]?;
+fn deep(rt: &HostRuntime, label: &str, blocks: u8) -> io::Result<()> {
+    let mut tree = vec![in rt.alloc(); 0x12u8, 0, 0]?;
     for child in 0..blocks {
         let tag = if child + 1 == blocks { 0x1E } else { 0x12 };
         tree.extend_from_slice(&[tag, 0, 2, 0, child])?;
     }
-    show(lines, label.as_bytes(), tree.as_slice(), 20000, 0)
+    show(rt, label.as_bytes(), tree.as_slice(), 20000, 0)
 }
 
 // As many blocks side by side, and a program that has the first of them as children.
-fn broad(
-    lines: &mut Vec<u8>,
-    label: &str,
-    blocks: usize,
-    children: u16,
-    work: usize,
-) -> io::Result<()>
+fn broad(rt: &HostRuntime, label: &str, blocks: usize, children: u16, work: usize) -> io::Result<()>
     requires { children < 32768 }
 {
-    let mut tree = Vec::new(*lines.allocator());
+    let mut tree = Vec::new(rt.alloc());
     for _ in 0..blocks {
         tree.extend_from_slice(&[0x12, 0, 0])?;
     }
@@ -143,5 +132,5 @@ fn broad(
     for child in 0..children {
         tree.extend_from_slice(&child.to_be_bytes())?;
     }
-    show(lines, label.as_bytes(), tree.as_slice(), work, 0)
+    show(rt, label.as_bytes(), tree.as_slice(), work, 0)
 }

@@ -8,6 +8,7 @@
 mod words;
 
 use std::alloc::{AllocError, Global};
+use std::process::ExitCode;
 use words::Asked;
 
 // An image that is taken has 268,445,952 bytes at most, so there is room for more than 1,870,000,000 bytes of decisions and strikes.
@@ -24,8 +25,18 @@ struct Parts<'a> {
     image: &'a [u8],
 }
 
-fn main(rt: HostRuntime) -> Result<(), AllocError> {
-    let Some(asked) = words::heard(&rt) else {
+fn main(rt: HostRuntime) -> ExitCode {
+    match run(&rt) {
+        Ok(()) => ExitCode::SUCCESS,
+        Err(AllocError) => {
+            let _ = rt.eprintln("there is not enough memory");
+            ExitCode::from(programs::NO_MEMORY)
+        }
+    }
+}
+
+fn run(rt: &HostRuntime) -> Result<(), AllocError> {
+    let Some(asked) = words::heard(rt) else {
         return Ok(());
     };
     let Some(input) = programs::read(rt.alloc(), rt.reader(), programs::INPUT_ROOM)? else {
@@ -35,7 +46,7 @@ fn main(rt: HostRuntime) -> Result<(), AllocError> {
         return Ok(());
     };
     // What cannot be written is missed.
-    let _ = rt.print(walked(rt.alloc(), parts, asked)?);
+    let _ = rt.write_all(walked(rt.alloc(), parts, asked)?.as_bytes());
     Ok(())
 }
 
