@@ -20,6 +20,9 @@ use std::process::ExitCode;
 // One byte more than the longest image that is listed.
 const LISTED_ROOM: usize = 65536;
 
+// No line is longer.
+const LINE_ROOM: usize = 160;
+
 fn main(rt: HostRuntime) -> ExitCode {
     match run(&rt) {
         Ok(()) => ExitCode::SUCCESS,
@@ -38,8 +41,9 @@ fn run(rt: &HostRuntime) -> Result<(), AllocError> {
         LISTED_ROOM
     };
     if let Some(image) = programs::read(rt.alloc(), rt.reader(), room)? {
+        let mut line = String::with_capacity(rt.alloc(), LINE_ROOM)?;
         // What cannot be written is missed.
-        let _ = answered(rt, image.as_slice(), alone);
+        let _ = answered(rt, &mut line, image.as_slice(), alone);
     }
     Ok(())
 }
@@ -51,10 +55,10 @@ fn has_word(rt: &impl Env) -> bool {
 
 // stays: whether a word was given, which is asked once; an enum of two would spell the same bool.
 // The lines, or the verdict.
-fn answered(rt: &impl Print, image: &[u8], alone: bool) -> io::Result<()> {
+fn answered(rt: &impl Print, line: &mut String, image: &[u8], alone: bool) -> io::Result<()> {
     let outcome = reader::read(image);
     match outcome {
-        Ok(_) if !alone => listed(rt, image, reader::image_tag(image)),
+        Ok(_) if !alone => listed(rt, line, image, reader::image_tag(image)),
         _ => verdict(rt, outcome),
     }
 }
@@ -65,7 +69,7 @@ fn verdict(rt: &impl Print, outcome: Result<usize, Refusal>) -> io::Result<()> {
 }
 
 // Each prototype is found once; an image has 256 of them at most.
-fn listed(rt: &impl Print, image: &[u8], tag: u8) -> io::Result<()>
+fn listed(rt: &impl Print, line: &mut String, image: &[u8], tag: u8) -> io::Result<()>
     requires { Ordered image.now tag }
 {
     for q in 0..256 {
@@ -73,23 +77,26 @@ fn listed(rt: &impl Print, image: &[u8], tag: u8) -> io::Result<()>
         if !reader::heads(part) {
             break;
         }
-        lines(rt, part, tag, q)?;
+        lines(rt, line, part, tag, q)?;
     }
     Ok(())
 }
 
 // A line for each instruction of the prototype at the front, which has number q. Each is a write of its own, and none follows one that fails.
-fn lines(rt: &impl Print, part: &[u8], tag: u8, q: usize) -> io::Result<()>
+fn lines(rt: &impl Print, line: &mut String, part: &[u8], tag: u8, q: usize) -> io::Result<()>
     requires { proto_span part.now tag ≤ length part.now }
 {
     for i in 0..fields::word(part, 11) {
         let inst = reader::instruction(part, tag, i);
-        rt.println(Line {
+        let told = Line {
             prototype: q,
             index: i,
             inst,
             tag,
-        })?;
+        };
+        line.clear();
+        writeln!(line, "{told}")?;
+        rt.write_all(line.as_bytes())?;
     }
     Ok(())
 }
