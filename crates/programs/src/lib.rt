@@ -26,8 +26,8 @@ pub fn filled(read: &[u8], room: &mut [u8]) -> usize
 // The status of a program behind a command where there is not enough memory. No shell ends with it by itself.
 pub const NO_MEMORY: u8 = 3;
 
-// What a reader gives, as many bytes as a limit at most. A read that fails ends the input. Each read asks for all that there is room for, since a reader
-// of messages cuts them to that; the room doubles, and is never larger than the limit.
+// What a reader gives, as many bytes as a limit at most. A read that fails ends the input. Each read asks for all that there is room for, since what
+// gives messages cuts them to that. The room doubles, and is never larger than the limit.
 pub fn read_front<A: Allocator>(
     alloc: A,
     from: impl Read + Drop,
@@ -66,11 +66,17 @@ fn make_room<A: Allocator>(
     bytes.resize(room, 0)
 }
 
-// 1 MiB of trees and runs, 128 KiB of images, 64 KiB at least where there may be so many.
+// All of a small limit, else 64 KiB, and 1 MiB of trees and runs: powers of two, so that a room ends where a message of such a size does.
 fn first_room(limit: usize) -> usize
     ensures { result ≤ limit }
 {
-    (limit / 2000).max(65536).min(limit)
+    if limit <= 1048576 {
+        limit
+    } else if limit < INPUT_ROOM {
+        65536
+    } else {
+        1048576
+    }
 }
 
 // How many bytes one read gives: none at the end, where it fails, or where there is no room.
